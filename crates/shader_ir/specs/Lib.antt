@@ -1,0 +1,17 @@
+pub mod Alignments
+pub mod Body
+pub mod BodyCode
+pub mod BodyFalls
+pub mod BodyOf
+pub mod BodySize
+pub mod Conversion
+pub mod Key
+pub mod KnownNumbers
+pub mod Layout
+pub mod LeafCode
+pub mod Occurs
+pub mod Operands
+pub mod Scalars
+pub mod Sizes
+pub mod Slots
+pub mod TypeTree

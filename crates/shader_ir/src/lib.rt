@@ -1,0 +1,52 @@
+//! The data of shader modules, and queries on types.
+#![tactic(auto)]
+
+mod binding;
+mod count;
+mod expression;
+mod flags;
+mod function;
+mod image;
+mod items;
+mod literal;
+pub mod mark;
+mod module;
+mod name;
+mod operators;
+pub mod proc;
+mod scalar;
+mod statement;
+#[cfg(test)]
+mod tests;
+mod types;
+
+pub use binding::{Binding, BuiltIn};
+pub use count::Count;
+pub use expression::{CooperativeData, Expression, ImageQuery, SampleLevel};
+pub use flags::{Barrier, ShaderStages, StorageAccess};
+pub use function::{
+    EntryPoint, Function, FunctionArgument, FunctionResult, LocalVariable, ShaderStage,
+};
+pub use image::{ImageClass, ImageDimension, StorageFormat};
+pub use items::Items;
+pub use literal::Literal;
+pub use module::{
+    Constant, DiagnosticFilterNode, DiagnosticRule, GlobalCtx, GlobalVariable, Module, Override,
+    PredeclaredType, Severity, SpecialTypes,
+};
+pub use name::Name;
+pub use operators::{
+    BinaryOperator, DerivativeAxis, DerivativeControl, MathFunction, RelationalFunction,
+    SwizzleComponent, UnaryOperator,
+};
+pub use proc::{
+    Alignment, ExpressionOperands, KnownIndex, Label, LayoutError, LayoutErrorInner, Layouter,
+    MAX_TYPE_SIZE, Operands, ResolveArraySizeError, StatementOperands, TypeLayout, TypeResolution,
+    UpdateError, compare_types, expression_operands, statement_operands, types_backward,
+};
+pub use scalar::{CooperativeRole, CooperativeSize, Scalar, ScalarKind, VectorSize};
+pub use statement::{
+    AtomicFunction, Block, CollectiveOperation, Direction, GatherMode, RayPipelineFunction,
+    RayQueryFunction, Statement, SubgroupOperation, SwitchCase, SwitchValue,
+};
+pub use types::{AddressSpace, ArraySize, StructMember, Type, TypeInner};

@@ -1,0 +1,96 @@
+//! Which types convert to which.
+ghost use Rattle.std.specs.Prelude.{◌≡◌, length};
+ghost use Rattle.shader_ir.specs.Conversion.{converts, leaf_converts, same_array_size, scalar_pair};
+ghost use Rattle.shader_ir.specs.TypeTree.{IsBackward, PointsBelow, tree_of};
+
+use crate::{ArraySize, Scalar, ScalarKind, Type, TypeInner, mark};
+use shader_arena::UniqueArena;
+
+impl Scalar {
+    /// The two scalars, where the first converts to the second.
+    fn pair_with(self, goal: Scalar) -> Option<(Scalar, Scalar)>
+        ensures { result ≡ scalar_pair self goal }
+    {
+        let converts = match (self.kind, goal.kind) {
+            (ScalarKind::AbstractFloat, ScalarKind::Float) => true,
+            (
+                ScalarKind::AbstractInt,
+                ScalarKind::Sint | ScalarKind::Uint | ScalarKind::AbstractFloat | ScalarKind::Float,
+            ) => true,
+            _ => self == goal,
+        };
+        if converts { Some((self, goal)) } else { None }
+    }
+}
+
+impl ArraySize {
+    fn is_same(self, other: ArraySize) -> bool
+        ensures { result ≡ same_array_size self other }
+    {
+        self == other
+    }
+}
+
+impl TypeInner {
+    /// The leaf scalars, where a value of this type converts to `goal`.
+    pub fn automatically_converts_to(
+        &self,
+        goal: &TypeInner,
+        types: &UniqueArena<Type, mark::Type>,
+    ) -> Option<(Scalar, Scalar)>
+        requires backward { IsBackward types.now }
+        requires self_in { PointsBelow (length types.now) self.now }
+        requires goal_in { PointsBelow (length types.now) goal.now }
+        ensures { result ≡ converts (tree_of types.now self.now) (tree_of types.now goal.now) }
+    {
+        match self {
+            TypeInner::Array { base, size, .. } => match goal {
+                TypeInner::Array {
+                    base: goal_base,
+                    size: goal_size,
+                    ..
+                } => {
+                    if !size.is_same(*goal_size) {
+                        return None;
+                    }
+                    types[*base]
+                        .inner
+                        .automatically_converts_to(&types[*goal_base].inner, types)
+                }
+                _ => None,
+            },
+            _ => self.leaf_converts_to(goal),
+        }
+    }
+
+    /// The scalars, where this type is no array and a value of it converts to `goal`.
+    fn leaf_converts_to(&self, goal: &TypeInner) -> Option<(Scalar, Scalar)>
+        ensures { result ≡ leaf_converts self.now goal.now }
+    {
+        match (self, goal) {
+            (TypeInner::Scalar(scalar), TypeInner::Scalar(goal_scalar)) => {
+                scalar.pair_with(*goal_scalar)
+            }
+            (
+                TypeInner::Vector { size, scalar },
+                TypeInner::Vector {
+                    size: goal_size,
+                    scalar: goal_scalar,
+                },
+            ) if size == goal_size => scalar.pair_with(*goal_scalar),
+            (
+                TypeInner::Matrix {
+                    columns,
+                    rows,
+                    scalar,
+                },
+                TypeInner::Matrix {
+                    columns: goal_columns,
+                    rows: goal_rows,
+                    scalar: goal_scalar,
+                },
+            ) if columns == goal_columns && rows == goal_rows => scalar.pair_with(*goal_scalar),
+            _ => None,
+        }
+    }
+}

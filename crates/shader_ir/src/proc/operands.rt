@@ -1,0 +1,432 @@
+//! The expressions that an expression or a statement uses, and how.
+ghost use Rattle.std.specs.Prelude.{◌≡◌, ◌≤◌, ◌∷◌, length};
+ghost use Rattle.std.specs.Iterator.{YieldsFirst, item_count};
+ghost use Rattle.shader_ir.specs.Slots.{kept, read, read_optional, reads};
+ghost use Rattle.shader_ir.specs.Operands.{exchange_compare, expression_operands, gather_index, gradient_y, level_handle, query_level, ray_query_operands, statement_operands};
+ghost use Rattle.shader_ir.specs.BodyOf.{step_of};
+
+use crate::{
+    AtomicFunction, Expression, GatherMode, ImageQuery, RayPipelineFunction, RayQueryFunction,
+    SampleLevel, Statement, mark,
+};
+use shader_arena::Handle;
+use std::marker::Model;
+
+/// How an operand is used.
+#[derive(Clone, Copy, Debug, PartialEq, Eq)]
+pub enum Label {
+    /// Only a part of the operand is named.
+    Part,
+    Read,
+    Write,
+    ReadWrite,
+    Query,
+    Atomic,
+}
+
+/// An operand and its label, where there is one.
+type Slot = Option<(Handle<mark::Expression>, Label)>;
+
+/// How many operands stand beside a list of them at most.
+const SLOTS: usize = 8;
+
+/// At most eight operands that are left, in order.
+#[derive(Drop)]
+struct Slots {
+    slots: [Slot; SLOTS],
+    next: usize,
+}
+
+impl Model for Slots {
+    ghost use Rattle.std.specs.Prelude.{◌≡◌, ℕ, List, drop, length};
+    ghost use Rattle.shader_ir.specs.declared.proc.operands.Label.{Label};
+    ghost use Rattle.shader_ir.specs.declared.proc.operands.TheConstants.{SLOTS};
+    ghost use Rattle.shader_ir.specs.Slots.{kept};
+
+    ghost Value = { List (ℕ × Label) };
+
+    ghost view = { λ operands. kept (drop operands.next operands.slots) };
+
+    ghost invariant = { λ operands. length operands.slots ≡ SLOTS };
+}
+
+impl Iterator for Slots {
+    type Item = (Handle<mark::Expression>, Label);
+
+    ghost next_gives = { YieldsFirst (λ operands. operands) };
+
+    ghost remaining = { item_count (λ operands. operands) };
+
+    fn next(&mut self) -> Option<(Handle<mark::Expression>, Label)> {
+        while self.next < SLOTS {
+            let slot = self.slots[self.next];
+            self.next += 1;
+            if slot.is_some() {
+                return slot;
+            }
+        }
+        None
+    }
+}
+
+/// The operands that are left, in order.
+#[derive(Drop)]
+pub struct Operands<'a> {
+    slots: Slots,
+    // Operands that are read, after those of the slots.
+    list: &'a [Handle<mark::Expression>],
+}
+
+/// The operands of an expression that are left, in order.
+pub type ExpressionOperands<'a> = Operands<'a>;
+
+/// The operands of a statement that are left, in order.
+pub type StatementOperands<'a> = Operands<'a>;
+
+impl<'a> Model for Operands<'a> {
+    ghost use Rattle.std.specs.Prelude.{ℕ, List, ◌++◌};
+    ghost use Rattle.shader_ir.specs.declared.proc.operands.Label.{Label};
+    ghost use Rattle.shader_ir.specs.Slots.{reads};
+
+    ghost Value = { List (ℕ × Label) };
+
+    ghost view = { λ operands. operands.slots ++ reads operands.list.now };
+}
+
+impl<'a> Operands<'a> {
+    /// At most eight operands, without those that are absent.
+    fn few(slots: &[Slot]) -> Operands<'a>
+        requires { length slots.now ≤ SLOTS }
+        ensures { result ≡ kept slots.now }
+    {
+        Operands {
+            slots: Slots {
+                slots: padded(slots),
+                next: 0,
+            },
+            list: &[],
+        }
+    }
+
+    /// Operands that are read.
+    fn many(list: &'a [Handle<mark::Expression>]) -> Operands<'a>
+        ensures { result ≡ reads list.now }
+    {
+        Operands {
+            slots: Slots {
+                slots: [None; SLOTS],
+                next: SLOTS,
+            },
+            list,
+        }
+    }
+}
+
+impl<'a> Iterator for Operands<'a> {
+    type Item = (Handle<mark::Expression>, Label);
+
+    ghost next_gives = { YieldsFirst (λ operands. operands) };
+
+    ghost remaining = { item_count (λ operands. operands) };
+
+    fn next(&mut self) -> Option<(Handle<mark::Expression>, Label)> {
+        if let Some(operand) = self.slots.next() {
+            return Some(operand);
+        }
+        let (expression, rest) = self.list.split_first()?;
+        self.list = rest;
+        Some((*expression, Label::Read))
+    }
+}
+
+/// The slots, with empty ones behind.
+fn padded(slots: &[Slot]) -> [Slot; SLOTS]
+    requires { length slots.now ≤ SLOTS }
+    ensures { kept result ≡ kept slots.now }
+{
+    let mut all = [None; SLOTS];
+    for (place, slot) in slots.iter().enumerate() {
+        all[place] = *slot;
+    }
+    all
+}
+
+/// An operand that is read.
+fn read(expression: Handle<mark::Expression>) -> Slot
+    ensures { result ≡ read expression }
+{
+    Some((expression, Label::Read))
+}
+
+/// An operand that is read, where there is one.
+fn read_optional(expression: Option<Handle<mark::Expression>>) -> Slot
+    ensures { result ≡ read_optional expression }
+{
+    match expression {
+        Some(expression) => read(expression),
+        None => None,
+    }
+}
+
+impl SampleLevel {
+    /// The one handle of a level, or the first of a gradient.
+    fn handle(self) -> Option<Handle<mark::Expression>>
+        ensures { result ≡ level_handle self }
+    {
+        match self {
+            SampleLevel::Auto | SampleLevel::Zero => None,
+            SampleLevel::Exact(expression) | SampleLevel::Bias(expression) => Some(expression),
+            SampleLevel::Gradient { x, .. } => Some(x),
+        }
+    }
+
+    /// The second handle of a gradient.
+    fn gradient_y(self) -> Option<Handle<mark::Expression>>
+        ensures { result ≡ gradient_y self }
+    {
+        match self {
+            SampleLevel::Gradient { y, .. } => Some(y),
+            _ => None,
+        }
+    }
+}
+
+impl ImageQuery {
+    /// The level whose size is asked.
+    fn level(self) -> Option<Handle<mark::Expression>>
+        ensures { result ≡ query_level self }
+    {
+        match self {
+            ImageQuery::Size { level } => level,
+            ImageQuery::NumLevels | ImageQuery::NumLayers | ImageQuery::NumSamples => None,
+        }
+    }
+}
+
+impl AtomicFunction {
+    /// What an exchange compares with.
+    fn compare(self) -> Option<Handle<mark::Expression>>
+        ensures { result ≡ exchange_compare self }
+    {
+        match self {
+            AtomicFunction::Exchange { compare } => compare,
+            _ => None,
+        }
+    }
+}
+
+impl GatherMode {
+    /// The handle of the mode, where it has one.
+    fn index(self) -> Option<Handle<mark::Expression>>
+        ensures { result ≡ gather_index self }
+    {
+        match self {
+            GatherMode::Broadcast(index)
+            | GatherMode::Shuffle(index)
+            | GatherMode::ShuffleDown(index)
+            | GatherMode::ShuffleUp(index)
+            | GatherMode::ShuffleXor(index)
+            | GatherMode::QuadBroadcast(index) => Some(index),
+            GatherMode::BroadcastFirst | GatherMode::QuadSwap(_) => None,
+        }
+    }
+}
+
+/// The operands of an expression, in order.
+pub fn expression_operands(expression: &Expression) -> ExpressionOperands<'_>
+    ensures { result ≡ expression_operands expression.now }
+{
+    match expression {
+        Expression::Compose { components, .. } => Operands::many(components.as_slice()),
+        Expression::Access { base, index } => {
+            Operands::few(&[Some((*base, Label::Part)), read(*index)])
+        }
+        Expression::AccessIndex { base, .. } => Operands::few(&[Some((*base, Label::Part))]),
+        Expression::Splat { value, .. } => Operands::few(&[read(*value)]),
+        Expression::Swizzle { vector, .. } => Operands::few(&[read(*vector)]),
+        Expression::Load { pointer } => Operands::few(&[read(*pointer)]),
+        Expression::ImageSample {
+            image,
+            sampler,
+            coordinate,
+            array_index,
+            depth_ref,
+            offset,
+            level,
+            ..
+        } => Operands::few(&[
+            read(*image),
+            read(*sampler),
+            read(*coordinate),
+            read_optional(*array_index),
+            read_optional(*depth_ref),
+            read_optional(*offset),
+            read_optional(level.handle()),
+            read_optional(level.gradient_y()),
+        ]),
+        Expression::ImageLoad {
+            image,
+            coordinate,
+            array_index,
+            sample,
+            level,
+        } => Operands::few(&[
+            read(*image),
+            read(*coordinate),
+            read_optional(*array_index),
+            read_optional(*sample),
+            read_optional(*level),
+        ]),
+        Expression::ImageQuery { image, query } => Operands::few(&[
+            Some((*image, Label::Query)),
+            read_optional(query.level()),
+        ]),
+        Expression::Unary { expr, .. }
+        | Expression::Derivative { expr, .. }
+        | Expression::As { expr, .. } => Operands::few(&[read(*expr)]),
+        Expression::Binary { left, right, .. } => Operands::few(&[read(*left), read(*right)]),
+        Expression::Select {
+            condition,
+            accept,
+            reject,
+        } => Operands::few(&[read(*condition), read(*accept), read(*reject)]),
+        Expression::Relational { argument, .. } => Operands::few(&[read(*argument)]),
+        Expression::Math {
+            arg,
+            arg1,
+            arg2,
+            arg3,
+            ..
+        } => Operands::few(&[
+            read(*arg),
+            read_optional(*arg1),
+            read_optional(*arg2),
+            read_optional(*arg3),
+        ]),
+        Expression::ArrayLength(array) => Operands::few(&[Some((*array, Label::Query))]),
+        Expression::RayQueryVertexPositions { query, .. }
+        | Expression::RayQueryGetIntersection { query, .. } => Operands::few(&[read(*query)]),
+        Expression::CooperativeLoad { tile, .. } => {
+            Operands::few(&[read(tile.pointer), read(tile.stride)])
+        }
+        Expression::CooperativeMultiplyAdd { a, b, c } => {
+            Operands::few(&[read(*a), read(*b), read(*c)])
+        }
+        Expression::Literal(_)
+        | Expression::Constant(_)
+        | Expression::Override(_)
+        | Expression::ZeroValue(_)
+        | Expression::FunctionArgument(_)
+        | Expression::GlobalVariable(_)
+        | Expression::LocalVariable(_)
+        | Expression::CallResult(_)
+        | Expression::AtomicResult { .. }
+        | Expression::WorkGroupUniformLoadResult { .. }
+        | Expression::RayQueryProceedResult
+        | Expression::SubgroupBallotResult
+        | Expression::SubgroupOperationResult { .. } => Operands::few(&[]),
+    }
+}
+
+/// The operands of a statement, in order, without those of the blocks inside.
+pub fn statement_operands(statement: &Statement) -> StatementOperands<'_>
+    ensures { result ≡ statement_operands (step_of statement.now) }
+{
+    match statement {
+        Statement::If { condition, .. } => Operands::few(&[read(*condition)]),
+        Statement::Switch { selector, .. } => Operands::few(&[read(*selector)]),
+        Statement::Loop { break_if, .. } => Operands::few(&[read_optional(*break_if)]),
+        Statement::Return { value } => Operands::few(&[read_optional(*value)]),
+        Statement::Store { pointer, value } => {
+            Operands::few(&[Some((*pointer, Label::Write)), read(*value)])
+        }
+        Statement::ImageStore {
+            image,
+            coordinate,
+            array_index,
+            value,
+        } => Operands::few(&[
+            Some((*image, Label::Write)),
+            read(*coordinate),
+            read_optional(*array_index),
+            read(*value),
+        ]),
+        Statement::Atomic {
+            pointer,
+            fun,
+            value,
+            ..
+        } => Operands::few(&[
+            Some((*pointer, Label::ReadWrite)),
+            read(*value),
+            read_optional(fun.compare()),
+        ]),
+        Statement::ImageAtomic {
+            image,
+            coordinate,
+            array_index,
+            fun,
+            value,
+        } => Operands::few(&[
+            Some((*image, Label::Atomic)),
+            read(*coordinate),
+            read_optional(*array_index),
+            read(*value),
+            read_optional(fun.compare()),
+        ]),
+        Statement::WorkGroupUniformLoad { pointer, .. } => Operands::few(&[read(*pointer)]),
+        Statement::Call { arguments, .. } => Operands::many(arguments.as_slice()),
+        Statement::RayQuery { query, fun } => ray_query_operands(*query, *fun),
+        Statement::RayPipelineFunction(
+            RayPipelineFunction::TraceRay {
+                acceleration_structure,
+                descriptor,
+                payload,
+            },
+        ) => Operands::few(&[
+            read(*acceleration_structure),
+            read(*descriptor),
+            read(*payload),
+        ]),
+        Statement::SubgroupBallot { predicate, .. } => Operands::few(&[read_optional(*predicate)]),
+        Statement::SubgroupGather { mode, argument, .. } => {
+            Operands::few(&[read(*argument), read_optional(mode.index())])
+        }
+        Statement::SubgroupCollectiveOperation { argument, .. } => {
+            Operands::few(&[read(*argument)])
+        }
+        Statement::CooperativeStore { target, tile } => Operands::few(&[
+            read(*target),
+            Some((tile.pointer, Label::Write)),
+            read(tile.stride),
+        ]),
+        Statement::Emit(_)
+        | Statement::Block(_)
+        | Statement::Break
+        | Statement::Continue
+        | Statement::Kill
+        | Statement::ControlBarrier(_)
+        | Statement::MemoryBarrier(_) => Operands::few(&[]),
+    }
+}
+
+/// The operands of a statement about a query of rays.
+fn ray_query_operands<'a>(
+    query: Handle<mark::Expression>,
+    fun: RayQueryFunction,
+) -> StatementOperands<'a>
+    ensures { result ≡ kept (read query ∷ ray_query_operands fun) }
+{
+    match fun {
+        RayQueryFunction::Initialize {
+            acceleration_structure,
+            descriptor,
+        } => Operands::few(&[read(query), read(acceleration_structure), read(descriptor)]),
+        RayQueryFunction::GenerateIntersection { hit_t } => {
+            Operands::few(&[read(query), read(hit_t)])
+        }
+        RayQueryFunction::Proceed { .. }
+        | RayQueryFunction::ConfirmIntersection
+        | RayQueryFunction::Terminate => Operands::few(&[read(query)]),
+    }
+}

@@ -1,0 +1,242 @@
+//! Types.
+ghost use Rattle.std.specs.Prelude.{◌≡◌, ◌↔◌, IfOk, IsTrue};
+
+use crate::{
+    Binding, CooperativeRole, CooperativeSize, Count, ImageClass, ImageDimension, Items, Name,
+    Scalar, StorageAccess, VectorSize, mark,
+};
+use shader_arena::Handle;
+use std::alloc::{AllocError, Global};
+
+/// The space that a pointer points into.
+#[derive(Clone, Copy, Debug, PartialEq, Eq, Hash)]
+pub enum AddressSpace {
+    Function,
+    Private,
+    WorkGroup,
+    Uniform,
+    Storage { access: StorageAccess },
+    Handle,
+    Immediate,
+    TaskPayload,
+    RayPayload,
+    IncomingRayPayload,
+}
+
+#[derive(Clone, Copy, Debug, PartialEq, Eq, Hash)]
+pub enum ArraySize {
+    Constant(Count),
+    Pending(Handle<mark::Override>),
+    Dynamic,
+}
+
+/// A member of a struct type.
+#[derive(PartialEq, Eq, Hash, Drop)]
+pub struct StructMember {
+    pub name: Option<Name>,
+    pub ty: Handle<mark::Type>,
+    pub binding: Option<Binding>,
+    pub offset: u32,
+}
+
+/// The shape of a type.
+#[derive(PartialEq, Eq, Hash, Drop)]
+pub enum TypeInner {
+    Scalar(Scalar),
+    Vector {
+        size: VectorSize,
+        scalar: Scalar,
+    },
+    Matrix {
+        columns: VectorSize,
+        rows: VectorSize,
+        scalar: Scalar,
+    },
+    CooperativeMatrix {
+        columns: CooperativeSize,
+        rows: CooperativeSize,
+        scalar: Scalar,
+        role: CooperativeRole,
+    },
+    Atomic(Scalar),
+    Pointer {
+        base: Handle<mark::Type>,
+        space: AddressSpace,
+    },
+    ValuePointer {
+        size: Option<VectorSize>,
+        scalar: Scalar,
+        space: AddressSpace,
+    },
+    Array {
+        base: Handle<mark::Type>,
+        size: ArraySize,
+        stride: u32,
+    },
+    Struct {
+        members: Items<StructMember>,
+        span: u32,
+    },
+    Image {
+        dim: ImageDimension,
+        arrayed: bool,
+        class: ImageClass,
+    },
+    Sampler {
+        comparison: bool,
+    },
+    AccelerationStructure {
+        vertex_return: bool,
+    },
+    RayQuery {
+        vertex_return: bool,
+    },
+    BindingArray {
+        base: Handle<mark::Type>,
+        size: ArraySize,
+    },
+}
+
+/// A type, with its name if it has one.
+#[derive(PartialEq, Eq, Hash, Drop)]
+pub struct Type {
+    pub name: Option<Name>,
+    pub inner: TypeInner,
+}
+
+impl Scalar {
+    /// Whether two scalars are the same.
+    pub fn is_same(self, other: Scalar) -> bool
+        ensures { IsTrue result ↔ (self ≡ other) }
+    {
+        self == other
+    }
+}
+
+impl StructMember {
+    pub fn is_same(&self, other: &StructMember) -> bool
+        ensures { IsTrue result ↔ (self.now ≡ other.now) }
+    {
+        self == other
+    }
+}
+
+impl TypeInner {
+    /// Whether two types have the same shape.
+    pub fn is_same(&self, other: &TypeInner) -> bool
+        ensures { IsTrue result ↔ (self.now ≡ other.now) }
+    {
+        self == other
+    }
+}
+
+impl TypeInner {
+    /// The same type again.
+    pub fn copy(&self, alloc: Global) -> Result<TypeInner, AllocError>
+        ensures { IfOk result (λ inner. inner ≡ self.now) }
+    {
+        Ok(match self {
+            TypeInner::Scalar(scalar) => TypeInner::Scalar(*scalar),
+            TypeInner::Vector { size, scalar } => TypeInner::Vector {
+                size: *size,
+                scalar: *scalar,
+            },
+            TypeInner::Matrix {
+                columns,
+                rows,
+                scalar,
+            } => TypeInner::Matrix {
+                columns: *columns,
+                rows: *rows,
+                scalar: *scalar,
+            },
+            TypeInner::CooperativeMatrix {
+                columns,
+                rows,
+                scalar,
+                role,
+            } => TypeInner::CooperativeMatrix {
+                columns: *columns,
+                rows: *rows,
+                scalar: *scalar,
+                role: *role,
+            },
+            TypeInner::Atomic(scalar) => TypeInner::Atomic(*scalar),
+            TypeInner::Pointer { base, space } => TypeInner::Pointer {
+                base: *base,
+                space: *space,
+            },
+            TypeInner::ValuePointer {
+                size,
+                scalar,
+                space,
+            } => TypeInner::ValuePointer {
+                size: *size,
+                scalar: *scalar,
+                space: *space,
+            },
+            TypeInner::Array { base, size, stride } => TypeInner::Array {
+                base: *base,
+                size: *size,
+                stride: *stride,
+            },
+            TypeInner::Struct { members, span } => TypeInner::Struct {
+                members: copy_members(alloc, members.as_slice())?,
+                span: *span,
+            },
+            TypeInner::Image {
+                dim,
+                arrayed,
+                class,
+            } => TypeInner::Image {
+                dim: *dim,
+                arrayed: *arrayed,
+                class: *class,
+            },
+            TypeInner::Sampler { comparison } => TypeInner::Sampler {
+                comparison: *comparison,
+            },
+            TypeInner::AccelerationStructure { vertex_return } => {
+                TypeInner::AccelerationStructure {
+                    vertex_return: *vertex_return,
+                }
+            }
+            TypeInner::RayQuery { vertex_return } => TypeInner::RayQuery {
+                vertex_return: *vertex_return,
+            },
+            TypeInner::BindingArray { base, size } => TypeInner::BindingArray {
+                base: *base,
+                size: *size,
+            },
+        })
+    }
+}
+
+/// The same members again.
+fn copy_members(alloc: Global, members: &[StructMember]) -> Result<Items<StructMember>, AllocError>
+    ensures { IfOk result (λ copies. copies ≡ members.now) }
+{
+    let mut copies = Vec::new(alloc);
+    for member in members {
+        copies.push(member.copy(alloc)?)?;
+    }
+    Ok(Items::from(copies))
+}
+
+impl StructMember {
+    /// The same member again.
+    pub fn copy(&self, alloc: Global) -> Result<StructMember, AllocError>
+        ensures { IfOk result (λ member. member ≡ self.now) }
+    {
+        let name = match &self.name {
+            Some(name) => Some(name.copy(alloc)?),
+            None => None,
+        };
+        Ok(StructMember {
+            name,
+            ty: self.ty,
+            binding: self.binding,
+            offset: self.offset,
+        })
+    }
+}
