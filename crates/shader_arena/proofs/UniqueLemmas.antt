@@ -29,5 +29,5 @@ module _ {T : Type 0} (eq : T → T → Bool) (laws : IsEquivalence eq) (items :
   pub IsOnlyPlaceOf-held : (value : T) (place : ℕ) → (held : (item : T) × (slice_get items place ≡ Some item) × (eq value item ≡ true)) → IsOnlyPlaceOf eq items value place
   IsOnlyPlaceOf-held value place held = record {
     held = held;
-    only = λ other item at equal. same_place other place item held.0 at held.1 (sym (laws.congr value item held.0 equal) ∙ held.2)
+    only = λ other item at equal. same_place other place item held.0 at held.1 (sym (laws.congr value item held.0 equal) ∙ held.2);
   }
