@@ -1,0 +1,95 @@
+//! Each growth refused once: what was given comes back, the list stays, and the call made again
+//! goes on as with memory.
+//!
+//! With ample memory nothing is refused. Where the allocator refuses its Nth request, a test here
+//! prints a line if that request was of the call that it names.
+use crate::tests::{Item, numbers};
+use crate::{AllocFailed, Arena, Handle, HandleSet, HandleVec, UniqueArena};
+use std::alloc::AllocError;
+use std::test::Fail;
+
+#[test]
+fn of_append(rt: HostRuntime) -> Result<(), Fail> {
+    let mut arena: Arena<u32, Item> = Arena::new(rt.alloc());
+    for number in 0..20 {
+        let len = arena.len();
+        assert!(rt; !arena.is_full());
+        let handle = match arena.append(number) {
+            Ok(handle) => handle,
+            Err(AllocFailed { value }) => {
+                println!(rt; "append was refused at length {len}")?;
+                assert_eq!(rt; (value, arena.len()), (number, len));
+                arena.append(value)?
+            }
+        };
+        assert_eq!(rt; (handle.index(), arena.len()), (len, len + 1));
+    }
+    for (handle, item) in arena.iter() {
+        assert_eq!(rt; handle.index(), *item as usize);
+    }
+    assert_eq!(rt; arena.len(), 20);
+    Ok(())
+}
+
+#[test]
+fn of_insert_in_a_unique_arena(rt: HostRuntime) -> Result<(), Fail> {
+    let mut arena: UniqueArena<u32, Item> = UniqueArena::new(rt.alloc());
+    for number in 0..20 {
+        let len = arena.len();
+        assert!(rt; !arena.is_full());
+        let handle = match arena.insert(number) {
+            Ok(handle) => handle,
+            Err(AllocFailed { value }) => {
+                println!(rt; "insert in a unique arena was refused at length {len}")?;
+                assert_eq!(rt; (value, arena.len()), (number, len));
+                arena.insert(value)?
+            }
+        };
+        assert_eq!(rt; (handle.index(), arena.len()), (len, len + 1));
+        // An equal item needs no memory, so this is never refused.
+        assert!(rt; !arena.is_full());
+        let again = arena.insert(number)?;
+        assert_eq!(rt; (again.index(), arena.len()), (len, len + 1));
+    }
+    for (handle, item) in arena.iter() {
+        assert_eq!(rt; handle.index(), *item as usize);
+    }
+    assert_eq!(rt; arena.len(), 20);
+    Ok(())
+}
+
+#[test]
+fn of_insert_in_a_table(rt: HostRuntime) -> Result<(), Fail> {
+    let mut table: HandleVec<Item, u32> = HandleVec::new(rt.alloc());
+    for number in 0..20 {
+        let handle = Handle::from_index(number);
+        assert_eq!(rt; table.len(), handle.index());
+        if let Err(AllocFailed { value }) = table.insert(handle, number) {
+            println!(rt; "insert in a table was refused at length {}", table.len())?;
+            assert_eq!(rt; (value, table.len()), (number, handle.index()));
+            table.insert(handle, value)?;
+        }
+        assert_eq!(rt; table.len(), handle.index() + 1);
+        assert_eq!(rt; table[handle], number);
+    }
+    assert_eq!(rt; table.len(), 20);
+    Ok(())
+}
+
+#[test]
+fn of_a_set_for_an_arena(rt: HostRuntime) -> Result<(), Fail> {
+    let arena = numbers(&rt, rt.alloc(), 130)?;
+    assert_eq!(rt; arena.len(), 130);
+    let mut set = match HandleSet::for_arena(rt.alloc(), &arena) {
+        Ok(set) => set,
+        Err(AllocError) => {
+            println!(rt; "a set was refused")?;
+            HandleSet::for_arena(rt.alloc(), &arena)?
+        }
+    };
+    assert!(rt; set.insert(Handle::from_index(129)));
+    let mut members = set.iter();
+    assert!(rt; members.next() == Some(Handle::from_index(129)));
+    assert!(rt; members.next() == None);
+    Ok(())
+}
