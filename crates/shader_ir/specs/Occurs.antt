@@ -1,5 +1,5 @@
 -- All operands of a function's statements, at any depth.
-use Rattle.std.specs.Prelude.{ℕ, ◌+◌, ◌-◌, ◌^◌, min, List, [], ◌∷◌, ◌++◌, slice_index, slice_set}
+use Rattle.std.specs.Prelude.{ℕ, List, [], ◌++◌}
 use Rattle.shader_ir.specs.Body.{Body, End, Then, Step, Leaf, Nested, If, Switch, Loop, Cases, NoCase, Case}
 use Rattle.shader_ir.specs.Operands.{statement_operands}
 use Rattle.shader_ir.specs.declared.proc.operands.Label.{Label}

@@ -1,7 +1,7 @@
 -- The operands of expressions and statements, with their labels.
 use Rattle.std.specs.Prelude.{ℕ, List, [], ◌∷◌, Option, Some, None}
 use Rattle.shader_ir.specs.Slots.{kept, read, read_optional, reads}
-use Rattle.shader_ir.specs.Body.{Simple, Return, Store, ImageStore, Atomic, ImageAtomic, WorkGroupUniformLoad, Call, RayQuery, RayPipeline, SubgroupBallot, SubgroupGather, SubgroupCollectiveOperation, CooperativeStore, Body, End, Then, Step, Leaf, If, Switch, Loop}
+use Rattle.shader_ir.specs.Body.{Simple, Return, Store, ImageStore, Atomic, ImageAtomic, WorkGroupUniformLoad, Call, RayQuery, RayPipeline, SubgroupBallot, SubgroupGather, SubgroupCollectiveOperation, CooperativeStore, Step, Leaf, If, Switch, Loop}
 use Rattle.shader_ir.specs.declared.proc.operands.Label.{Label}
 use Rattle.shader_ir.specs.declared.proc.operands.Label.TheVariants.{Part, Write, ReadWrite, Query}
 use Rattle.shader_ir.specs.declared.proc.operands.Label.TheVariants as label
