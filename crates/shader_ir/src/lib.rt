@@ -9,6 +9,7 @@ mod function;
 mod image;
 mod items;
 mod literal;
+mod map;
 pub mod mark;
 mod module;
 mod name;
@@ -25,11 +26,13 @@ pub use count::Count;
 pub use expression::{CooperativeData, Expression, ImageQuery, SampleLevel};
 pub use flags::{Barrier, ShaderStages, StorageAccess};
 pub use function::{
-    EntryPoint, Function, FunctionArgument, FunctionResult, LocalVariable, ShaderStage,
+    EntryPoint, Function, FunctionArgument, FunctionResult, LocalVariable, NamedExpressions,
+    ShaderStage,
 };
 pub use image::{ImageClass, ImageDimension, StorageFormat};
 pub use items::Items;
 pub use literal::Literal;
+pub use map::Map;
 pub use module::{
     Constant, DiagnosticFilterNode, DiagnosticRule, GlobalCtx, GlobalVariable, Module, Override,
     PredeclaredType, Severity, SpecialTypes,

@@ -23,24 +23,28 @@ pub enum AddressSpace {
     IncomingRayPayload,
 }
 
+/// The number of an array's elements.
 #[derive(Clone, Copy, Debug, PartialEq, Eq, Hash)]
 pub enum ArraySize {
     Constant(Count),
+    /// What an override says once the pipeline is made.
     Pending(Handle<mark::Override>),
+    /// As many as the memory behind it holds.
     Dynamic,
 }
 
 /// A member of a struct type.
-#[derive(PartialEq, Eq, Hash, Drop)]
+#[derive(Debug, PartialEq, Eq, Hash, Drop)]
 pub struct StructMember {
     pub name: Option<Name>,
     pub ty: Handle<mark::Type>,
     pub binding: Option<Binding>,
+    /// In bytes, from the struct's start.
     pub offset: u32,
 }
 
-/// The shape of a type.
-#[derive(PartialEq, Eq, Hash, Drop)]
+/// A type without its name. Two of them are equal where all their fields are, handles by place.
+#[derive(Debug, PartialEq, Eq, Hash, Drop)]
 pub enum TypeInner {
     Scalar(Scalar),
     Vector {
@@ -71,10 +75,12 @@ pub enum TypeInner {
     Array {
         base: Handle<mark::Type>,
         size: ArraySize,
+        /// The distance of two elements, in bytes.
         stride: u32,
     },
     Struct {
         members: Items<StructMember>,
+        /// In bytes.
         span: u32,
     },
     Image {
