@@ -15,6 +15,7 @@ mod module;
 mod name;
 mod operators;
 pub mod proc;
+mod same;
 mod scalar;
 mod statement;
 #[cfg(test)]
@@ -47,6 +48,7 @@ pub use proc::{
     MAX_TYPE_SIZE, Operands, ResolveArraySizeError, StatementOperands, TypeLayout, TypeResolution,
     UpdateError, compare_types, expression_operands, statement_operands, types_backward,
 };
+pub use same::Same;
 pub use scalar::{CooperativeRole, CooperativeSize, Scalar, ScalarKind, VectorSize};
 pub use statement::{
     AtomicFunction, Block, CollectiveOperation, Direction, GatherMode, RayPipelineFunction,

@@ -1,5 +1,5 @@
 //! Types.
-ghost use Rattle.std.specs.Prelude.{◌≡◌, ◌↔◌, IfOk, IsTrue};
+ghost use Rattle.std.specs.Prelude.{◌≡◌, IfOk};
 
 use crate::{
     Binding, CooperativeRole, CooperativeSize, Count, ImageClass, ImageDimension, Items, Name,
@@ -108,32 +108,6 @@ pub enum TypeInner {
 pub struct Type {
     pub name: Option<Name>,
     pub inner: TypeInner,
-}
-
-impl Scalar {
-    /// Whether two scalars are the same.
-    pub fn is_same(self, other: Scalar) -> bool
-        ensures { IsTrue result ↔ (self ≡ other) }
-    {
-        self == other
-    }
-}
-
-impl StructMember {
-    pub fn is_same(&self, other: &StructMember) -> bool
-        ensures { IsTrue result ↔ (self.now ≡ other.now) }
-    {
-        self == other
-    }
-}
-
-impl TypeInner {
-    /// Whether two types have the same shape.
-    pub fn is_same(&self, other: &TypeInner) -> bool
-        ensures { IsTrue result ↔ (self.now ≡ other.now) }
-    {
-        self == other
-    }
 }
 
 impl TypeInner {
