@@ -80,7 +80,7 @@ module _ (types : List «Type») where
     -- a type that is held has in a tree the alignment that it has alone
     child_alike : (place : ℕ) (type : «Type») → place < bound → slice_get types place ≡ Some type
         → alignment_of (tree_within (length types) types type.inner) ≡ alignment_of (tree_of types type.inner)
-    unfolding tree_of
+    unfolding tree_within
     child_alike place type lt at = by (length types) refl (slice_get_within types place type at)
       where
         by : (n : ℕ) → length types ≡ n → place < n → alignment_of (tree_within (length types) types type.inner) ≡ alignment_of (tree_within (suc (length types)) types type.inner)
@@ -144,7 +144,7 @@ module _ (ctx : GlobalCtx) (layouts : List TypeLayout) where
 
     -- over held layouts a type has the alignment of its tree
     held_is : (inner : TypeInner) → part_fault (length layouts) inner ≡ None → held_alignment layouts inner ≡ alignment_of (tree_of types inner)
-    unfolding tree_of tree_within
+    unfolding tree_within
     held_is (Struct members span) fine = greatest_is 0 members fine
     held_is (Array base size stride) fine =
         let lt = base_earlier (length layouts) base fine in
@@ -169,7 +169,7 @@ module _ (ctx : GlobalCtx) (layouts : List TypeLayout) where
 
   made_is : AreLayouts ctx layouts → (inner : TypeInner) (layout : TypeLayout) → part_fault (length layouts) inner ≡ None
       → layout ≡ record { size = or_zero ctx (size_in inner); alignment = held_alignment layouts inner } → layout ≡ layout_in inner
-  unfolding tree_of tree_within
+  unfolding tree_within
   made_is held inner layout fine is =
       is ∙ ap (λ (n : ℕ). let l : TypeLayout = record { size = or_zero ctx (size_in inner); alignment = n } in l) (held_is held inner fine)
 

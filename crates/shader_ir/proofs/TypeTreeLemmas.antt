@@ -1,5 +1,5 @@
 -- Types that name earlier types alone, and their trees.
-use Rattle.std.proofs.Common.{◌≡◌, ◌∙◌, ap, sym, refl, subst, ℕ, zero, suc, ◌+◌, ◌<◌, ◌≤◌, List, [], ◌∷◌, Option, Some, None, All, length, slice_get, zero-add, if◌then◌else◌, get_or, arith, false}
+use Rattle.std.proofs.Common.{◌≡◌, ◌∙◌, ap, sym, refl, subst, ℕ, zero, suc, ◌+◌, ◌<◌, ◌≤◌, List, [], ◌∷◌, Option, Some, None, All, length, slice_get, zero-add, if◌then◌else◌, get_or, arith, true, false, ◌&&◌}
 use Rattle.std.proofs.lemmas.List.Elements.{All-map, All-head, All-tail}
 use Rattle.std.proofs.lemmas.Option.{slice_get_within}
 use Rattle.std.proofs.lemmas.List.{get_or-map, length-map}
@@ -9,7 +9,7 @@ use Rattle.shader_ir.specs.declared.types.StructMember.{StructMember}
 use Rattle.shader_ir.specs.declared.types.TypeInner.{TypeInner}
 use Rattle.shader_ir.specs.declared.types.TypeInner.TheVariants.{Struct, Array}
 use Rattle.shader_ir.specs.declared.types.ArraySize.{ArraySize}
-use Rattle.shader_ir.specs.Conversion.{converts, leaf_converts, same_array_size}
+use Rattle.shader_ir.specs.Conversion.{Shape, shape_of, shape_of_base, leaf_of, same_array_size, same_shape, scalar_conversion, conversion}
 use Rattle.shader_ir.specs.TypeTree.{type_handles, array_rank, PointsBelow, AreBackward, IsBackward, TypeTree, Node, NoTree, OneTree, put_tree, trees_at, tree_within, tree_of}
 
 abbrev pub MembersBelow : ℕ → List StructMember → Type 0
@@ -73,7 +73,7 @@ module _ (types : List «Type») (backward : IsBackward types) where
   child = tree_within (length types) types
 
   child_is : (place : ℕ) (type : «Type») → slice_get types place ≡ Some type → child type.inner ≡ tree_of types type.inner
-  unfolding tree_of
+  unfolding tree_within
   child_is place type at = by (length types) refl (slice_get_within types place type at)
     where
       by : (n : ℕ) → length types ≡ n → place < n → tree_within (length types) types type.inner ≡ tree_within (suc (length types)) types type.inner
@@ -83,47 +83,41 @@ module _ (types : List «Type») (backward : IsBackward types) where
   -- the tree of an array holds that of its base
   pub tree_of-Array : (base : ℕ) (size : ArraySize) (stride : ℕ) (type : «Type») → slice_get types base ≡ Some type
       → tree_of types (Array base size stride) ≡ Node (Array base size stride) (OneTree (tree_of types type.inner) NoTree)
-  unfolding tree_of tree_within
   tree_of-Array base size stride type at =
       ap (λ o. Node (Array base size stride) (put_tree child o NoTree)) at ∙ ap (λ t. Node (Array base size stride) (OneTree t NoTree)) (child_is base type at)
 
-  -- arrays of equal size convert as their bases do, and others do not
-  pub converts-Array : (base : ℕ) (size : ArraySize) (stride : ℕ) (type : «Type») (goal_base : ℕ) (goal_size : ArraySize) (goal_stride : ℕ) (goal_type : «Type»)
-      → slice_get types base ≡ Some type → slice_get types goal_base ≡ Some goal_type
-      → converts (tree_of types (Array base size stride)) (tree_of types (Array goal_base goal_size goal_stride))
-      ≡ (if same_array_size size goal_size then converts (tree_of types type.inner) (tree_of types goal_type.inner) else None)
-  converts-Array base size stride type goal_base goal_size goal_stride goal_type at goal_at =
-      λ i. converts (tree_of-Array base size stride type at i) (tree_of-Array goal_base goal_size goal_stride goal_type goal_at i)
+  -- arrays of equal size convert as their bases do
+  pub conversion-Array : (base : ℕ) (size : ArraySize) (stride : ℕ) (type : «Type») (goal_base : ℕ) (goal_size : ArraySize) (goal_stride : ℕ) (goal_type : «Type»)
+      → slice_get types base ≡ Some type → slice_get types goal_base ≡ Some goal_type → same_array_size size goal_size ≡ true
+      → conversion (tree_of types (Array base size stride)) (tree_of types (Array goal_base goal_size goal_stride))
+      ≡ conversion (tree_of types type.inner) (tree_of types goal_type.inner)
+  conversion-Array base size stride type goal_base goal_size goal_stride goal_type at goal_at same =
+      (λ i. conversion (tree_of-Array base size stride type at i) (tree_of-Array goal_base goal_size goal_stride goal_type goal_at i))
+      ∙ ap (λ b. if b && same_shape (shape_of (tree_of types type.inner)) (shape_of (tree_of types goal_type.inner)) then scalar_conversion (leaf_of (tree_of types type.inner)) (leaf_of (tree_of types goal_type.inner)) else None) same
 
 -- a type that is no array converts by its own scalars
-pub converts-leaf : (types : List «Type») (inner goal : TypeInner) → ((base : ℕ) (size : ArraySize) (stride : ℕ) → inner ≡ Array base size stride → ⊥)
-    → converts (tree_of types inner) (tree_of types goal) ≡ leaf_converts inner goal
-unfolding tree_of tree_within
-converts-leaf types (Array base size stride) goal h = absurd (h base size stride refl)
-converts-leaf types inner goal h = refl
+pub conversion-leaf : (types : List «Type») (inner goal : TypeInner) → ((base : ℕ) (size : ArraySize) (stride : ℕ) → inner ≡ Array base size stride → ⊥)
+    → conversion (tree_of types inner) (tree_of types goal) ≡ conversion (Node inner NoTree) (Node goal NoTree)
+conversion-leaf types (Array base size stride) goal h = absurd (h base size stride refl)
+conversion-leaf types inner (Array base size stride) h = refl
+conversion-leaf types inner goal h = refl
 
 -- an array converts to no other type
-pub converts-other : (types : List «Type») (base : ℕ) (size : ArraySize) (stride : ℕ) (goal : TypeInner) → ((base : ℕ) (size : ArraySize) (stride : ℕ) → goal ≡ Array base size stride → ⊥)
-    → converts (tree_of types (Array base size stride)) (tree_of types goal) ≡ None
-unfolding tree_of tree_within
-converts-other types base size stride goal h = by (slice_get types base) goal h
-  where
-    by : (o : Option «Type») (g : TypeInner) → ((base : ℕ) (size : ArraySize) (stride : ℕ) → g ≡ Array base size stride → ⊥)
-        → converts (Node (Array base size stride) (put_tree (tree_within (length types) types) o NoTree)) (tree_within (suc (length types)) types g) ≡ None
-    by o (Array b s k) other = absurd (other b s k refl)
-    by None g other = refl
-    by (Some type) g other = refl
+pub conversion-other : (types : List «Type») (base : ℕ) (size : ArraySize) (stride : ℕ) (goal : TypeInner) → ((base : ℕ) (size : ArraySize) (stride : ℕ) → goal ≡ Array base size stride → ⊥)
+    → conversion (tree_of types (Array base size stride)) (tree_of types goal) ≡ None
+conversion-other types base size stride (Array goal_base goal_size goal_stride) h = absurd (h goal_base goal_size goal_stride refl)
+conversion-other types base size stride goal h = refl
 
 -- arrays of unequal size do not convert
-pub converts-unequal : (types : List «Type») (base : ℕ) (size : ArraySize) (stride goal_base : ℕ) (goal_size : ArraySize) (goal_stride : ℕ) → same_array_size size goal_size ≡ false
-    → converts (tree_of types (Array base size stride)) (tree_of types (Array goal_base goal_size goal_stride)) ≡ None
-unfolding tree_of tree_within
-converts-unequal types base size stride goal_base goal_size goal_stride h = by (slice_get types base) (slice_get types goal_base)
+pub conversion-unequal : (types : List «Type») (base : ℕ) (size : ArraySize) (stride goal_base : ℕ) (goal_size : ArraySize) (goal_stride : ℕ) → same_array_size size goal_size ≡ false
+    → conversion (tree_of types (Array base size stride)) (tree_of types (Array goal_base goal_size goal_stride)) ≡ None
+conversion-unequal types base size stride goal_base goal_size goal_stride h =
+    let from = tree_of types (Array base size stride) in
+    let to = tree_of types (Array goal_base goal_size goal_stride) in
+    ap (λ b. if b && same_shape (base_shape from) (base_shape to) then scalar_conversion (leaf_of from) (leaf_of to) else None) h
   where
-    by : (o p : Option «Type») → converts (Node (Array base size stride) (put_tree (tree_within (length types) types) o NoTree)) (Node (Array goal_base goal_size goal_stride) (put_tree (tree_within (length types) types) p NoTree)) ≡ None
-    by None p = refl
-    by (Some type) None = refl
-    by (Some type) (Some goal_type) = ap (λ b. if b then converts (tree_within (length types) types type.inner) (tree_within (length types) types goal_type.inner) else None) h
+    base_shape : TypeTree → Shape
+    base_shape (Node inner bases) = shape_of_base bases
 
 pub rank_le : (place : ℕ) (inner : TypeInner) → PointsBelow place inner → array_rank inner ≤ place
 rank_le place (Array base size stride) h = let below : base < place = h 0 0 (omega arith) in omega arith

@@ -1,7 +1,7 @@
 //! Which types convert to which.
-ghost use Rattle.std.specs.Prelude.{◌≡◌, length};
-ghost use Rattle.shader_ir.specs.Conversion.{converts, leaf_converts, same_array_size, scalar_pair};
-ghost use Rattle.shader_ir.specs.TypeTree.{IsBackward, PointsBelow, tree_of};
+ghost use Rattle.std.specs.Prelude.{◌≡◌, length, Some};
+ghost use Rattle.shader_ir.specs.Conversion.{conversion, same_array_size, scalar_conversion};
+ghost use Rattle.shader_ir.specs.TypeTree.{IsBackward, PointsBelow, Node, NoTree, tree_of};
 
 use crate::{ArraySize, Scalar, ScalarKind, Type, TypeInner, mark};
 use shader_arena::UniqueArena;
@@ -9,7 +9,7 @@ use shader_arena::UniqueArena;
 impl Scalar {
     /// The two scalars, where the first converts to the second.
     fn pair_with(self, goal: Scalar) -> Option<(Scalar, Scalar)>
-        ensures { result ≡ scalar_pair self goal }
+        ensures { result ≡ scalar_conversion (Some self) (Some goal) }
     {
         let converts = match (self.kind, goal.kind) {
             (ScalarKind::AbstractFloat, ScalarKind::Float) => true,
@@ -41,7 +41,7 @@ impl TypeInner {
         requires backward { IsBackward types.now }
         requires self_in { PointsBelow (length types.now) self.now }
         requires goal_in { PointsBelow (length types.now) goal.now }
-        ensures { result ≡ converts (tree_of types.now self.now) (tree_of types.now goal.now) }
+        ensures { result ≡ conversion (tree_of types.now self.now) (tree_of types.now goal.now) }
     {
         match self {
             TypeInner::Array { base, size, .. } => match goal {
@@ -65,7 +65,7 @@ impl TypeInner {
 
     /// The scalars, where this type is no array and a value of it converts to `goal`.
     fn leaf_converts_to(&self, goal: &TypeInner) -> Option<(Scalar, Scalar)>
-        ensures { result ≡ leaf_converts self.now goal.now }
+        ensures { result ≡ conversion (Node self.now NoTree) (Node goal.now NoTree) }
     {
         match (self, goal) {
             (TypeInner::Scalar(scalar), TypeInner::Scalar(goal_scalar)) => {

@@ -1,7 +1,7 @@
-use Rattle.std.proofs.Common.{◌≡◌, ◌+◌, ◌∙◌, ap, sym, arith, if◌then◌else◌, None}
+use Rattle.std.proofs.Common.{◌≡◌, ◌+◌, ◌∙◌, ap, sym, arith}
 use Rattle.shader_ir.specs.TypeTree.{array_rank, tree_of}
-use Rattle.shader_ir.specs.Conversion.{converts}
-use Rattle.shader_ir.proofs.TypeTreeLemmas.{below, found_below, rank_le, converts-Array, converts-leaf, converts-other, converts-unequal}
+use Rattle.shader_ir.specs.Conversion.{conversion}
+use Rattle.shader_ir.proofs.TypeTreeLemmas.{below, found_below, rank_le, conversion-Array, conversion-leaf, conversion-other, conversion-unequal}
 use Rattle.shader_ir.proofs.types.TypeInner.+automatically_converts_to.Goals as goal
 
 -- the base comes before the array
@@ -24,26 +24,29 @@ automatically_converts_to-requires t c =
 pub returns-then-not-is_same : goal.returns-then-not-is_same
 returns-then-not-is_same t c =
     let types = c.args.types.now in
-    sym ((λ i. converts (tree_of types (c.in-Array.is i)) (tree_of types (c.in-Array-goal.is i)))
-    ∙ converts-unequal types _ _ _ _ _ _ (sym c.is_same.ensures ∙ c.if-not-is_same.true))
+    let from = c.in-Array in
+    let to = c.in-Array-goal in
+    sym ((λ i. conversion (tree_of types (from.is i)) (tree_of types (to.is i)))
+    ∙ conversion-unequal types from.base from.size from.stride to.goal_base to.goal_size to.stride (sym c.is_same.ensures ∙ c.if-not-is_same.true))
 
 pub returns-else-not-is_same : goal.returns-else-not-is_same
 returns-else-not-is_same t c =
     let types = c.args.types.now in
-    let base = c.index.result.now in
-    let goal_base = c.index-in-Array-goal.result.now in
+    let from = c.in-Array in
+    let to = c.in-Array-goal in
     let sizes = sym c.is_same.ensures ∙ c.if-not-is_same.false in
     c.automatically_converts_to.ensures
-    ∙ sym ((λ i. converts (tree_of types (c.in-Array.is i)) (tree_of types (c.in-Array-goal.is i)))
-    ∙ converts-Array types c.requires.backward _ _ _ base _ _ _ goal_base c.index.ensures c.index-in-Array-goal.ensures
-    ∙ ap (λ b. if b then converts (tree_of types base.inner) (tree_of types goal_base.inner) else None) sizes)
+    ∙ sym ((λ i. conversion (tree_of types (from.is i)) (tree_of types (to.is i)))
+    ∙ conversion-Array types c.requires.backward from.base from.size from.stride c.index.result.now to.goal_base to.goal_size to.stride c.index-in-Array-goal.result.now
+        c.index.ensures c.index-in-Array-goal.ensures sizes)
 
 pub returns-in_default-goal : goal.returns-in_default-goal
 returns-in_default-goal t c =
     let types = c.args.types.now in
-    sym (ap (λ s. converts (tree_of types s) (tree_of types c.args.goal.now)) c.in-Array.is
-    ∙ converts-other types _ _ _ _ c.in_default-goal.not-Array)
+    let from = c.in-Array in
+    sym (ap (λ s. conversion (tree_of types s) (tree_of types c.args.goal.now)) from.is
+    ∙ conversion-other types from.base from.size from.stride c.args.goal.now c.in_default-goal.not-Array)
 
 pub returns-in_default : goal.returns-in_default
 returns-in_default t c =
-    c.leaf_converts_to.ensures ∙ sym (converts-leaf c.args.types.now c.args.self.now c.args.goal.now c.in_default.not-Array)
+    c.leaf_converts_to.ensures ∙ sym (conversion-leaf c.args.types.now c.args.self.now c.args.goal.now c.in_default.not-Array)
