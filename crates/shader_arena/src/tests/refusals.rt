@@ -6,6 +6,8 @@
 use crate::tests::{Item, numbers};
 use crate::{AllocFailed, Arena, Handle, HandleSet, HandleVec, UniqueArena};
 use std::alloc::AllocError;
+use std::io::Print;
+use std::process::Abort;
 use std::test::Fail;
 
 #[test]
@@ -31,30 +33,39 @@ fn of_append(rt: HostRuntime) -> Result<(), Fail> {
     Ok(())
 }
 
+fn insert_again_if_refused<R: Abort + Print>(
+    rt: &R,
+    arena: &mut UniqueArena<u32, Item>,
+    number: u32,
+) -> Result<Handle<Item>, Fail> {
+    assert!(rt; !arena.is_full());
+    let len = arena.len();
+    let refused = match arena.insert(number) {
+        Ok(handle) => return Ok(handle),
+        Err(AllocFailed { value }) => value,
+    };
+    println!(rt; "insert in a unique arena was refused at length {len}")?;
+    assert_eq!(rt; (refused, arena.len()), (number, len));
+    Ok(arena.insert(refused)?)
+}
+
 #[test]
 fn of_insert_in_a_unique_arena(rt: HostRuntime) -> Result<(), Fail> {
     let mut arena: UniqueArena<u32, Item> = UniqueArena::new(rt.alloc());
     for number in 0..20 {
-        let len = arena.len();
-        assert!(rt; !arena.is_full());
-        let handle = match arena.insert(number) {
-            Ok(handle) => handle,
-            Err(AllocFailed { value }) => {
-                println!(rt; "insert in a unique arena was refused at length {len}")?;
-                assert_eq!(rt; (value, arena.len()), (number, len));
-                arena.insert(value)?
-            }
-        };
-        assert_eq!(rt; (handle.index(), arena.len()), (len, len + 1));
+        let handle = insert_again_if_refused(&rt, &mut arena, number)?;
+        assert_eq!(rt; handle.index(), number as usize);
         // An equal item needs no memory, so this is never refused.
         assert!(rt; !arena.is_full());
         let again = arena.insert(number)?;
-        assert_eq!(rt; (again.index(), arena.len()), (len, len + 1));
+        assert_eq!(rt;
+            (again.index(), arena.len()),
+            (handle.index(), handle.index() + 1)
+        );
     }
     for (handle, item) in arena.iter() {
         assert_eq!(rt; handle.index(), *item as usize);
     }
-    assert_eq!(rt; arena.len(), 20);
     Ok(())
 }
 
