@@ -8,6 +8,7 @@ mod flags;
 mod function;
 mod image;
 mod items;
+pub mod laws;
 mod literal;
 pub mod mark;
 mod module;
@@ -42,7 +43,8 @@ pub use operators::{
 pub use proc::{
     Alignment, ExpressionOperands, KnownIndex, Label, LayoutError, LayoutErrorInner, Layouter,
     MAX_TYPE_SIZE, Operands, ResolveArraySizeError, StatementOperands, TypeLayout, TypeResolution,
-    UpdateError, compare_types, expression_operands, statement_operands, types_backward,
+    UpdateError, compare_types, expression_operands, sizes_in_range, statement_operands,
+    types_backward,
 };
 pub use scalar::{CooperativeRole, CooperativeSize, Scalar, ScalarKind, VectorSize};
 pub use statement::{
