@@ -1,8 +1,13 @@
 -- Layouts over those of earlier types.
-use Rattle.std.proofs.Common.{◌≡◌, ◌∙◌, ap, sym, refl, subst, ℕ, zero, suc, ◌+◌, ◌<◌, ◌≤◌, nat_lt, max, List, [], ◌∷◌, ◌++◌, length, slice_get, map, Option, Some, None, Result, Ok, Bool, true, false, if◌then◌else◌, ◌⊎◌, inl, inr, arith, rules, length-append}
-use Rattle.std.proofs.lemmas.Option.{slice_get_within, slice_get_cases}
-use Rattle.shader_ir.specs.Layout.{alignment_of, greatest_of, greatest_held, held_alignment, held_of, member_fault, part_fault, fault_of, sized_fault, held_layout, sized_layout, faulty_or, layout_of, or_zero, AreLayouts}
-use Rattle.shader_ir.specs.Sizes.{size_of}
+use Rattle.std.proofs.Common.{◌≡◌, ◌∙◌, ap, sym, refl, subst, ℕ, zero, suc, ◌+◌, ◌<◌, ◌≤◌, nat_lt, max, List, [], ◌∷◌, ◌++◌, length, map, slice_get, take, get_or, Option, Some, None, Result, Ok, if◌then◌else◌, unwrap_or, ◌⊎◌, inl, inr, arith, rules, length-append}
+use Rattle.std.specs.List.{enumerate_from}
+use Rattle.std.specs.Option.{option_map}
+use Rattle.std.proofs.lemmas.Bool.{cases_lt}
+use Rattle.std.proofs.lemmas.List.{length-map, length-take, take_more}
+use Rattle.std.proofs.lemmas.Option.{slice_get_within, slice_get-map, get_or_from_slice_get}
+use Rattle.shader_ir.specs.HeldLayouts.{faulty_or, greatest_held, held_alignment, held_layout, held_of, sized_layout}
+use Rattle.shader_ir.specs.Layout.{alignment_of, greatest_of, member_fault, part_fault, layout_fault, sized_fault, fault_at, layout_of, layouts_of, size_of_type, AreFaultless, AreFirstLayouts}
+use Rattle.shader_ir.specs.Sizes.{AreSizesInRange, AreTypeSizesInRange, IsTypeSizeInRange}
 use Rattle.shader_ir.specs.TypeTree.{type_handles, TypeTree, TypeTrees, Node, NoTree, OneTree, put_tree, trees_at, tree_within, tree_of}
 use Rattle.shader_ir.specs.declared.proc.layouter.LayoutErrorInner.{LayoutErrorInner}
 use Rattle.shader_ir.specs.declared.proc.layouter.LayoutErrorInner.TheVariants.{InvalidArrayElementType, InvalidStructMemberType}
@@ -30,176 +35,212 @@ members_earlier place index member members fine = search (rules, fine)
 abbrev ty_of : StructMember → ℕ
 ty_of member = member.ty
 
-module _ (types : List «Type») where
+abbrev over : List «Type» → (TypeInner → TypeTree) → List StructMember → TypeTrees
+over types f members = trees_at f types (map ty_of members)
+
+-- two lists that have the same types below a bound, where no type has a fault
+module _ (types others : List «Type») (bound : ℕ) (agree : (place : ℕ) → place < bound → slice_get types place ≡ slice_get others place) where
   -- f and g give the types below a place equal alignments
   abbrev AreAlike : (TypeInner → ℕ) → (TypeInner → ℕ) → ℕ → Type 0
   AreAlike f g place = (handle : ℕ) (type : «Type») → handle < place → slice_get types handle ≡ Some type → f type.inner ≡ g type.inner
 
-  abbrev over : (TypeInner → TypeTree) → List StructMember → TypeTrees
-  over f members = trees_at f types (map ty_of members)
-
-  greatest_alike : (f g : TypeInner → TypeTree) (place : ℕ) → AreAlike (λ inner. alignment_of (f inner)) (λ inner. alignment_of (g inner)) place
+  greatest_alike : (f g : TypeInner → TypeTree) (place : ℕ) → place ≤ bound → AreAlike (λ inner. alignment_of (f inner)) (λ inner. alignment_of (g inner)) place
       → (index : ℕ) (members : List StructMember) → member_fault place index members ≡ None
-      → greatest_of (over f members) ≡ greatest_of (over g members)
-  greatest_alike f g place alike index [] fine = refl
-  greatest_alike f g place alike index (member ∷ members) fine =
+      → greatest_of (over types f members) ≡ greatest_of (over others g members)
+  greatest_alike f g place within alike index [] fine = refl
+  greatest_alike f g place within alike index (member ∷ members) fine =
       let earlier = members_earlier place index member members fine in
-      by (earlier.0) (greatest_alike f g place alike (index + 1) members (earlier.1)) (slice_get types member.ty) refl
+      by (earlier.0) (greatest_alike f g place within alike (index + 1) members (earlier.1)) (slice_get types member.ty) refl
     where
-      by : member.ty < place → greatest_of (over f members) ≡ greatest_of (over g members) → (o : Option «Type») → slice_get types member.ty ≡ o
-          → greatest_of (put_tree f (slice_get types member.ty) (over f members)) ≡ greatest_of (put_tree g (slice_get types member.ty) (over g members))
-      by lt tail None e = rw e tail
-      by lt tail (Some type) e = rw e (λ i. max (alike member.ty type lt e i) (tail i))
+      by : member.ty < place → greatest_of (over types f members) ≡ greatest_of (over others g members) → (o : Option «Type») → slice_get types member.ty ≡ o
+          → greatest_of (put_tree f (slice_get types member.ty) (over types f members)) ≡ greatest_of (put_tree g (slice_get others member.ty) (over others g members))
+      by lt tail None e = rw (sym (agree member.ty (omega arith)), e) tail
+      by lt tail (Some type) e = rw (sym (agree member.ty (omega arith)), e) (λ i. max (alike member.ty type lt e i) (tail i))
 
   -- so they give a type at the place equal alignments
-  alignment_alike : (f g : TypeInner → TypeTree) (place : ℕ) → AreAlike (λ inner. alignment_of (f inner)) (λ inner. alignment_of (g inner)) place
+  alignment_alike : (f g : TypeInner → TypeTree) (place : ℕ) → place ≤ bound → AreAlike (λ inner. alignment_of (f inner)) (λ inner. alignment_of (g inner)) place
       → (inner : TypeInner) → part_fault place inner ≡ None
-      → alignment_of (Node inner (trees_at f types (type_handles inner))) ≡ alignment_of (Node inner (trees_at g types (type_handles inner)))
-  alignment_alike f g place alike (Struct members span) fine = greatest_alike f g place alike 0 members fine
-  alignment_alike f g place alike (Array base size stride) fine = by (base_earlier place base fine) (slice_get types base) refl
+      → alignment_of (Node inner (trees_at f types (type_handles inner))) ≡ alignment_of (Node inner (trees_at g others (type_handles inner)))
+  alignment_alike f g place within alike (Struct members span) fine = greatest_alike f g place within alike 0 members fine
+  alignment_alike f g place within alike (Array base size stride) fine = by (base_earlier place base fine) (slice_get types base) refl
     where
       by : base < place → (o : Option «Type») → slice_get types base ≡ o
-          → alignment_of (Node (Array base size stride) (put_tree f (slice_get types base) NoTree)) ≡ alignment_of (Node (Array base size stride) (put_tree g (slice_get types base) NoTree))
-      by lt None e = rw e refl
-      by lt (Some type) e = rw e (alike base type lt e)
-  alignment_alike f g place alike inner fine = refl
+          → alignment_of (Node (Array base size stride) (put_tree f (slice_get types base) NoTree)) ≡ alignment_of (Node (Array base size stride) (put_tree g (slice_get others base) NoTree))
+      by lt None e = rw (sym (agree base (omega arith)), e) refl
+      by lt (Some type) e = rw (sym (agree base (omega arith)), e) (alike base type lt e)
+  alignment_alike f g place within alike inner fine = refl
 
-  module _ (bound : ℕ) (sound : (place : ℕ) (type : «Type») → place < bound → slice_get types place ≡ Some type → part_fault place type.inner ≡ None) where
+  module _ (sound : (place : ℕ) (type : «Type») → place < bound → slice_get types place ≡ Some type → part_fault place type.inner ≡ None) where
     -- any depth from the place on gives the same alignment
     enough : (m n place : ℕ) (inner : TypeInner) → place ≤ m → place ≤ n → place ≤ bound → part_fault place inner ≡ None
-        → alignment_of (tree_within (suc m) types inner) ≡ alignment_of (tree_within (suc n) types inner)
+        → alignment_of (tree_within (suc m) types inner) ≡ alignment_of (tree_within (suc n) others inner)
     unfolding tree_within
     enough zero n place inner le le' within fine =
-        alignment_alike (tree_within zero types) (tree_within n types) place (λ handle type lt at. absurd (omega arith)) inner fine
+        alignment_alike (tree_within zero types) (tree_within n others) place within (λ handle type lt at. absurd (omega arith)) inner fine
     enough (suc m) zero place inner le le' within fine =
-        alignment_alike (tree_within (suc m) types) (tree_within zero types) place (λ handle type lt at. absurd (omega arith)) inner fine
+        alignment_alike (tree_within (suc m) types) (tree_within zero others) place within (λ handle type lt at. absurd (omega arith)) inner fine
     enough (suc m) (suc n) place inner le le' within fine =
-        alignment_alike (tree_within (suc m) types) (tree_within (suc n) types) place
+        alignment_alike (tree_within (suc m) types) (tree_within (suc n) others) place within
         (λ handle type lt at. enough m n handle type.inner (omega arith) (omega arith) (omega arith) (sound handle type (omega arith) at)) inner fine
 
-    -- a type that is held has in a tree the alignment that it has alone
-    child_alike : (place : ℕ) (type : «Type») → place < bound → slice_get types place ≡ Some type
-        → alignment_of (tree_within (length types) types type.inner) ≡ alignment_of (tree_of types type.inner)
+    -- a type without fault has one alignment among either's types
+    pub same_alignment : (place : ℕ) (inner : TypeInner) → place ≤ bound → place ≤ length types → place ≤ length others → part_fault place inner ≡ None
+        → alignment_of (tree_of types inner) ≡ alignment_of (tree_of others inner)
     unfolding tree_within
-    child_alike place type lt at = by (length types) refl (slice_get_within types place type at)
-      where
-        by : (n : ℕ) → length types ≡ n → place < n → alignment_of (tree_within (length types) types type.inner) ≡ alignment_of (tree_within (suc (length types)) types type.inner)
-        by zero e less = absurd (omega arith)
-        by (suc n) e less =
-            subst (λ m. alignment_of (tree_within m types type.inner) ≡ alignment_of (tree_within (suc m) types type.inner)) (sym e)
-            (enough n (suc n) place type.inner (omega arith) (omega arith) (omega arith) (sound place type lt at))
+    same_alignment place inner within le le' fine = enough (length types) (length others) place inner le le' within fine
+
+-- a type that is held has in a tree the alignment that it has alone
+child_alike : (types : List «Type») (bound : ℕ) → ((place : ℕ) (type : «Type») → place < bound → slice_get types place ≡ Some type → part_fault place type.inner ≡ None)
+    → (place : ℕ) (type : «Type») → place < bound → slice_get types place ≡ Some type
+    → alignment_of (tree_within (length types) types type.inner) ≡ alignment_of (tree_of types type.inner)
+unfolding tree_within
+child_alike types bound sound place type lt at = by (length types) refl (slice_get_within types place type at)
+  where
+    by : (n : ℕ) → length types ≡ n → place < n → alignment_of (tree_within (length types) types type.inner) ≡ alignment_of (tree_within (suc (length types)) types type.inner)
+    by zero e less = absurd (omega arith)
+    by (suc n) e less =
+        subst (λ m. alignment_of (tree_within m types type.inner) ≡ alignment_of (tree_within (suc m) types type.inner)) (sym e)
+        (enough types types bound (λ _ _. refl) sound n (suc n) place type.inner (omega arith) (omega arith) (omega arith) (sound place type lt at))
 
 -- a size and no fault
-sized_parts : (size : Option ℕ) (place : ℕ) (inner : TypeInner) (ctx : GlobalCtx)
-    → sized_fault ctx size place inner ≡ None → part_fault place inner ≡ None
-sized_parts None place inner ctx fine = absurd (cc)
-sized_parts (Some size) place inner ctx fine = fine
+sized_parts : (size : Option ℕ) (place : ℕ) (inner : TypeInner) → sized_fault size place inner ≡ None → part_fault place inner ≡ None
+sized_parts None place inner fine = absurd (cc)
+sized_parts (Some size) place inner fine = fine
 
-get_before : {T : Type 0} → (xs ys : List T) (place : ℕ) → place < length xs → slice_get (xs ++ ys) place ≡ slice_get xs place
-get_before [] ys place lt = absurd (omega arith)
-get_before (x ∷ xs) ys zero lt = refl
-get_before (x ∷ xs) ys (suc place) lt = get_before xs ys place (omega arith)
-
-get_last : {T : Type 0} → (xs : List T) (x : T) → slice_get (xs ++ x ∷ []) (length xs) ≡ Some x
-get_last [] x = refl
-get_last (y ∷ xs) x = get_last xs x
-
-found : {T : Type 0} → (xs : List T) (place : ℕ) → place < length xs → (x : T) × (slice_get xs place ≡ Some x)
+pub found : {T : Type 0} → (xs : List T) (place : ℕ) → place < length xs → (x : T) × (slice_get xs place ≡ Some x)
 found [] place lt = absurd (omega arith)
 found (x ∷ xs) zero lt = (x, refl)
 found (x ∷ xs) (suc place) lt = found xs place (omega arith)
 
-before_or_last : (place n : ℕ) → place < n + 1 → (place < n) ⊎ (place ≡ n)
-before_or_last zero zero lt = inr refl
-before_or_last zero (suc n) lt = inl (omega arith)
-before_or_last (suc place) zero lt = absurd (omega arith)
-before_or_last (suc place) (suc n) lt =
-    elim (before_or_last place n (omega arith)) as (λ _. (suc place < suc n) ⊎ (suc place ≡ suc n)) [ inl less ↦ inl (omega arith) | inr same ↦ inr (ap suc same) ]
+pub get_taken : {T : Type 0} → (n : ℕ) (xs : List T) (place : ℕ) → place < n → slice_get (take n xs) place ≡ slice_get xs place
+get_taken zero xs place lt = absurd (omega arith)
+get_taken (suc n) [] place lt = refl
+get_taken (suc n) (x ∷ xs) zero lt = refl
+get_taken (suc n) (x ∷ xs) (suc place) lt = get_taken n xs place (omega arith)
 
-module _ (ctx : GlobalCtx) (layouts : List TypeLayout) where
+pub take_whole : {T : Type 0} → (n : ℕ) (xs : List T) → length xs ≤ n → take n xs ≡ xs
+take_whole zero [] le = refl
+take_whole zero (x ∷ xs) le = absurd (omega arith)
+take_whole (suc n) [] le = refl
+take_whole (suc n) (x ∷ xs) le = ap (λ ys. x ∷ ys) (take_whole n xs (omega arith))
+
+-- the sizes of all types in range are those of each
+pub size_in_range : (ctx : GlobalCtx) → AreTypeSizesInRange ctx → (place : ℕ) (type : «Type») → slice_get ctx.types.now place ≡ Some type
+    → IsTypeSizeInRange ctx type.inner
+size_in_range ctx all place type at = from 0 ctx.types.now place all at
+  where
+    from : (first : ℕ) (types : List «Type») (place : ℕ) → AreSizesInRange ctx (enumerate_from first types) → slice_get types place ≡ Some type
+        → IsTypeSizeInRange ctx type.inner
+    from first [] place ranged at = absurd (cc)
+    from first (t ∷ types) zero ranged at = let same : t ≡ type = cc in subst (λ (u : «Type»). IsTypeSizeInRange ctx u.inner) same (ranged.0)
+    from first (t ∷ types) (suc place) ranged at = from (first + 1) types place (ranged.1) at
+
+module _ (ctx : GlobalCtx) where
   abbrev types : List «Type»
   types = ctx.types.now
 
-  abbrev size_in : TypeInner → Option ℕ
-  size_in = size_of ctx
-
-  module _ (held : AreLayouts ctx layouts) where
-    sound : (place : ℕ) (type : «Type») → place < length layouts → slice_get types place ≡ Some type → part_fault place type.inner ≡ None
-    sound place type lt at = sized_parts _ place type.inner ctx (held.sound place type lt at)
-
-    child_is : (place : ℕ) (type : «Type») → place < length layouts → slice_get types place ≡ Some type
-        → held_of (slice_get layouts place) ≡ alignment_of (tree_within (length types) types type.inner)
-    child_is place type lt at = ap held_of (held.laid_out place type lt at) ∙ sym (child_alike types (length layouts) sound place type lt at)
-
-    greatest_is : (index : ℕ) (members : List StructMember) → member_fault (length layouts) index members ≡ None
-        → greatest_held layouts members ≡ greatest_of (over types (tree_within (length types) types) members)
-    greatest_is index [] fine = refl
-    greatest_is index (member ∷ members) fine =
-        let earlier = members_earlier (length layouts) index member members fine in
-        let within = held.within in
-        let at = found types member.ty (omega arith) in
-        let head = child_is member.ty (at.0) (earlier.0) (at.1) in
-        let tail = greatest_is (index + 1) members (earlier.1) in
-        rw (at.1) (λ i. max (head i) (tail i))
-
-    -- over held layouts a type has the alignment of its tree
-    held_is : (inner : TypeInner) → part_fault (length layouts) inner ≡ None → held_alignment layouts inner ≡ alignment_of (tree_of types inner)
-    unfolding tree_within
-    held_is (Struct members span) fine = greatest_is 0 members fine
-    held_is (Array base size stride) fine =
-        let lt = base_earlier (length layouts) base fine in
-        let within = held.within in
-        let at = found types base (omega arith) in
-        rw (at.1) (child_is base (at.0) lt (at.1))
-    held_is inner fine = refl
-
-  -- a layout that was made has a size and no fault
-  made : (size : Option ℕ) (place : ℕ) (inner : TypeInner) (layout : TypeLayout) → sized_layout ctx size layouts place inner ≡ Ok layout
-      → (sized_fault ctx size place inner ≡ None) × (layout ≡ record { size = or_zero ctx size; alignment = held_alignment layouts inner })
-  made None place inner layout is = absurd (cc)
-  made (Some size) place inner layout is = by (part_fault place inner) is
+  -- one more type without fault
+  pub faultless_more : (first end next : ℕ) → next ≡ end + 1 → AreFaultless ctx first end → fault_at ctx end ≡ Some None → AreFaultless ctx first next
+  faultless_more first end next is before here place le lt = by (cases_lt place end)
     where
-      by : (fault : Option LayoutErrorInner) → faulty_or fault (record { size = size; alignment = held_alignment layouts inner }) ≡ Ok layout
-          → (fault ≡ None) × (layout ≡ record { size = size; alignment = held_alignment layouts inner })
-      by None e = (refl, cc)
-      by (Some fault) e = absurd (cc)
+      by : (place < end) ⊎ (end ≤ place) → fault_at ctx place ≡ Some None
+      by (inl less) = before place le less
+      by (inr more) = let same : place ≡ end = omega arith in rw same here
+
+  -- a type that is there has the fault of its place
+  pub at_place : (place : ℕ) (type : «Type») → slice_get types place ≡ Some type → fault_at ctx place ≡ Some (layout_fault ctx place type.inner)
+  at_place place type at = ap (λ o. option_map (λ (t : «Type»). layout_fault ctx place t.inner) o) at
 
   abbrev layout_in : TypeInner → TypeLayout
   layout_in inner = layout_of ctx (tree_of types inner)
 
-  made_is : AreLayouts ctx layouts → (inner : TypeInner) (layout : TypeLayout) → part_fault (length layouts) inner ≡ None
-      → layout ≡ record { size = or_zero ctx (size_in inner); alignment = held_alignment layouts inner } → layout ≡ layout_in inner
-  unfolding tree_within
-  made_is held inner layout fine is =
-      is ∙ ap (λ (n : ℕ). let l : TypeLayout = record { size = or_zero ctx (size_in inner); alignment = n } in l) (held_is held inner fine)
+  layout_at : (place : ℕ) (type : «Type») → slice_get types place ≡ Some type → slice_get (layouts_of ctx) place ≡ Some (layout_in type.inner)
+  layout_at place type at = slice_get-map (λ (t : «Type»). layout_in t.inner) types place ∙ ap (λ o. option_map (λ (t : «Type»). layout_in t.inner) o) at
 
-  -- one more layout
-  pub one_more : (type : «Type») (layout : TypeLayout) → slice_get types (length layouts) ≡ Some type
-      → held_layout ctx layouts (length layouts) type.inner ≡ Ok layout
-      → AreLayouts ctx layouts → AreLayouts ctx (layouts ++ layout ∷ [])
-  one_more type layout at is held =
-      let parts = made (size_in type.inner) (length layouts) type.inner layout is in
-      let fine = sized_parts _ (length layouts) type.inner ctx (parts.0) in
-      let whole = made_is held type.inner layout fine (parts.1) in
-      let longer = length-append layouts (layout ∷ []) in
-      let inside = slice_get_within types (length layouts) type at in
-      record {
-        within = omega arith;
-        sound = λ place other lt at'. by_sound (parts.0) place other at' (before_or_last place (length layouts) (omega arith));
-        laid_out = λ place other lt at'. by_layout whole place other at' (before_or_last place (length layouts) (omega arith));
-      }
-    where
-      same : (other : «Type») → slice_get types (length layouts) ≡ Some other → type ≡ other
-      same other at' = cc
+  count_of_layouts : length (layouts_of ctx) ≡ length types
+  count_of_layouts = length-map types (λ (t : «Type»). layout_in t.inner)
 
-      by_sound : fault_of ctx (length layouts) type.inner ≡ None → (place : ℕ) (other : «Type») → slice_get types place ≡ Some other
-          → (place < length layouts) ⊎ (place ≡ length layouts) → fault_of ctx place other.inner ≡ None
-      by_sound none place other at' (inl less) = held.sound place other less at'
-      by_sound none place other at' (inr last) =
-          rw last (subst (λ (t : «Type»). fault_of ctx (length layouts) t.inner ≡ None) (same other (rw last at at')) none)
+  module _ (layouts : List TypeLayout) where
+    -- a layout that was made has a size and no fault
+    made : (size : Option ℕ) (place : ℕ) (inner : TypeInner) (layout : TypeLayout) → sized_layout size layouts place inner ≡ Ok layout
+        → (sized_fault size place inner ≡ None) × (layout ≡ record { size = unwrap_or size 0; alignment = held_alignment layouts inner })
+    made None place inner layout is = absurd (cc)
+    made (Some size) place inner layout is = by (part_fault place inner) is
+      where
+        by : (fault : Option LayoutErrorInner) → faulty_or fault (record { size = size; alignment = held_alignment layouts inner }) ≡ Ok layout
+            → (fault ≡ None) × (layout ≡ record { size = size; alignment = held_alignment layouts inner })
+        by None e = (refl, cc)
+        by (Some fault) e = absurd (cc)
 
-      by_layout : layout ≡ layout_in type.inner → (place : ℕ) (other : «Type») → slice_get types place ≡ Some other
-          → (place < length layouts) ⊎ (place ≡ length layouts) → slice_get (layouts ++ layout ∷ []) place ≡ Some (layout_in other.inner)
-      by_layout whole place other at' (inl less) = get_before layouts (layout ∷ []) place less ∙ held.laid_out place other less at'
-      by_layout whole place other at' (inr last) =
-          rw last (get_last layouts layout ∙ ap Some whole ∙ ap (λ (t : «Type»). Some (layout_in t.inner)) (same other (rw last at at')))
+    -- so its type has none
+    pub made_faultless : (place : ℕ) (type : «Type») (layout : TypeLayout) → slice_get types place ≡ Some type
+        → held_layout ctx layouts place type.inner ≡ Ok layout → fault_at ctx place ≡ Some None
+    made_faultless place type layout at is = at_place place type at ∙ ap Some ((made (size_of_type ctx type.inner) place type.inner layout is).0)
+
+    module _ (held : AreFirstLayouts ctx layouts) where
+      pub within : length layouts ≤ length types
+      within = omega (arith, ap length held.first, length-take (length layouts) (layouts_of ctx), count_of_layouts)
+
+      pub sound : (place : ℕ) (type : «Type») → place < length layouts → slice_get types place ≡ Some type → part_fault place type.inner ≡ None
+      sound place type lt at =
+          let fine = held.faultless place (omega arith) lt in
+          let at' = at_place place type at in
+          let none : layout_fault ctx place type.inner ≡ None = cc in
+          sized_parts (size_of_type ctx type.inner) place type.inner none
+
+      laid_out : (place : ℕ) (type : «Type») → place < length layouts → slice_get types place ≡ Some type → slice_get layouts place ≡ Some (layout_in type.inner)
+      laid_out place type lt at =
+          ap (λ ls. slice_get ls place) held.first ∙ get_taken (length layouts) (layouts_of ctx) place lt ∙ layout_at place type at
+
+      -- where all types are laid out, these are all layouts
+      pub all_layouts : length types ≤ length layouts → layouts ≡ layouts_of ctx
+      all_layouts whole = held.first ∙ take_whole (length layouts) (layouts_of ctx) (omega (arith, count_of_layouts))
+
+      child_is : (place : ℕ) (type : «Type») → place < length layouts → slice_get types place ≡ Some type
+          → held_of (slice_get layouts place) ≡ alignment_of (tree_within (length types) types type.inner)
+      child_is place type lt at =
+          ap held_of (laid_out place type lt at) ∙ sym (child_alike types (length layouts) sound place type lt at)
+
+      greatest_is : (index : ℕ) (members : List StructMember) → member_fault (length layouts) index members ≡ None
+          → greatest_held layouts members ≡ greatest_of (over types (tree_within (length types) types) members)
+      greatest_is index [] fine = refl
+      greatest_is index (member ∷ members) fine =
+          let earlier = members_earlier (length layouts) index member members fine in
+          let at = found types member.ty (omega (arith, within)) in
+          let head = child_is member.ty (at.0) (earlier.0) (at.1) in
+          let tail = greatest_is (index + 1) members (earlier.1) in
+          rw (at.1) (λ i. max (head i) (tail i))
+
+      -- over held layouts a type has the alignment of its tree
+      held_is : (inner : TypeInner) → part_fault (length layouts) inner ≡ None → held_alignment layouts inner ≡ alignment_of (tree_of types inner)
+      unfolding tree_within
+      held_is (Struct members span) fine = greatest_is 0 members fine
+      held_is (Array base size stride) fine =
+          let lt = base_earlier (length layouts) base fine in
+          let at = found types base (omega (arith, within)) in
+          rw (at.1) (child_is base (at.0) lt (at.1))
+      held_is inner fine = refl
+
+      made_is : (inner : TypeInner) (layout : TypeLayout) → part_fault (length layouts) inner ≡ None
+          → layout ≡ record { size = unwrap_or (size_of_type ctx inner) 0; alignment = held_alignment layouts inner } → layout ≡ layout_in inner
+      unfolding tree_within
+      made_is inner layout fine is =
+          is ∙ ap (λ (n : ℕ). let l : TypeLayout = record { size = unwrap_or (size_of_type ctx inner) 0; alignment = n } in l) (held_is inner fine)
+
+      -- one more layout
+      pub one_more : (type : «Type») (layout : TypeLayout) → slice_get types (length layouts) ≡ Some type
+          → held_layout ctx layouts (length layouts) type.inner ≡ Ok layout → AreFirstLayouts ctx (layouts ++ layout ∷ [])
+      one_more type layout at is =
+          let parts = made (size_of_type ctx type.inner) (length layouts) type.inner layout is in
+          let whole = made_is type.inner layout (sized_parts (size_of_type ctx type.inner) (length layouts) type.inner (parts.0)) (parts.1) in
+          let here = layout_at (length layouts) type at in
+          let lt = slice_get_within types (length layouts) type at in
+          let last = get_or_from_slice_get (layouts_of ctx) (length layouts) (layout_in type.inner) layout here in
+          let longer : length (layouts ++ layout ∷ []) ≡ length layouts + 1 = length-append layouts (layout ∷ []) in
+          record {
+            first =
+                (λ i. held.first i ++ (whole ∙ sym last) i ∷ [])
+                ∙ sym (take_more (layouts_of ctx) (length layouts) layout (omega (arith, count_of_layouts)))
+                ∙ ap (λ n. take n (layouts_of ctx)) (sym longer);
+            faultless = faultless_more 0 (length layouts) _ longer held.faultless (made_faultless (length layouts) type layout at is);
+          }

@@ -1,4 +1,5 @@
 pub mod KeyLemmas
+pub mod LayoutLawLemmas
 pub mod LayoutLemmas
 pub mod PowerLemmas
 pub mod SlotLemmas

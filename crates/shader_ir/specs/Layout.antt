@@ -1,8 +1,9 @@
--- Layouts of types, and why a type has none.
-use Rattle.std.specs.Prelude.{◌≡◌, ℕ, ◌+◌, ◌-◌, ◌*◌, ◌^◌, ◌<◌, ◌≤◌, nat_lt, max, min, List, [], ◌∷◌, length, slice_get, Option, Some, None, Result, Ok, Err, if◌then◌else◌}
-use Rattle.std.specs.Int.{is_power_of_two}
-use Rattle.shader_ir.specs.Alignments.{cooperative_count, vector_alignment}
-use Rattle.shader_ir.specs.Sizes.{AreSizesInRange, size_of}
+-- The sizes, alignments and layouts of types, and why a type has none.
+use Rattle.std.specs.Prelude.{◌≡◌, ℕ, ◌+◌, ◌-◌, ◌*◌, ◌^◌, ◌<◌, ◌≤◌, nat_lt, max, min, List, [], ◌∷◌, length, map, slice_get, take, Option, Some, None, unwrap_or, if◌then◌else◌}
+use Rattle.std.specs.Int.{is_power_of_two, next_multiple_of}
+use Rattle.std.specs.Option.{option_map}
+use Rattle.shader_ir.specs.Alignments.{cooperative_count, vector_alignment, vector_count}
+use Rattle.shader_ir.specs.Sizes.{array_bytes, array_count, limited}
 use Rattle.shader_ir.specs.TypeTree.{TypeTree, Node, TypeTrees, NoTree, OneTree, tree_of}
 use Rattle.shader_ir.specs.declared.proc.layouter.LayoutErrorInner.{LayoutErrorInner}
 use Rattle.shader_ir.specs.declared.proc.layouter.LayoutErrorInner.TheVariants.{InvalidArrayElementType, InvalidStructMemberType, NonPowerOfTwoWidth, TooLarge}
@@ -14,9 +15,9 @@ use Rattle.shader_ir.specs.declared.scalar.Scalar as s
 use Rattle.shader_ir.specs.declared.types.«Type».{«Type»}
 use Rattle.shader_ir.specs.declared.types.StructMember.{StructMember}
 use Rattle.shader_ir.specs.declared.types.TypeInner.{TypeInner}
-use Rattle.shader_ir.specs.declared.types.TypeInner.TheVariants.{Scalar, Vector, Matrix, CooperativeMatrix, Atomic, Array, Struct}
+use Rattle.shader_ir.specs.declared.types.TypeInner.TheVariants.{Scalar, Vector, Matrix, CooperativeMatrix, Atomic, Pointer, ValuePointer, Array, Struct, Image, Sampler, AccelerationStructure, RayQuery, BindingArray}
 
--- the alignment of a type that has no parts
+-- the alignment of a type that is built of no other
 abbrev pub own_alignment : TypeInner → ℕ
 own_alignment (Scalar scalar) = scalar.width
 own_alignment (Atomic scalar) = scalar.width
@@ -26,7 +27,7 @@ own_alignment (CooperativeMatrix columns rows scalar role) = cooperative_count r
 own_alignment _ = 1
 
 abbrev mutual
-  -- the alignment of a type: an array's is that of its base, a struct's the greatest of its members
+  -- the alignment of a type: an array's is that of its base, a struct's the greatest of its members, at least 1
   pub alignment_of : TypeTree → ℕ
   alignment_of (Node (Array base size stride) (OneTree tree trees)) = alignment_of tree
   alignment_of (Node (Struct members span) trees) = greatest_of trees
@@ -43,13 +44,13 @@ root_of (Node inner trees) = inner
 abbrev pub width_fault : s.Scalar → Option LayoutErrorInner
 width_fault scalar = if is_power_of_two scalar.width then None else Some NonPowerOfTwoWidth
 
--- the first member, counted from a first one on, whose type isn't earlier
+-- the first member, counted from a first one on, whose type isn't earlier than the place
 abbrev pub member_fault : ℕ → ℕ → List StructMember → Option LayoutErrorInner
 member_fault place index [] = None
 member_fault place index (member ∷ members) =
     if nat_lt member.ty place then member_fault place (index + 1) members else Some (InvalidStructMemberType (min index (2 ^ 32 - 1)) member.ty)
 
--- a width that is no power of two, or a part whose type isn't earlier
+-- a width that the alignment reads and that is no power of two, or a part whose type isn't earlier
 abbrev pub part_fault : ℕ → TypeInner → Option LayoutErrorInner
 part_fault place (Scalar scalar) = width_fault scalar
 part_fault place (Atomic scalar) = width_fault scalar
@@ -60,66 +61,58 @@ part_fault place (Array base size stride) = if nat_lt base place then None else 
 part_fault place (Struct members span) = member_fault place 0 members
 part_fault place _ = None
 
--- a value, where there is no fault
-abbrev pub faulty_or : {T : Type 0} → Option LayoutErrorInner → T → Result T LayoutErrorInner
-faulty_or None value = Ok value
-faulty_or (Some fault) value = Err fault
+abbrev pub sized_fault : Option ℕ → ℕ → TypeInner → Option LayoutErrorInner
+sized_fault None place inner = Some TooLarge
+sized_fault (Some size) place inner = part_fault place inner
 
--- the alignment among held layouts
-abbrev pub held_of : Option TypeLayout → ℕ
-held_of (Some layout) = layout.alignment
-held_of None = 1
-
-abbrev pub greatest_held : List TypeLayout → List StructMember → ℕ
-greatest_held layouts [] = 1
-greatest_held layouts (member ∷ members) = max (held_of (slice_get layouts member.ty)) (greatest_held layouts members)
-
-abbrev pub held_alignment : List TypeLayout → TypeInner → ℕ
-held_alignment layouts (Array base size stride) = held_of (slice_get layouts base)
-held_alignment layouts (Struct members span) = greatest_held layouts members
-held_alignment layouts inner = own_alignment inner
+-- the stride of an array of types of the layout is below 2 ^ 32
+abbrev pub HasStride : TypeLayout → Type 0
+HasStride layout = next_multiple_of layout.size layout.alignment < 2 ^ 32
 
 module _ (ctx : GlobalCtx) where
-  -- the fault of the type at a place: its size comes first
-  abbrev pub sized_fault : Option ℕ → ℕ → TypeInner → Option LayoutErrorInner
-  sized_fault None place inner = Some TooLarge
-  sized_fault (Some size) place inner = part_fault place inner
+  -- the size of a type in bytes, where no count, product or span is above the limit
+  abbrev pub size_of_type : TypeInner → Option ℕ
+  size_of_type (Scalar scalar) = Some scalar.width
+  size_of_type (Atomic scalar) = Some scalar.width
+  size_of_type (Vector size scalar) = Some (vector_count size * scalar.width)
+  size_of_type (Matrix columns rows scalar) = Some (vector_alignment rows * scalar.width * vector_count columns)
+  size_of_type (CooperativeMatrix columns rows scalar role) = Some (cooperative_count columns * cooperative_count rows * scalar.width)
+  size_of_type (Pointer base space) = Some 4
+  size_of_type (ValuePointer size scalar space) = Some 4
+  size_of_type (Array base size stride) = array_bytes (array_count ctx size) stride
+  size_of_type (Struct members span) = limited span
+  size_of_type (Image dim arrayed class) = Some 0
+  size_of_type (Sampler comparison) = Some 0
+  size_of_type (AccelerationStructure vertex_return) = Some 0
+  size_of_type (RayQuery vertex_return) = Some 0
+  size_of_type (BindingArray base size) = Some 0
 
-  abbrev pub fault_of : ℕ → TypeInner → Option LayoutErrorInner
-  fault_of place inner = sized_fault (size_of ctx inner) place inner
-
-  abbrev pub or_zero : Option ℕ → ℕ
-  or_zero (Some size) = size
-  or_zero None = 0
-
-  -- the layout of a type
+  -- the layout of a type, by its tree
   abbrev pub layout_of : TypeTree → TypeLayout
-  layout_of tree = record { size = or_zero (size_of ctx (root_of tree)); alignment = alignment_of tree }
+  layout_of tree = record { size = unwrap_or (size_of_type (root_of tree)) 0; alignment = alignment_of tree }
 
-  -- the layout that a type has over those of its parts
-  abbrev pub sized_layout : Option ℕ → List TypeLayout → ℕ → TypeInner → Result TypeLayout LayoutErrorInner
-  sized_layout None layouts place inner = Err TooLarge
-  sized_layout (Some size) layouts place inner = faulty_or (part_fault place inner) (record { size = size; alignment = held_alignment layouts inner })
+  -- the layout fault of a type at a place: that it has no size comes first
+  abbrev pub layout_fault : ℕ → TypeInner → Option LayoutErrorInner
+  layout_fault place inner = sized_fault (size_of_type inner) place inner
 
-  abbrev pub held_layout : List TypeLayout → ℕ → TypeInner → Result TypeLayout LayoutErrorInner
-  held_layout layouts place inner = sized_layout (size_of ctx inner) layouts place inner
+  -- the layout fault of the type at a place, if it has one, where there is a type
+  abbrev pub fault_at : ℕ → Option (Option LayoutErrorInner)
+  fault_at place = option_map (λ (type : «Type»). layout_fault place type.inner) (slice_get ctx.types.now place)
 
-  -- each layout is that of the type at its place, which has no fault
-  pub record AreLayouts (layouts : List TypeLayout) : Type 0 where
-    pub within : length layouts ≤ length ctx.types.now
-    pub sound : (place : ℕ) (type : «Type») → place < length layouts → slice_get ctx.types.now place ≡ Some type → fault_of place type.inner ≡ None
-    pub laid_out : (place : ℕ) (type : «Type») → place < length layouts → slice_get ctx.types.now place ≡ Some type → slice_get layouts place ≡ Some (layout_of (tree_of ctx.types.now type.inner))
+  -- there is a type without fault at each place from a first one up to an end
+  abbrev pub AreFaultless : ℕ → ℕ → Type 0
+  AreFaultless first end = (place : ℕ) → first ≤ place → place < end → fault_at place ≡ Some None
 
-  -- the fault of the type at a place, if there are both
-  abbrev pub fault_in : ℕ → Option «Type» → Option LayoutErrorInner
-  fault_in place None = None
-  fault_in place (Some type) = fault_of place type.inner
+  -- the layouts of all types
+  abbrev pub layouts_of : List TypeLayout
+  layouts_of = map (λ (type : «Type»). layout_of (tree_of ctx.types.now type.inner)) ctx.types.now
 
-  -- an error of layout names the type at the place, and that type's fault
-  abbrev pub IsFaultAt : ℕ → UpdateError → Type 0
-  IsFaultAt place (Layout error) = (error.ty ≡ place) × (fault_in place (slice_get ctx.types.now place) ≡ Some error.inner)
-  IsFaultAt place OutOfMemory = Unit {0}
+  -- the layouts are those of the first types, which have no fault
+  pub record AreFirstLayouts (layouts : List TypeLayout) : Type 0 where
+    pub first : layouts ≡ take (length layouts) layouts_of
+    pub faultless : AreFaultless 0 (length layouts)
 
-  -- the sizes of all types can be looked for
-  abbrev pub AreAllInRange : Type 0
-  AreAllInRange = (place : ℕ) (type : «Type») → slice_get ctx.types.now place ≡ Some type → AreSizesInRange ctx type.inner
+  -- an error names the type at the place and its fault; for want of memory there is a type at the place
+  abbrev pub IsRefusalAt : ℕ → UpdateError → Type 0
+  IsRefusalAt place (Layout error) = (error.ty ≡ place) × (fault_at place ≡ Some (Some error.inner))
+  IsRefusalAt place OutOfMemory = place < length ctx.types.now

@@ -5,9 +5,11 @@ pub mod BodyFalls
 pub mod BodyOf
 pub mod BodySize
 pub mod Conversion
+pub mod HeldLayouts
 pub mod Key
 pub mod KnownNumbers
 pub mod Layout
+pub mod LayoutLaws
 pub mod LeafCode
 pub mod Occurs
 pub mod Operands

@@ -1,14 +1,15 @@
--- Sizes of types.
-use Rattle.std.specs.Prelude.{ℕ, ◌*◌, nat_le, List, Option, Some, None, Result, Ok, Err, if◌then◌else◌}
-use Rattle.shader_ir.specs.Alignments.{cooperative_count, vector_alignment, vector_count}
+-- How many items an array has, and sizes within the limit.
+use Rattle.std.specs.Prelude.{ℕ, ◌*◌, nat_le, List, [], ◌∷◌, Option, Some, None, if◌then◌else◌}
+use Rattle.std.specs.List.{enumerate_from}
+use Rattle.std.specs.Result.{result_unwrap_or}
 use Rattle.shader_ir.specs.KnownNumbers.{IsSizeInRange, override_size}
-use Rattle.shader_ir.specs.declared.proc.known_numbers.ResolveArraySizeError.{ResolveArraySizeError}
 use Rattle.shader_ir.specs.declared.module.GlobalCtx.{GlobalCtx}
 use Rattle.shader_ir.specs.declared.proc.sizes.TheConstants.{MAX_TYPE_SIZE}
+use Rattle.shader_ir.specs.declared.types.«Type».{«Type»}
 use Rattle.shader_ir.specs.declared.types.ArraySize.{ArraySize}
 use Rattle.shader_ir.specs.declared.types.ArraySize.TheVariants.{Constant, Pending, Dynamic}
 use Rattle.shader_ir.specs.declared.types.TypeInner.{TypeInner}
-use Rattle.shader_ir.specs.declared.types.TypeInner.TheVariants.{Scalar, Vector, Matrix, CooperativeMatrix, Atomic, Pointer, ValuePointer, Array, Struct}
+use Rattle.shader_ir.specs.declared.types.TypeInner.TheVariants.{Array}
 
 -- a size, where it isn't above the limit
 abbrev pub limited : ℕ → Option ℕ
@@ -18,15 +19,11 @@ limited size = if nat_le size MAX_TYPE_SIZE then Some size else None
 abbrev pub array_bytes : ℕ → ℕ → Option ℕ
 array_bytes count stride = if nat_le count MAX_TYPE_SIZE then limited (count * stride) else None
 
-abbrev pub known_or_none : Result ℕ ResolveArraySizeError → ℕ
-known_or_none (Ok count) = count
-known_or_none (Err error) = 0
-
 module _ (ctx : GlobalCtx) where
-  -- how many items an array has for its size
+  -- how many items an array has for its size: none where an override's size isn't known, one where it is sized at run time
   abbrev pub array_count : ArraySize → ℕ
   array_count (Constant count) = count
-  array_count (Pending handle) = known_or_none (override_size ctx handle)
+  array_count (Pending handle) = result_unwrap_or (override_size ctx handle) 0
   array_count Dynamic = 1
 
   -- the handles that an array's size is looked for through are in range
@@ -34,19 +31,15 @@ module _ (ctx : GlobalCtx) where
   IsCountInRange (Pending handle) = IsSizeInRange ctx handle
   IsCountInRange _ = Unit {0}
 
-  abbrev pub AreSizesInRange : TypeInner → Type 0
-  AreSizesInRange (Array base size stride) = IsCountInRange size
-  AreSizesInRange _ = Unit {0}
+  -- so are those that the size of a type is looked for through
+  abbrev pub IsTypeSizeInRange : TypeInner → Type 0
+  IsTypeSizeInRange (Array base size stride) = IsCountInRange size
+  IsTypeSizeInRange _ = Unit {0}
 
-  -- the size of a type, where no part of it is above the limit
-  abbrev pub size_of : TypeInner → Option ℕ
-  size_of (Scalar scalar) = Some scalar.width
-  size_of (Atomic scalar) = Some scalar.width
-  size_of (Vector size scalar) = Some (vector_count size * scalar.width)
-  size_of (Matrix columns rows scalar) = Some (vector_alignment rows * scalar.width * vector_count columns)
-  size_of (CooperativeMatrix columns rows scalar role) = Some (cooperative_count columns * cooperative_count rows * scalar.width)
-  size_of (Pointer base space) = Some 4
-  size_of (ValuePointer size scalar space) = Some 4
-  size_of (Array base size stride) = array_bytes (array_count size) stride
-  size_of (Struct members span) = limited span
-  size_of _ = Some 0
+  abbrev pub AreSizesInRange : List (ℕ × «Type») → Type 0
+  AreSizesInRange [] = Unit {0}
+  AreSizesInRange (entry ∷ rest) = IsTypeSizeInRange entry.1.inner × AreSizesInRange rest
+
+  -- and those of all types
+  abbrev pub AreTypeSizesInRange : Type 0
+  AreTypeSizesInRange = AreSizesInRange (enumerate_from 0 ctx.types.now)

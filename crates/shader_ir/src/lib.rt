@@ -8,6 +8,7 @@ mod flags;
 mod function;
 mod image;
 mod items;
+pub mod laws;
 mod literal;
 mod map;
 pub mod mark;
@@ -46,7 +47,8 @@ pub use operators::{
 pub use proc::{
     Alignment, ExpressionOperands, KnownIndex, Label, LayoutError, LayoutErrorInner, Layouter,
     MAX_TYPE_SIZE, Operands, ResolveArraySizeError, StatementOperands, TypeLayout, TypeResolution,
-    UpdateError, compare_types, expression_operands, statement_operands, types_backward,
+    UpdateError, compare_types, expression_operands, sizes_in_range, statement_operands,
+    types_backward,
 };
 pub use same::Same;
 pub use scalar::{CooperativeRole, CooperativeSize, Scalar, ScalarKind, VectorSize};

@@ -15,6 +15,6 @@ pub use layouter::{LayoutError, LayoutErrorInner, Layouter, TypeLayout, UpdateEr
 pub use operands::{
     ExpressionOperands, Label, Operands, StatementOperands, expression_operands, statement_operands,
 };
-pub use sizes::MAX_TYPE_SIZE;
+pub use sizes::{MAX_TYPE_SIZE, sizes_in_range};
 pub use type_methods::types_backward;
 pub use type_resolution::{TypeResolution, compare_types};

@@ -1,16 +1,17 @@
 //! Sizes and alignments of all types of an arena.
-ghost use Rattle.std.specs.Prelude.{ℕ, ◌≡◌, ◌<◌, ◌≤◌, ◌^◌, [], IfOk, IfErr, OnErr, OnOk, Some, length, slice_get, take};
+ghost use Rattle.std.specs.Prelude.{ℕ, ◌≡◌, ◌<◌, ◌≤◌, ◌^◌, [], IfOk, IfErr, Some, length, slice_get, take};
 ghost use Rattle.std.specs.Int.{next_multiple_of};
 
 use crate::proc::sizes::MAX_TYPE_SIZE;
 use crate::{Alignment, GlobalCtx, Scalar, StructMember, TypeInner, mark};
 use shader_arena::{Handle, HandleVec};
 use std::alloc::{AllocFailed, Global};
+use std::fmt;
 use std::marker::Model;
 use std::ops::Index;
 use thiserror::Error;
 
-/// The size and alignment of a type.
+/// The size of a type in bytes, and its alignment.
 #[derive(Clone, Copy, Debug, Hash, PartialEq, Eq)]
 pub struct TypeLayout {
     pub size: u32,
@@ -18,9 +19,11 @@ pub struct TypeLayout {
 }
 
 impl TypeLayout {
-    /// The stride of an array of this type.
+    /// The stride in bytes of an array of this type: the size, rounded up to the alignment.
+    ///
+    /// The layouts of a `Layouter` have one.
     pub fn to_stride(&self) -> u32
-        requires { next_multiple_of self.now.size self.now.alignment < 2 ^ 32 }
+        requires { HasStride self.now }
         ensures { result ≡ next_multiple_of self.now.size self.now.alignment }
     {
         self.alignment.round_up(self.size)
@@ -30,17 +33,22 @@ impl TypeLayout {
 /// Why a type has no layout.
 #[derive(Clone, Copy, Debug, PartialEq, Error)]
 pub enum LayoutErrorInner {
+    /// The element type of an array isn't earlier than the array.
     #[error("Array element type {0:?} doesn't exist")]
     InvalidArrayElementType(Handle<mark::Type>),
+    /// The place of a member, from 0, and its type, which isn't earlier than the struct. A place above 4,294,967,295 is told
+    /// as that.
     #[error("Struct member[{0}] type {1:?} doesn't exist")]
     InvalidStructMemberType(u32, Handle<mark::Type>),
+    /// The width of a scalar is no power of two.
     #[error("Type width must be a power of two")]
     NonPowerOfTwoWidth,
+    /// A count, a product or a span is above `MAX_TYPE_SIZE`.
     #[error("Size exceeds limit of {MAX_TYPE_SIZE} bytes")]
     TooLarge,
 }
 
-/// A type that has no layout.
+/// A type that has no layout, and why.
 #[derive(Clone, Copy, Debug, PartialEq, Error)]
 #[error("Error laying out type {ty:?}: {inner}")]
 pub struct LayoutError {
@@ -51,7 +59,7 @@ pub struct LayoutError {
 /// Why an update stopped.
 #[derive(Clone, Copy, Debug, PartialEq, Error)]
 pub enum UpdateError {
-    #[error("{0}")]
+    #[error("Layout")]
     Layout(LayoutError),
     #[error("OutOfMemory")]
     OutOfMemory,
@@ -68,19 +76,29 @@ impl From<AllocFailed<TypeLayout>> for UpdateError {
     }
 }
 
-/// The layouts of the first types of an arena.
+/// The layouts of the first types of an arena, under the handles of the types (naga's `proc::Layouter`).
 #[derive(Drop)]
 pub struct Layouter {
     layouts: HandleVec<mark::Type, TypeLayout>,
 }
 
 impl Model for Layouter {
-    ghost use Rattle.std.specs.Prelude.{List};
+    ghost use Rattle.std.specs.Prelude.{All, List};
+    ghost use Rattle.shader_ir.specs.Layout.{HasStride};
     ghost use Rattle.shader_ir.specs.declared.proc.layouter.TypeLayout.{TypeLayout};
 
     ghost Value = { List TypeLayout };
 
     ghost view = { λ layouter. layouter.layouts };
+
+    ghost invariant = { λ layouter. All HasStride layouter.layouts };
+}
+
+/// Writes how many types are laid out.
+impl fmt::Debug for Layouter {
+    fn fmt<W: fmt::Write>(&self, f: &mut fmt::Formatter<W>) -> fmt::Result {
+        write!(f, "Layouter({} types)", self.layouts.len())
+    }
 }
 
 impl Index<Handle<mark::Type>> for Layouter {
@@ -88,23 +106,30 @@ impl Index<Handle<mark::Type>> for Layouter {
 
     ghost can_index = { λ layouter handle. handle < length layouter };
 
-    ghost index_gives = { λ layouter handle layout. slice_get layouter handle ≡ Some layout };
+    ghost index_gives = { λ layouter handle layout. (slice_get layouter handle ≡ Some layout) × HasStride layout };
 
     fn index(&self, handle: Handle<mark::Type>) -> &TypeLayout {
         &self.layouts[handle]
     }
 }
 
+ghost use Rattle.shader_ir.specs.Sizes.{AreTypeSizesInRange, IsTypeSizeInRange};
+ghost use Rattle.shader_ir.specs.Layout.{AreFaultless, AreFirstLayouts, HasStride, IsRefusalAt, layouts_of, member_fault, part_fault, width_fault};
+ghost use Rattle.shader_ir.specs.HeldLayouts.{faulty_or, greatest_held, held_alignment, held_layout};
+
 /// The alignment of a scalar.
 fn width_alignment(scalar: Scalar) -> Result<Alignment, LayoutErrorInner>
     ensures width { result ≡ faulty_or (width_fault scalar) scalar.width }
     ensures small { IfOk result (λ alignment. alignment < 256) }
 {
-    Alignment::new(scalar.width as u32).ok_or(LayoutErrorInner::NonPowerOfTwoWidth)
+    if scalar.width.is_power_of_two() {
+        Ok(Alignment::from_width(scalar.width))
+    } else {
+        Err(LayoutErrorInner::NonPowerOfTwoWidth)
+    }
 }
 
 /// The greatest alignment of the members, which are laid out already.
-#[tactic(auto, using(crate::proofs::PowerLemmas::named))]
 fn greatest_alignment(
     members: &[StructMember],
     place: Handle<mark::Type>,
@@ -128,7 +153,6 @@ fn greatest_alignment(
 }
 
 /// The alignment of a type whose parts are laid out already.
-#[tactic(auto, using(crate::proofs::PowerLemmas::named))]
 fn alignment_over(
     inner: &TypeInner,
     place: Handle<mark::Type>,
@@ -163,28 +187,28 @@ fn alignment_over(
 }
 
 /// The layout of a type whose parts are laid out already.
-pub(crate) fn layout_over(
+#[tactic(auto, using(crate::proofs::PowerLemmas::stride_fits))]
+fn layout_over(
     inner: &TypeInner,
     place: Handle<mark::Type>,
     layouts: &HandleVec<mark::Type, TypeLayout>,
     ctx: GlobalCtx<'_>,
 ) -> Result<TypeLayout, LayoutErrorInner>
-    requires sizes { AreSizesInRange ctx inner.now }
+    requires sizes { IsTypeSizeInRange ctx inner.now }
     requires held { place ≡ length layouts.now }
-    ensures { result ≡ held_layout ctx.entry layouts.now place inner.now }
+    ensures layout { result ≡ held_layout ctx.entry layouts.now place inner.now }
+    ensures stride { IfOk result HasStride }
 {
     let Some(size) = inner.try_size(ctx) else {
         return Err(LayoutErrorInner::TooLarge);
     };
     let alignment = alignment_over(inner, place, layouts)?;
+    prove!(alignment.get() <= 0x8000_0000);
     Ok(TypeLayout { size, alignment })
 }
 
-ghost use Rattle.shader_ir.specs.Sizes.{AreSizesInRange};
-ghost use Rattle.shader_ir.specs.Layout.{AreAllInRange, AreLayouts, IsFaultAt, faulty_or, greatest_held, held_alignment, held_layout, member_fault, part_fault, width_fault};
-
 impl Layouter {
-    /// A layouter with no layouts.
+    /// A layouter with no layouts, which takes no memory.
     pub fn new(alloc: Global) -> Layouter
         ensures { result ≡ [] }
     {
@@ -200,13 +224,30 @@ impl Layouter {
         self.layouts.len()
     }
 
-    /// Lays out the types past the layouts that there are.
+    /// Lays out the types past the layouts that are held, each once and in order.
+    ///
+    /// Type handles may point anywhere: an element type or a member type that isn't earlier is an error. The handles of
+    /// overrides that size arrays, and what those lead to, are to be in range: `sizes_in_range` tells it, and so does a
+    /// module's check of all its handles.
+    ///
+    /// # Errors
+    ///
+    /// `Layout` names the first type past the layouts held that has a fault, and its fault: first a size above the limit,
+    /// then a width that is no power of two, or the first part that isn't earlier. The same call again refuses alike.
+    /// `OutOfMemory` where a growth was refused. After either, the layouts made so far stay, those of this call too, so that
+    /// the next call goes on behind them.
     pub fn update(&mut self, ctx: GlobalCtx<'_>) -> Result<(), UpdateError>
-        requires sizes { AreAllInRange ctx }
+        requires sizes { AreTypeSizesInRange ctx }
+
+        // Whatever the layouts that are held:
         ensures kept { take (length self.old) self.new ≡ self.old }
-        ensures laid_out { AreLayouts ctx.entry self.old → AreLayouts ctx.entry self.new }
+        ensures faultless { AreFaultless ctx.entry (length self.old) (length self.new) }
         ensures whole { IfOk result (λ _. length ctx.entry.types.now ≤ length self.new) }
-        ensures fault { IfErr result (λ error. IsFaultAt ctx.entry (length self.new) error) }
+        ensures refused { IfErr result (IsRefusalAt ctx.entry (length self.new)) }
+
+        // Where they are those of the first types:
+        ensures laid_out { AreFirstLayouts ctx.entry self.old → AreFirstLayouts ctx.entry self.new }
+        ensures all { IfOk result (λ _. AreFirstLayouts ctx.entry self.old → self.new ≡ layouts_of ctx.entry) }
     {
         for place in self.layouts.len()..ctx.types.len() {
             let handle = Handle::from_index(place as u32);
@@ -218,7 +259,7 @@ impl Layouter {
         Ok(())
     }
 
-    /// Removes all layouts.
+    /// Removes all layouts. Their memory is kept.
     pub fn clear(&mut self)
         ensures { self.new ≡ [] }
     {

@@ -1,5 +1,6 @@
 use Rattle.std.proofs.Common.{◌≡◌, ◌≤◌, max, drop}
-use Rattle.shader_ir.specs.Layout.{greatest_held, member_fault}
+use Rattle.shader_ir.specs.HeldLayouts.{greatest_held}
+use Rattle.shader_ir.specs.Layout.{member_fault}
 use Rattle.shader_ir.proofs.proc.layouter.greatest_alignment.Given as goal
 
 -- what is left decides as all do

@@ -1,19 +1,33 @@
-use Rattle.std.proofs.Common.{◌≡◌, ◌≤◌, ◌∙◌, sym, ap, length, ◌++◌, [], ◌∷◌, arith, length-append}
+use Rattle.std.proofs.Common.{◌≡◌, ◌≤◌, ◌+◌, ◌∙◌, sym, length, ◌++◌, [], ◌∷◌, arith, length-append}
 use Rattle.std.proofs.lemmas.List.{take-append-le}
-use Rattle.shader_ir.proofs.LayoutLemmas.{one_more}
+use Rattle.std.proofs.lemmas.List.Elements.{All-append, All-cons}
+use Rattle.shader_ir.specs.Layout.{HasStride}
+use Rattle.shader_ir.proofs.LayoutLemmas.{faultless_more, made_faultless, one_more, size_in_range}
 use Rattle.shader_ir.proofs.proc.layouter.Layouter.update.Goals as goal
+
+pub layout_over-requires-clause-sizes : goal.layout_over-requires-clause-sizes
+layout_over-requires-clause-sizes c = size_in_range c.args.ctx c.requires.sizes _ c.index.result.now c.index.ensures
 
 pub loop-place-preserved : goal.loop-place-preserved
 loop-place-preserved c =
     let invariant = c.loop-place.invariant in
     let layouts = c.loop-place.self-inside.layouts in
     let ctx = c.args.ctx in
+    let held = c.args.self.now in
+    let layout = c.in-Ok.layout in
+    let type = c.index.result.now in
     let added = c.in_ok-insert-in-Ok.ensures.ok in
-    let at : length layouts ≡ c.from_index-handle.result = invariant.0 ∙ sym c.from_index-handle.ensures in
-    let before : length c.args.self.now ≤ length layouts = omega arith in (
-      rw added (omega (arith, length-append layouts (c.in-Ok.layout ∷ []))),
-      omega arith,
-      rw added (take-append-le (length c.args.self.now) layouts (c.in-Ok.layout ∷ []) before ∙ invariant.2),
-      λ held. rw added (one_more ctx layouts c.index.result.now c.in-Ok.layout
-          (rw at c.index.ensures) (rw at (sym c.in-Ok.ensures)) (invariant.3 held)),
-    )
+    let at : length layouts ≡ c.from_index-handle.result = invariant.reached ∙ sym c.from_index-handle.ensures in
+    let before : length held ≤ length layouts = omega arith in
+    let longer : length (layouts ++ layout ∷ []) ≡ length layouts + 1 = length-append layouts (layout ∷ []) in
+    record {
+      reached = rw added (omega arith);
+      behind = omega arith;
+      strides = rw added (All-append HasStride layouts (layout ∷ []) invariant.strides
+          (All-cons HasStride layout [] c.in-Ok.ensures.stride (λ k d lt. absurd (omega arith))));
+      kept = rw added (take-append-le (length held) layouts (layout ∷ []) before ∙ invariant.kept);
+      faultless = rw added (faultless_more ctx (length held) (length layouts) _ longer invariant.faultless
+          (made_faultless ctx layouts (length layouts) type layout (rw at c.index.ensures) (rw at (sym c.in-Ok.ensures.layout))));
+      laid_out = λ first. rw added (one_more ctx layouts (invariant.laid_out first) type layout
+          (rw at c.index.ensures) (rw at (sym c.in-Ok.ensures.layout)));
+    }
