@@ -13,7 +13,9 @@ pub enum AnyOverloadSet {
 }
 
 impl From<Regular> for AnyOverloadSet {
-    ghost from_gives = { λ regular set. set ≡ AnyOverloadSet.Regular regular };
+    ghost use Rattle.shader_overloads.specs.declared.any_overload_set.AnyOverloadSet.TheVariants as sets;
+
+    ghost from_gives = { λ regular set. set ≡ sets.Regular regular };
 
     fn from(regular: Regular) -> AnyOverloadSet {
         AnyOverloadSet::Regular(regular)
@@ -35,14 +37,17 @@ impl OverloadSet for AnyOverloadSet {
 
     fn arg(
         &self,
-        _alloc: Global,
+        alloc: Global,
         i: usize,
         ty: &TypeInner,
-        _types: &UniqueArena<Type, mark::Type>,
+        types: &UniqueArena<Type, mark::Type>,
     ) -> Result<AnyOverloadSet, AllocError> {
-        Ok(match self {
-            AnyOverloadSet::Regular(regular) => AnyOverloadSet::Regular(regular.arg(i, ty)),
-        })
+        match self {
+            AnyOverloadSet::Regular(regular) => {
+                let set = OverloadSet::arg(regular, alloc, i, ty, types)?;
+                Ok(AnyOverloadSet::Regular(set))
+            }
+        }
     }
 
     fn concrete_only(self, _types: &UniqueArena<Type, mark::Type>) -> AnyOverloadSet {

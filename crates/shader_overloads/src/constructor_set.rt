@@ -114,6 +114,13 @@ impl ConstructorSet {
     /// The vectors.
     pub const VECN: ConstructorSet = ConstructorSet(Self::VEC2.0 | Self::VEC3.0 | Self::VEC4.0);
 
+    pub const SCALAR_OR_VECN: ConstructorSet = ConstructorSet(Self::SCALAR.0 | Self::VECN.0);
+
+    /// The matrices of as many rows as columns.
+    pub const SQUARE_MATRICES: ConstructorSet = ConstructorSet(
+        Self::MAT2X2.0 | Self::MAT3X3.0 | Self::MAT4X4.0,
+    );
+
     pub const EMPTY: ConstructorSet = ConstructorSet(0);
 
     pub const FLAGS: &'static [Flag<ConstructorSet>] = &[

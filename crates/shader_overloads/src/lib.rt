@@ -12,6 +12,7 @@ mod scalar_set;
 
 pub use any_overload_set::AnyOverloadSet;
 pub use constructor_set::{ConstructorMembers, ConstructorSet, ConstructorSize};
+pub use mathfunction::MathOverloads;
 pub use one_bits_iter::OneBitsIter;
 pub use overload_set::{OverloadSet, SetCall, narrow};
 pub use regular::{ConclusionRule, Regular};
