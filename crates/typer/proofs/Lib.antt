@@ -1,0 +1,6 @@
+mod AnswerSteps
+mod Appending
+mod Decimals
+mod LineSteps
+mod Placing
+mod Splits
