@@ -1,6 +1,7 @@
 pub mod Answers
 pub mod Conversions
 pub mod Cuts
+pub mod Laws
 pub mod Lines
 pub mod Numbers
 pub mod Pieces

@@ -27,8 +27,11 @@ IsWritableRequest (Convert from to) = IsWritable from × IsWritable to
 
 -- ---- what a line asks for
 
+abbrev pub all_kinds : List Kind
+all_kinds = kinds.Convert ∷ []
+
 abbrev pub kind_of : List ℕ → Option Kind
-kind_of word = find (λ kind. bytes_eq (kind_text kind) word) (kinds.Convert ∷ [])
+kind_of word = find (λ kind. bytes_eq (kind_text kind) word) all_kinds
 
 abbrev pub convert_from : List (List ℕ) → Option Request
 convert_from (from ∷ to ∷ []) = option_and_then (λ t. option_map (Convert t) (type_of to)) (type_of from)

@@ -4,6 +4,7 @@
 mod answer;
 mod bytes;
 mod conversion;
+mod laws;
 mod lines;
 #[cfg(test)]
 mod memory;
