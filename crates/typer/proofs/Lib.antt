@@ -1,0 +1,11 @@
+mod AnswerSteps
+mod Appending
+mod Decimals
+mod Found
+mod InputSpellings
+mod LineSteps
+mod Placing
+mod RequestSpellings
+mod Separators
+mod Splits
+mod TypeSpellings

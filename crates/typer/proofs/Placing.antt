@@ -1,0 +1,143 @@
+-- Spelled types in an arena, and their trees there.
+use Rattle.std.proofs.Common.{rules, ◌≡◌, ℕ, zero, suc, ◌+◌, ◌<◌, ◌≤◌, Bool, true, false, cond, ◌∙◌, List, [], ◌∷◌, ◌++◌, Option, Some, None, length, refl, sym, ap, subst, arith}
+use Rattle.std.specs.Prelude.{All, slice_get}
+use Rattle.std.specs.List.{enumerate_from, list_any, position_or_len}
+use Rattle.std.specs.Option.{option_eq}
+use Rattle.std.proofs.lemmas.Bool.{and_parts}
+use Rattle.indexmap.specs.IndexSet.{insert_key}
+use Rattle.shader_ir.specs.contracts.name.NamePartialEq.TheImpl as name
+use Rattle.shader_ir.specs.contracts.scalar.ScalarPartialEq.TheImpl as scalar
+use Rattle.shader_ir.specs.contracts.scalar.VectorSizePartialEq.TheImpl as size
+use Rattle.shader_ir.specs.contracts.types.TypeInnerPartialEq.TheImpl as inner
+use Rattle.shader_ir.specs.contracts.types.TypePartialEq.TheImpl as type
+use Rattle.shader_ir.specs.declared.scalar.Scalar as s
+use Rattle.shader_ir.specs.declared.scalar.VectorSize.{VectorSize}
+use Rattle.shader_ir.specs.declared.types.ArraySize.TheVariants.{Constant}
+use Rattle.shader_ir.specs.declared.types.«Type».{«Type»}
+use Rattle.shader_ir.specs.declared.types.TypeInner.{TypeInner}
+use Rattle.shader_ir.specs.declared.types.TypeInner.TheVariants as inners
+use Rattle.shader_ir.specs.Conversion.{converts}
+use Rattle.shader_ir.specs.TypeTree.{AreBackward, IsBackward, Node, NoTree, OneTree, PointsBelow, TypeTree, tree_of, tree_within, trees_at, type_handles}
+use Rattle.typer.specs.declared.types.PlainType.{PlainType}
+use Rattle.typer.specs.declared.types.PlainType.TheVariants.{Scalar, Vector, Matrix}
+use Rattle.typer.specs.declared.types.SpelledType.{SpelledType}
+use Rattle.typer.specs.declared.types.SpelledType.TheVariants.{Plain, Array}
+use Rattle.typer.specs.Conversions.{AreFlat, IsPlaced, KeepsTypes, conversion_of, plain_tree, tree_of_spelled, unnamed}
+use Rattle.typer.specs.Types.{inner_of}
+
+-- ---- an unnamed plain type equals itself alone
+
+same_scalar : (x y : s.Scalar) → scalar.ghosts.eq x y ≡ true → x ≡ y
+same_scalar x y h = search rules
+
+same_size : (x y : VectorSize) → size.ghosts.eq x y ≡ true → x ≡ y
+same_size x y h = search rules
+
+same_plain : (p : PlainType) (y : TypeInner) → inner.ghosts.eq (inner_of p) y ≡ true → y ≡ inner_of p
+same_plain (Scalar t) y h = search rules
+same_plain (Vector n t) y h = search rules
+same_plain (Matrix c r t) (inners.Matrix c' r' t') h =
+    let p = and_parts (size.ghosts.eq c c') _ h in
+    let q = and_parts (size.ghosts.eq r r') _ p.1 in
+    let x = same_size c c' p.0 in
+    let y = same_size r r' q.0 in
+    let z = same_scalar t t' q.1 in cc
+same_plain (Matrix c r t) y h = search rules
+
+pub same_type : (p : PlainType) (y : «Type») → type.ghosts.eq (unnamed (inner_of p)) y ≡ true → y ≡ unnamed (inner_of p)
+same_type p y h =
+    let both = and_parts _ (inner.ghosts.eq (inner_of p) y.inner) h in
+    let same = same_plain p y.inner both.1 in
+    search rules
+
+-- ---- what was inserted stands at its handle
+
+at_false : (b : Bool) (x k : «Type») (ks : List «Type») (n : ℕ)
+    → slice_get (cond b ks (ks ++ k ∷ [])) n ≡ Some k → slice_get (cond b (x ∷ ks) ((x ∷ ks) ++ k ∷ [])) (1 + n) ≡ Some k
+at_false true x k ks n h = search (rules, h)
+at_false false x k ks n h = search (rules, h)
+
+at_first : (E : «Type» → Bool) (k x : «Type») (ks : List «Type») (b : Bool) → E x ≡ b → ((y : «Type») → E y ≡ true → y ≡ k)
+    → slice_get (cond (list_any E ks) ks (ks ++ k ∷ [])) (position_or_len E ks) ≡ Some k
+    → slice_get (cond (list_any E (x ∷ ks)) (x ∷ ks) ((x ∷ ks) ++ k ∷ [])) (position_or_len E (x ∷ ks)) ≡ Some k
+at_first E k x ks true is same later = rw is (ap Some (same x is))
+at_first E k x ks false is same later = rw is (at_false (list_any E ks) x k ks (position_or_len E ks) later)
+
+inserted_at : (E : «Type» → Bool) (k : «Type») (ks : List «Type») → ((y : «Type») → E y ≡ true → y ≡ k)
+    → slice_get (cond (list_any E ks) ks (ks ++ k ∷ [])) (position_or_len E ks) ≡ Some k
+inserted_at E k [] same = refl
+inserted_at E k (x ∷ ks) same = at_first E k x ks (E x) refl same (inserted_at E k ks same)
+
+-- the base of an array stands where it was inserted
+pub base_placed : (old new : List «Type») (p : PlainType) (i : TypeInner) (handle : ℕ) → i ≡ inner_of p
+    → handle ≡ position_or_len (type.ghosts.eq (unnamed i)) old → new ≡ insert_key type.ghosts.eq old (unnamed i)
+    → slice_get new handle ≡ Some (unnamed (inner_of p))
+base_placed old new p i handle is at inserted =
+    rw (inserted, at, is) (inserted_at (type.ghosts.eq (unnamed (inner_of p))) (unnamed (inner_of p)) old (same_type p))
+
+-- ---- flat types
+
+flat_backward : (first : ℕ) (types : List «Type») → All (λ (t : «Type»). type_handles t.inner ≡ []) types → AreBackward (enumerate_from first types)
+flat_backward first [] flat = tt
+flat_backward first (t ∷ types) flat =
+    let none : type_handles t.inner ≡ [] = flat 0 t (omega arith) in
+    let below : PointsBelow first t.inner = rw none (λ k d within. absurd (omega arith)) in
+    (below, flat_backward (first + 1) types (λ k d within. flat (suc k) d (omega arith)))
+
+pub are_backward : (types : List «Type») → AreFlat types → IsBackward types
+are_backward types flat = flat_backward 0 types flat.flat
+
+-- ---- trees
+
+no_trees : (depth : ℕ) (types : List «Type») (p : PlainType) → tree_within depth types (inner_of p) ≡ plain_tree p
+unfolding tree_within
+no_trees zero types p = refl
+no_trees (suc depth) types (Scalar t) = refl
+no_trees (suc depth) types (Vector n t) = refl
+no_trees (suc depth) types (Matrix c r t) = refl
+
+plain_is : (types : List «Type») (p : PlainType) → tree_of types (inner_of p) ≡ plain_tree p
+unfolding tree_of
+plain_is types p = no_trees (suc (length types)) types p
+
+-- the tree of an array over a base that stands at a place
+abbrev array_tree : ℕ → PlainType → ℕ → ℕ → TypeTree
+array_tree place base count stride = Node (inners.Array place (Constant count) stride) (OneTree (plain_tree base) NoTree)
+
+array_is : (types : List «Type») (place : ℕ) (base : PlainType) (count stride : ℕ) → slice_get types place ≡ Some (unnamed (inner_of base))
+    → tree_of types (inners.Array place (Constant count) stride) ≡ array_tree place base count stride
+unfolding tree_of tree_within
+array_is types place base count stride at = rw (at, no_trees (length types) types base) refl
+
+-- the trees of a placed type and of the spelled one, but for the place of an array's base
+placed_tree : (types : List «Type») (spelled : SpelledType) (i : TypeInner) → IsPlaced types spelled i → TypeTree
+placed_tree types (Plain p) i placed = plain_tree p
+placed_tree types (Array base count stride) i placed = array_tree placed.0 base count stride
+
+tree_is : (types : List «Type») (spelled : SpelledType) (i : TypeInner) (placed : IsPlaced types spelled i) → tree_of types i ≡ placed_tree types spelled i placed
+unfolding placed_tree
+tree_is types (Plain p) i placed = ap (tree_of types) placed ∙ plain_is types p
+tree_is types (Array base count stride) i placed = ap (tree_of types) placed.2 ∙ array_is types placed.0 base count stride placed.1
+
+same_conversion : (types : List «Type») (from to : SpelledType) (a b : TypeInner) (p : IsPlaced types from a) (q : IsPlaced types to b)
+    → converts (placed_tree types from a p) (placed_tree types to b q) ≡ conversion_of from to
+unfolding placed_tree
+same_conversion types (Plain p) (Plain q) a b _ _ = refl
+same_conversion types (Plain (Scalar t)) (Array base count stride) a b _ _ = refl
+same_conversion types (Plain (Vector n t)) (Array base count stride) a b _ _ = refl
+same_conversion types (Plain (Matrix c r t)) (Array base count stride) a b _ _ = refl
+same_conversion types (Array base count stride) (Plain (Scalar t)) a b _ _ = refl
+same_conversion types (Array base count stride) (Plain (Vector n t)) a b _ _ = refl
+same_conversion types (Array base count stride) (Plain (Matrix c r t)) a b _ _ = refl
+same_conversion types (Array base count stride) (Array goal n bytes) a b _ _ = refl
+
+stays_placed : (old new : List «Type») (spelled : SpelledType) (i : TypeInner) → KeepsTypes old new → IsPlaced old spelled i → IsPlaced new spelled i
+stays_placed old new (Plain p) i keeps placed = placed
+stays_placed old new (Array base count stride) i keeps placed = (placed.0, keeps.kept placed.0 (unnamed (inner_of base)) placed.1, placed.2)
+
+-- the conversion of two placed types is that of the spelled ones
+pub conversion_is : (old new : List «Type») (from to : SpelledType) (a b : TypeInner) → IsPlaced old from a → KeepsTypes old new → IsPlaced new to b
+    → converts (tree_of new a) (tree_of new b) ≡ conversion_of from to
+conversion_is old new from to a b p keeps q =
+    let p' = stays_placed old new from a keeps p in
+    rw (tree_is new from a p', tree_is new to b q) (same_conversion new from to a b p' q)

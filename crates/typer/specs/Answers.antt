@@ -1,0 +1,44 @@
+-- What is said to each line, and to a whole input.
+use Rattle.std.specs.Prelude.{◌+◌, ℕ, List, [], ◌∷◌, ◌++◌, Option, Some, None, codes}
+use Rattle.std.specs.Option.{option_map}
+use Rattle.std.specs.Fmt.{decimal}
+use Rattle.shader_ir.specs.declared.scalar.Scalar.{Scalar}
+use Rattle.typer.specs.declared.answer.Outcome.{Outcome}
+use Rattle.typer.specs.declared.answer.Outcome.TheVariants.{Done, BadLine}
+use Rattle.typer.specs.declared.reply.Reply.{Reply}
+use Rattle.typer.specs.declared.reply.Reply.TheVariants.{Conversion, Refused}
+use Rattle.typer.specs.declared.request.Request.{Request}
+use Rattle.typer.specs.declared.request.Request.TheVariants.{Convert}
+use Rattle.typer.specs.Conversions.{conversion_of}
+use Rattle.typer.specs.Lines.{lines_of}
+use Rattle.typer.specs.Requests.{request_of}
+use Rattle.typer.specs.Scalars.{scalar_text}
+
+abbrev pub reply_text : Reply → List ℕ
+reply_text (Conversion from to) = scalar_text from ++ codes " to " ++ scalar_text to
+reply_text Refused = codes "refused"
+
+abbrev pub converted : Option (Scalar × Scalar) → Reply
+converted (Some scalars) = Conversion scalars.0 scalars.1
+converted None = Refused
+
+-- the reply to a request
+abbrev pub reply_of : Request → Reply
+reply_of (Convert from to) = converted (conversion_of from to)
+
+-- the reply to a line, if it asks for something
+abbrev pub reply_to : List ℕ → Option Reply
+reply_to line = option_map reply_of (request_of line)
+
+-- a reply and what comes after it, or the end at a bad line
+abbrev pub reply_then : ℕ → Option Reply → List ℕ × Outcome → List ℕ × Outcome
+reply_then number None later = (codes "bad line " ++ decimal number ++ codes "\n", BadLine)
+reply_then number (Some reply) later = (reply_text reply ++ codes "\n" ++ later.0, later.1)
+
+-- the answer to lines of which the first has this number
+abbrev pub answer_from : ℕ → List (List ℕ) → List ℕ × Outcome
+answer_from number [] = ([], Done)
+answer_from number (line ∷ lines) = reply_then number (reply_to line) (answer_from (number + 1) lines)
+
+abbrev pub answer_of : List ℕ → List ℕ × Outcome
+answer_of input = answer_from 1 (lines_of input)

@@ -1,0 +1,55 @@
+-- Laws of the spellings, and of whole inputs by what they spell.
+use Rattle.std.specs.Prelude.{◌≡◌, ◌≢◌, ◌==◌, ◌+◌, ℕ, false, List, [], ◌∷◌, ◌++◌, length, Some, codes}
+use Rattle.std.specs.List.{flat_map, list_any}
+use Rattle.std.specs.Fmt.{decimal}
+use Rattle.typer.specs.declared.answer.Outcome.TheVariants.{Done, BadLine}
+use Rattle.typer.specs.declared.request.Request.{Request}
+use Rattle.typer.specs.declared.types.SpelledType.{SpelledType}
+use Rattle.typer.specs.Answers.{reply_text, reply_of, answer_of}
+use Rattle.typer.specs.Requests.{request_text, request_of, IsWritableRequest}
+use Rattle.typer.specs.Types.{type_text, type_of, IsWritable}
+
+-- a word spells a type exactly where it is the type's text
+abbrev pub TypesAreSpelled : Type 0
+TypesAreSpelled = (word : List ℕ) (t : SpelledType)
+    → (type_of word ≡ Some t → (word ≡ type_text t) × IsWritable t)
+    × (word ≡ type_text t → IsWritable t → type_of word ≡ Some t)
+
+-- no text spells two types
+abbrev pub TypesAreDistinct : Type 0
+TypesAreDistinct = (t u : SpelledType) → IsWritable t → IsWritable u → type_text t ≡ type_text u → t ≡ u
+
+-- a line makes a request exactly where it is the request's text
+abbrev pub RequestsAreSpelled : Type 0
+RequestsAreSpelled = (line : List ℕ) (request : Request)
+    → (request_of line ≡ Some request → (line ≡ request_text request) × IsWritableRequest request)
+    × (line ≡ request_text request → IsWritableRequest request → request_of line ≡ Some request)
+
+-- each request can be written
+abbrev pub AreWritable : List Request → Type 0
+AreWritable [] = Unit {0}
+AreWritable (request ∷ requests) = IsWritableRequest request × AreWritable requests
+
+-- the requests, a line each
+abbrev pub request_lines : List Request → List ℕ
+request_lines requests = flat_map (λ request. request_text request ++ codes "\n") requests
+
+-- the replies to the requests, a line each
+abbrev pub reply_lines : List Request → List ℕ
+reply_lines requests = flat_map (λ request. reply_text (reply_of request) ++ codes "\n") requests
+
+-- an input of requests is answered by their replies
+abbrev pub RequestsAreAnswered : Type 0
+RequestsAreAnswered = (requests : List Request) → AreWritable requests → answer_of (request_lines requests) ≡ (reply_lines requests, Done)
+
+-- a line that makes no request ends the answer, whatever follows it
+abbrev pub BadLinesEndAnswers : Type 0
+BadLinesEndAnswers = (requests : List Request) (bad rest : List ℕ) → AreWritable requests
+    → list_any (λ b. b == 10) bad ≡ false
+    → ((request : Request) → IsWritableRequest request → bad ≢ request_text request)
+    → answer_of (request_lines requests ++ (bad ++ 10 ∷ rest))
+    ≡ (reply_lines requests ++ (codes "bad line " ++ decimal (length requests + 1) ++ codes "\n"), BadLine)
+
+-- the last line may lack its end
+abbrev pub LastLinesMayLackEnds : Type 0
+LastLinesMayLackEnds = (text : List ℕ) (last : ℕ) → last ≢ 10 → answer_of (text ++ last ∷ []) ≡ answer_of (text ++ last ∷ 10 ∷ [])

@@ -1,0 +1,11 @@
+pub mod Answers
+pub mod Conversions
+pub mod Cuts
+pub mod Laws
+pub mod Lines
+pub mod Numbers
+pub mod Pieces
+pub mod Requests
+pub mod Runs
+pub mod Scalars
+pub mod Types

@@ -1,0 +1,48 @@
+-- How a run ends.
+use Rattle.std.specs.Prelude.{ℕ, List}
+use Rattle.typer.specs.declared.answer.Outcome.{Outcome}
+use Rattle.typer.specs.declared.answer.Outcome.TheVariants as outcomes
+use Rattle.typer.specs.Answers.{answer_of}
+use Rattle.typer.specs.declared.reading.InputError.{InputError}
+use Rattle.typer.specs.declared.reading.InputError.TheVariants as inputs
+use Rattle.typer.specs.declared.status.Status.{Status}
+use Rattle.typer.specs.declared.status.Status.TheVariants.{Done, BadLine, ReadFailed, WriteFailed, OutOfMemory, TooLong}
+
+abbrev pub status_code : Status → ℕ
+status_code Done = 0
+status_code BadLine = 2
+status_code ReadFailed = 3
+status_code WriteFailed = 4
+status_code OutOfMemory = 5
+status_code TooLong = 6
+
+abbrev pub input_status : InputError → Status
+input_status inputs.ReadFailed = ReadFailed
+input_status inputs.TooLong = TooLong
+input_status inputs.OutOfMemory = OutOfMemory
+
+abbrev pub outcome_status : Outcome → Status
+outcome_status outcomes.Done = Done
+outcome_status outcomes.BadLine = BadLine
+
+-- the text and the status for all bytes of an input
+abbrev pub answer : List ℕ → List ℕ × Status
+answer input = ((answer_of input).0, outcome_status (answer_of input).1)
+
+-- what a run claims of statuses 0 and 2
+abbrev pub OnAnswered : Status → Type 0 → Type 0
+OnAnswered Done P = P
+OnAnswered BadLine P = P
+OnAnswered ReadFailed P = Unit {0}
+OnAnswered WriteFailed P = Unit {0}
+OnAnswered OutOfMemory P = Unit {0}
+OnAnswered TooLong P = Unit {0}
+
+-- what a run claims of statuses 3, 5 and 6
+abbrev pub OnUnanswered : Status → Type 0 → Type 0
+OnUnanswered Done P = Unit {0}
+OnUnanswered BadLine P = Unit {0}
+OnUnanswered ReadFailed P = P
+OnUnanswered WriteFailed P = Unit {0}
+OnUnanswered OutOfMemory P = P
+OnUnanswered TooLong P = P

@@ -1,0 +1,33 @@
+//! Laws of the spellings, and of whole inputs by what they spell.
+
+ghost use Rattle.typer.specs.Laws.{BadLinesEndAnswers, LastLinesMayLackEnds, RequestsAreAnswered, RequestsAreSpelled, TypesAreDistinct, TypesAreSpelled};
+
+/// A word spells a type exactly where it is the type's text.
+pub fn types_are_spelled()
+    ensures { TypesAreSpelled }
+{}
+
+/// No text spells two types.
+pub fn types_are_distinct()
+    ensures { TypesAreDistinct }
+{}
+
+/// A line makes a request exactly where it is the request's text.
+pub fn requests_are_spelled()
+    ensures { RequestsAreSpelled }
+{}
+
+/// An input of requests is answered by their replies.
+pub fn requests_are_answered()
+    ensures { RequestsAreAnswered }
+{}
+
+/// A line that makes no request ends the answer.
+pub fn bad_lines_end_answers()
+    ensures { BadLinesEndAnswers }
+{}
+
+/// The last line may lack its end.
+pub fn last_lines_may_lack_ends()
+    ensures { LastLinesMayLackEnds }
+{}

@@ -1,0 +1,37 @@
+//! Answers lines that ask about types of shaders.
+#![tactic(auto)]
+
+mod answer;
+mod bytes;
+mod conversion;
+mod laws;
+mod lines;
+#[cfg(test)]
+mod memory;
+mod numbers;
+mod pieces;
+mod reading;
+mod reply;
+mod request;
+mod running;
+mod scalars;
+mod shape;
+mod sink;
+mod source;
+mod status;
+#[cfg(test)]
+mod tests;
+mod types;
+mod writing;
+
+use crate::running::run;
+use crate::sink::ToWriter;
+use crate::source::FromReader;
+use std::io;
+use std::process::ExitCode;
+
+fn main(rt: HostRuntime) -> ExitCode {
+    let mut reader = FromReader::new(rt.reader());
+    let mut writer = ToWriter::new(io::writer(&rt));
+    ExitCode::from(run(rt.alloc(), &mut reader, &mut writer).code())
+}

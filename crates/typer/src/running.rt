@@ -1,0 +1,48 @@
+//! A run from the first byte read to the last one written.
+
+ghost use Rattle.std.specs.Prelude.{◌≡◌, ◌<◌, ◌↔◌, ℕ, List, false, take, length, IsTrue, IfSome};
+ghost use Rattle.std.specs.Io.KnownBytes.{Appends, Consumes, IsAtEnd, Keeps};
+ghost use Rattle.typer.specs.Runs.{answer, OnAnswered, OnUnanswered};
+
+use crate::reading::{INPUT_LIMIT, read_input};
+use crate::sink::Sink;
+use crate::source::{Failed, Source};
+use crate::status::Status;
+use crate::writing::write_all;
+use crate::answer::Answer;
+use std::alloc::Global;
+
+/// Reads the whole input, makes the whole answer, and then writes it.
+pub fn run<R: Source, W: Sink>(alloc: Global, reader: &mut R, writer: &mut W) -> Status
+    requires reads { R.has_failed reader.old ≡ false }
+    requires writes { W.has_failed writer.old ≡ false }
+
+    // With status 0 or 2 all was read, and the answer to it was written.
+    ensures end { OnAnswered result (IsAtEnd (R.remaining reader.new)) }
+    ensures status { OnAnswered result (IfSome (R.remaining reader.old) (λ input. result ≡ (answer input).1)) }
+    ensures text { OnAnswered result (IfSome (R.remaining reader.old) (λ input.
+        Appends (W.contents writer.old) (W.contents writer.new) (answer input).0)) }
+
+    // With 3, 5 and 6 nothing was written, with 4 a beginning of the answer.
+    ensures nothing { OnUnanswered result (Keeps (W.contents writer.old) (W.contents writer.new)) }
+    ensures beginning { result ≡ Status.WriteFailed → IfSome (R.remaining reader.old) (λ input.
+        (n : ℕ) × Appends (W.contents writer.old) (W.contents writer.new) (take n (answer input).0)) }
+
+    // When the statuses 3, 4 and 6 come.
+    ensures read_failed { (result ≡ Status.ReadFailed) ↔ IsTrue (R.has_failed reader.new) }
+    ensures write_failed { (result ≡ Status.WriteFailed) ↔ IsTrue (W.has_failed writer.new) }
+    ensures too_long { (read : List ℕ) × Consumes (R.remaining reader.old) (R.remaining reader.new) read
+        × ((result ≡ Status.TooLong) ↔ (INPUT_LIMIT < length read)) }
+{
+    let input = match read_input(alloc, reader) {
+        Ok(input) => input,
+        Err(error) => return Status::from(error),
+    };
+    let Ok(answer) = Answer::to(alloc, input.as_slice()) else {
+        return Status::OutOfMemory;
+    };
+    match write_all(writer, answer.text.as_bytes()) {
+        Ok(()) => Status::from(answer.outcome),
+        Err(Failed) => Status::WriteFailed,
+    }
+}
