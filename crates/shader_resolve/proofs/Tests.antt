@@ -1,0 +1,4 @@
+-- Tests over mapped lists.
+use Rattle.std.proofs.lemmas.List.Folds.{list_all-map}
+
+pub ruleset mapped = (list_all-map)
