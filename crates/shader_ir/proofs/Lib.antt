@@ -1,6 +1,5 @@
 pub mod KeyLemmas
 pub mod LayoutLemmas
 pub mod PowerLemmas
-pub mod SameLemmas
 pub mod SlotLemmas
 pub mod TypeTreeLemmas

@@ -1,5 +1,5 @@
 -- Keys: which types are the same.
-use Rattle.std.specs.Prelude.{◌≡◌, ℕ, ◌<◌, List, length, Option, Some, None, slice_get}
+use Rattle.std.specs.Prelude.{◌≡◌, ℕ, ◌<◌, List, length, Option, Some, None, slice_get, IsSomeAnd}
 use Rattle.shader_ir.specs.declared.types.«Type».{«Type»}
 use Rattle.shader_ir.specs.declared.types.AddressSpace.{AddressSpace}
 use Rattle.shader_ir.specs.declared.types.TypeInner.{TypeInner}
@@ -29,6 +29,16 @@ abbrev pub canonical : List «Type» → TypeInner → TypeInner
 canonical types (Pointer base space) = pointer_at base space (slice_get types base)
 canonical types inner = inner
 
+abbrev pub IsScalarOrVector : TypeInner → Type 0
+IsScalarOrVector (Scalar scalar) = Unit {0}
+IsScalarOrVector (Vector size scalar) = Unit {0}
+IsScalarOrVector _ = ⊥
+
+-- the type is a pointer to a scalar or a vector
+abbrev pub PointsToScalarOrVector : List «Type» → TypeInner → Type 0
+PointsToScalarOrVector types (Pointer base space) = IsSomeAnd (slice_get types base) (λ (type : «Type»). IsScalarOrVector type.inner)
+PointsToScalarOrVector types _ = ⊥
+
 -- the key of the type at a handle, which has the given shape
 abbrev pub shape_key : List «Type» → ℕ → TypeInner → Key
 shape_key types handle (Struct members span) = StructKey handle
@@ -55,6 +65,11 @@ IsNoStruct _ = Unit {0}
 abbrev pub FitsTypes : List «Type» → TypeResolution → Type 0
 FitsTypes types (Handle handle) = handle < length types
 FitsTypes types (Value inner) = PointsBelow (length types) inner × IsNoStruct inner
+
+-- the handle of a resolution that is one
+abbrev pub handle_of : TypeResolution → Option ℕ
+handle_of (Handle handle) = Some handle
+handle_of (Value inner) = None
 
 -- the shape of the type at a handle, where there is one
 abbrev pub found_inner : Option «Type» → Option TypeInner

@@ -11,6 +11,8 @@ pub mod Layout
 pub mod LeafCode
 pub mod Occurs
 pub mod Operands
+pub mod Same
+pub mod SameLaws
 pub mod Scalars
 pub mod Sizes
 pub mod Slots

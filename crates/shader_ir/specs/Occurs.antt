@@ -1,22 +1,46 @@
--- All operands of a function's statements, at any depth.
-use Rattle.std.specs.Prelude.{ℕ, ◌+◌, ◌-◌, ◌^◌, min, List, [], ◌∷◌, ◌++◌, slice_index, slice_set}
+-- Where a function names its expressions.
+use Rattle.std.specs.Prelude.{◌≡◌, ℕ, List, [], ◌∷◌, ◌++◌, Some, slice_get}
+use Rattle.std.specs.List.{flat_map}
 use Rattle.shader_ir.specs.Body.{Body, End, Then, Step, Leaf, Nested, If, Switch, Loop, Cases, NoCase, Case}
-use Rattle.shader_ir.specs.Operands.{statement_operands}
+use Rattle.shader_ir.specs.Operands.{expression_operands, statement_operands}
+use Rattle.shader_ir.specs.Slots.{kept, read_optional}
+use Rattle.shader_ir.specs.declared.expression.Expression.{Expression}
+use Rattle.shader_ir.specs.declared.expression.Expression.TheVariants.{GlobalVariable, Access, AccessIndex}
+use Rattle.shader_ir.specs.declared.function.Function.{Function}
+use Rattle.shader_ir.specs.declared.function.LocalVariable.{LocalVariable}
 use Rattle.shader_ir.specs.declared.proc.operands.Label.{Label}
 
+-- the statements at any depth, in the order of the text, each before those of its blocks
 abbrev mutual
-  pub body_operands : Body → List (ℕ × Label)
-  body_operands End = []
-  body_operands (Then step rest) = step_operands step ++ body_operands rest
+  pub statements : Body → List Step
+  statements End = []
+  statements (Then step rest) = step ∷ (statements_within step ++ statements rest)
 
-  -- the operands of the statement, and then those of the blocks inside
-  pub step_operands : Step → List (ℕ × Label)
-  step_operands (Leaf simple) = statement_operands (Leaf simple)
-  step_operands (Nested body) = body_operands body
-  step_operands (If condition accept reject) = statement_operands (If condition accept reject) ++ (body_operands accept ++ body_operands reject)
-  step_operands (Switch selector cases) = statement_operands (Switch selector cases) ++ cases_operands cases
-  step_operands (Loop body continuing break_if) = statement_operands (Loop body continuing break_if) ++ (body_operands body ++ body_operands continuing)
+  -- those of the blocks of a statement
+  pub statements_within : Step → List Step
+  statements_within (Leaf simple) = []
+  statements_within (Nested body) = statements body
+  statements_within (If condition accept reject) = statements accept ++ statements reject
+  statements_within (Switch selector cases) = case_statements cases
+  statements_within (Loop body continuing break_if) = statements body ++ statements continuing
 
-  pub cases_operands : Cases → List (ℕ × Label)
-  cases_operands NoCase = []
-  cases_operands (Case value body fall_through rest) = body_operands body ++ cases_operands rest
+  pub case_statements : Cases → List Step
+  case_statements NoCase = []
+  case_statements (Case value body fall_through rest) = statements body ++ case_statements rest
+
+-- the operand of a local variable: its initial value
+abbrev pub local_operands : LocalVariable → List (ℕ × Label)
+local_operands local = kept (read_optional local.init ∷ [])
+
+-- every occurrence of an operand: in the expressions, in the initial values of local variables, and in the statements at any depth
+abbrev pub occurrences : Function → List (ℕ × Label)
+occurrences function =
+    flat_map expression_operands function.expressions
+    ++ flat_map local_operands function.local_variables
+    ++ flat_map statement_operands (statements function.body)
+
+-- the expression at a place is the global, or an Access or AccessIndex whose chain of bases ends at it
+pub data Root (expressions : List Expression) : ℕ → ℕ → Type 0 where
+  global : {e g : ℕ} → slice_get expressions e ≡ Some (GlobalVariable g) → Root expressions e g
+  access : {e base index g : ℕ} → slice_get expressions e ≡ Some (Access base index) → Root expressions base g → Root expressions e g
+  access_index : {e base index g : ℕ} → slice_get expressions e ≡ Some (AccessIndex base index) → Root expressions base g → Root expressions e g

@@ -1,7 +1,7 @@
 -- The operands of expressions and statements, with their labels.
 use Rattle.std.specs.Prelude.{ℕ, List, [], ◌∷◌, Option, Some, None}
 use Rattle.shader_ir.specs.Slots.{kept, read, read_optional, reads}
-use Rattle.shader_ir.specs.Body.{Simple, Return, Store, ImageStore, Atomic, ImageAtomic, WorkGroupUniformLoad, Call, RayQuery, RayPipeline, SubgroupBallot, SubgroupGather, SubgroupCollectiveOperation, CooperativeStore, Body, End, Then, Step, Leaf, If, Switch, Loop}
+use Rattle.shader_ir.specs.Body.{Simple, Return, Store, ImageStore, Atomic, ImageAtomic, WorkGroupUniformLoad, Call, RayQuery, RayPipeline, SubgroupBallot, SubgroupGather, SubgroupCollectiveOperation, CooperativeStore, Step, Leaf, If, Switch, Loop}
 use Rattle.shader_ir.specs.declared.proc.operands.Label.{Label}
 use Rattle.shader_ir.specs.declared.proc.operands.Label.TheVariants.{Part, Write, ReadWrite, Query}
 use Rattle.shader_ir.specs.declared.proc.operands.Label.TheVariants as label
@@ -112,3 +112,23 @@ statement_operands (If condition accept reject) = kept (read condition ∷ [])
 statement_operands (Switch selector cases) = kept (read selector ∷ [])
 statement_operands (Loop body continuing break_if) = kept (read_optional break_if ∷ [])
 statement_operands _ = []
+
+-- the expression takes texels of an image
+abbrev pub TakesTexels : Expression → Type 0
+TakesTexels (ImageSample image sampler gather coordinate array_index offset level depth_ref clamp_to_edge) = Unit {0}
+TakesTexels (ImageLoad image coordinate array_index sample level) = Unit {0}
+TakesTexels _ = ⊥
+
+-- the expression computes one value from several
+abbrev pub IsArithmetic : Expression → Type 0
+IsArithmetic (Binary op left right) = Unit {0}
+IsArithmetic (Select condition accept reject) = Unit {0}
+IsArithmetic (Math fun arg arg1 arg2 arg3) = Unit {0}
+IsArithmetic _ = ⊥
+
+-- the statement writes a texel, or works on memory atomically
+abbrev pub WritesTexelOrAtomic : Step → Type 0
+WritesTexelOrAtomic (Leaf (ImageStore image coordinate array_index value)) = Unit {0}
+WritesTexelOrAtomic (Leaf (Atomic pointer fun value result)) = Unit {0}
+WritesTexelOrAtomic (Leaf (ImageAtomic image coordinate array_index fun value)) = Unit {0}
+WritesTexelOrAtomic _ = ⊥

@@ -9,11 +9,13 @@ mod function;
 mod image;
 mod items;
 mod literal;
+mod map;
 pub mod mark;
 mod module;
 mod name;
 mod operators;
 pub mod proc;
+mod same;
 mod scalar;
 mod statement;
 #[cfg(test)]
@@ -25,11 +27,13 @@ pub use count::Count;
 pub use expression::{CooperativeData, Expression, ImageQuery, SampleLevel};
 pub use flags::{Barrier, ShaderStages, StorageAccess};
 pub use function::{
-    EntryPoint, Function, FunctionArgument, FunctionResult, LocalVariable, ShaderStage,
+    EntryPoint, Function, FunctionArgument, FunctionResult, LocalVariable, NamedExpressions,
+    ShaderStage,
 };
 pub use image::{ImageClass, ImageDimension, StorageFormat};
 pub use items::Items;
 pub use literal::Literal;
+pub use map::Map;
 pub use module::{
     Constant, DiagnosticFilterNode, DiagnosticRule, GlobalCtx, GlobalVariable, Module, Override,
     PredeclaredType, Severity, SpecialTypes,
@@ -44,6 +48,7 @@ pub use proc::{
     MAX_TYPE_SIZE, Operands, ResolveArraySizeError, StatementOperands, TypeLayout, TypeResolution,
     UpdateError, compare_types, expression_operands, statement_operands, types_backward,
 };
+pub use same::Same;
 pub use scalar::{CooperativeRole, CooperativeSize, Scalar, ScalarKind, VectorSize};
 pub use statement::{
     AtomicFunction, Block, CollectiveOperation, Direction, GatherMode, RayPipelineFunction,

@@ -3,7 +3,7 @@
 mod alignment;
 mod conversion;
 mod known_numbers;
-mod layouter;
+pub(crate) mod layouter;
 mod operands;
 mod sizes;
 mod type_methods;

@@ -1,5 +1,5 @@
 //! Types.
-ghost use Rattle.std.specs.Prelude.{◌≡◌, ◌↔◌, IfOk, IsTrue};
+ghost use Rattle.std.specs.Prelude.{◌≡◌, IfOk};
 
 use crate::{
     Binding, CooperativeRole, CooperativeSize, Count, ImageClass, ImageDimension, Items, Name,
@@ -23,24 +23,28 @@ pub enum AddressSpace {
     IncomingRayPayload,
 }
 
+/// The number of an array's elements.
 #[derive(Clone, Copy, Debug, PartialEq, Eq, Hash)]
 pub enum ArraySize {
     Constant(Count),
+    /// What an override says once the pipeline is made.
     Pending(Handle<mark::Override>),
+    /// As many as the memory behind it holds.
     Dynamic,
 }
 
 /// A member of a struct type.
-#[derive(PartialEq, Eq, Hash, Drop)]
+#[derive(Debug, PartialEq, Eq, Hash, Drop)]
 pub struct StructMember {
     pub name: Option<Name>,
     pub ty: Handle<mark::Type>,
     pub binding: Option<Binding>,
+    /// In bytes, from the struct's start.
     pub offset: u32,
 }
 
-/// The shape of a type.
-#[derive(PartialEq, Eq, Hash, Drop)]
+/// A type without its name. Two of them are equal where all their fields are, handles by place.
+#[derive(Debug, PartialEq, Eq, Hash, Drop)]
 pub enum TypeInner {
     Scalar(Scalar),
     Vector {
@@ -71,10 +75,12 @@ pub enum TypeInner {
     Array {
         base: Handle<mark::Type>,
         size: ArraySize,
+        /// The distance of two elements, in bytes.
         stride: u32,
     },
     Struct {
         members: Items<StructMember>,
+        /// In bytes.
         span: u32,
     },
     Image {
@@ -102,32 +108,6 @@ pub enum TypeInner {
 pub struct Type {
     pub name: Option<Name>,
     pub inner: TypeInner,
-}
-
-impl Scalar {
-    /// Whether two scalars are the same.
-    pub fn is_same(self, other: Scalar) -> bool
-        ensures { IsTrue result ↔ (self ≡ other) }
-    {
-        self == other
-    }
-}
-
-impl StructMember {
-    pub fn is_same(&self, other: &StructMember) -> bool
-        ensures { IsTrue result ↔ (self.now ≡ other.now) }
-    {
-        self == other
-    }
-}
-
-impl TypeInner {
-    /// Whether two types have the same shape.
-    pub fn is_same(&self, other: &TypeInner) -> bool
-        ensures { IsTrue result ↔ (self.now ≡ other.now) }
-    {
-        self == other
-    }
 }
 
 impl TypeInner {

@@ -2,7 +2,8 @@
 ghost use Rattle.std.specs.Prelude.{◌≡◌, ◌≤◌, ◌∷◌, length};
 ghost use Rattle.std.specs.Iterator.{YieldsFirst, item_count};
 ghost use Rattle.shader_ir.specs.Slots.{kept, read, read_optional, reads};
-ghost use Rattle.shader_ir.specs.Operands.{exchange_compare, expression_operands, gather_index, gradient_y, level_handle, query_level, ray_query_operands, statement_operands};
+ghost use Rattle.shader_ir.specs.Body.{RayPipeline};
+ghost use Rattle.shader_ir.specs.Operands.{exchange_compare, expression_operands, gather_index, gradient_y, level_handle, query_level, ray_query_operands, simple_operands, statement_operands, IsArithmetic, TakesTexels, WritesTexelOrAtomic};
 ghost use Rattle.shader_ir.specs.BodyOf.{step_of};
 
 use crate::{
@@ -13,14 +14,17 @@ use shader_arena::Handle;
 use std::marker::Model;
 
 /// How an operand is used.
-#[derive(Clone, Copy, Debug, PartialEq, Eq)]
+#[derive(Clone, Copy, Debug, PartialEq)]
 pub enum Label {
-    /// Only a part of the operand is named.
+    /// A part of it is named, and nothing is read or written yet.
     Part,
     Read,
     Write,
+    /// Read and written, in one occurrence.
     ReadWrite,
+    /// Asked for its size or the like; what it holds isn't read.
     Query,
+    /// The image of an atomic operation.
     Atomic,
 }
 
@@ -242,9 +246,48 @@ pub fn expression_operands(expression: &Expression) -> ExpressionOperands<'_>
             Operands::few(&[Some((*base, Label::Part)), read(*index)])
         }
         Expression::AccessIndex { base, .. } => Operands::few(&[Some((*base, Label::Part))]),
-        Expression::Splat { value, .. } => Operands::few(&[read(*value)]),
-        Expression::Swizzle { vector, .. } => Operands::few(&[read(*vector)]),
-        Expression::Load { pointer } => Operands::few(&[read(*pointer)]),
+        Expression::ArrayLength(array) => Operands::few(&[Some((*array, Label::Query))]),
+        Expression::ImageQuery { image, query } => Operands::few(&[
+            Some((*image, Label::Query)),
+            read_optional(query.level()),
+        ]),
+        Expression::ImageSample { .. } | Expression::ImageLoad { .. } => image_operands(expression),
+        Expression::Binary { .. } | Expression::Select { .. } | Expression::Math { .. } => {
+            arithmetic_operands(expression)
+        }
+        Expression::Splat { value: operand, .. }
+        | Expression::Swizzle {
+            vector: operand,
+            ..
+        }
+        | Expression::Load { pointer: operand }
+        | Expression::Unary { expr: operand, .. }
+        | Expression::Derivative { expr: operand, .. }
+        | Expression::Relational {
+            argument: operand,
+            ..
+        }
+        | Expression::As { expr: operand, .. }
+        | Expression::RayQueryVertexPositions { query: operand, .. }
+        | Expression::RayQueryGetIntersection { query: operand, .. } => {
+            Operands::few(&[read(*operand)])
+        }
+        Expression::CooperativeLoad { tile, .. } => {
+            Operands::few(&[read(tile.pointer), read(tile.stride)])
+        }
+        Expression::CooperativeMultiplyAdd { a, b, c } => {
+            Operands::few(&[read(*a), read(*b), read(*c)])
+        }
+        _ => Operands::few(&[]),
+    }
+}
+
+/// The operands of an expression that takes texels of an image.
+fn image_operands(expression: &Expression) -> ExpressionOperands<'_>
+    requires { TakesTexels expression.now }
+    ensures { result ≡ expression_operands expression.now }
+{
+    match expression {
         Expression::ImageSample {
             image,
             sampler,
@@ -277,20 +320,22 @@ pub fn expression_operands(expression: &Expression) -> ExpressionOperands<'_>
             read_optional(*sample),
             read_optional(*level),
         ]),
-        Expression::ImageQuery { image, query } => Operands::few(&[
-            Some((*image, Label::Query)),
-            read_optional(query.level()),
-        ]),
-        Expression::Unary { expr, .. }
-        | Expression::Derivative { expr, .. }
-        | Expression::As { expr, .. } => Operands::few(&[read(*expr)]),
+        _ => unreachable!(),
+    }
+}
+
+/// The operands of an expression that computes one value from several.
+fn arithmetic_operands(expression: &Expression) -> ExpressionOperands<'_>
+    requires { IsArithmetic expression.now }
+    ensures { result ≡ expression_operands expression.now }
+{
+    match expression {
         Expression::Binary { left, right, .. } => Operands::few(&[read(*left), read(*right)]),
         Expression::Select {
             condition,
             accept,
             reject,
         } => Operands::few(&[read(*condition), read(*accept), read(*reject)]),
-        Expression::Relational { argument, .. } => Operands::few(&[read(*argument)]),
         Expression::Math {
             arg,
             arg1,
@@ -303,28 +348,7 @@ pub fn expression_operands(expression: &Expression) -> ExpressionOperands<'_>
             read_optional(*arg2),
             read_optional(*arg3),
         ]),
-        Expression::ArrayLength(array) => Operands::few(&[Some((*array, Label::Query))]),
-        Expression::RayQueryVertexPositions { query, .. }
-        | Expression::RayQueryGetIntersection { query, .. } => Operands::few(&[read(*query)]),
-        Expression::CooperativeLoad { tile, .. } => {
-            Operands::few(&[read(tile.pointer), read(tile.stride)])
-        }
-        Expression::CooperativeMultiplyAdd { a, b, c } => {
-            Operands::few(&[read(*a), read(*b), read(*c)])
-        }
-        Expression::Literal(_)
-        | Expression::Constant(_)
-        | Expression::Override(_)
-        | Expression::ZeroValue(_)
-        | Expression::FunctionArgument(_)
-        | Expression::GlobalVariable(_)
-        | Expression::LocalVariable(_)
-        | Expression::CallResult(_)
-        | Expression::AtomicResult { .. }
-        | Expression::WorkGroupUniformLoadResult { .. }
-        | Expression::RayQueryProceedResult
-        | Expression::SubgroupBallotResult
-        | Expression::SubgroupOperationResult { .. } => Operands::few(&[]),
+        _ => unreachable!(),
     }
 }
 
@@ -333,13 +357,58 @@ pub fn statement_operands(statement: &Statement) -> StatementOperands<'_>
     ensures { result ≡ statement_operands (step_of statement.now) }
 {
     match statement {
-        Statement::If { condition, .. } => Operands::few(&[read(*condition)]),
-        Statement::Switch { selector, .. } => Operands::few(&[read(*selector)]),
-        Statement::Loop { break_if, .. } => Operands::few(&[read_optional(*break_if)]),
-        Statement::Return { value } => Operands::few(&[read_optional(*value)]),
+        Statement::If {
+            condition: operand,
+            ..
+        }
+        | Statement::Switch {
+            selector: operand,
+            ..
+        }
+        | Statement::WorkGroupUniformLoad {
+            pointer: operand,
+            ..
+        }
+        | Statement::SubgroupCollectiveOperation {
+            argument: operand,
+            ..
+        } => Operands::few(&[read(*operand)]),
+        Statement::Loop {
+            break_if: operand,
+            ..
+        }
+        | Statement::Return { value: operand }
+        | Statement::SubgroupBallot {
+            predicate: operand,
+            ..
+        } => Operands::few(&[read_optional(*operand)]),
         Statement::Store { pointer, value } => {
             Operands::few(&[Some((*pointer, Label::Write)), read(*value)])
         }
+        Statement::ImageStore { .. } | Statement::Atomic { .. } | Statement::ImageAtomic { .. } => {
+            texel_operands(statement)
+        }
+        Statement::Call { arguments, .. } => Operands::many(arguments.as_slice()),
+        Statement::RayQuery { query, fun } => ray_query_operands(*query, *fun),
+        Statement::RayPipelineFunction(fun) => ray_pipeline_operands(*fun),
+        Statement::SubgroupGather { mode, argument, .. } => {
+            Operands::few(&[read(*argument), read_optional(mode.index())])
+        }
+        Statement::CooperativeStore { target, tile } => Operands::few(&[
+            read(*target),
+            Some((tile.pointer, Label::Write)),
+            read(tile.stride),
+        ]),
+        _ => Operands::few(&[]),
+    }
+}
+
+/// The operands of a statement that writes a texel, or works on memory atomically.
+fn texel_operands(statement: &Statement) -> StatementOperands<'_>
+    requires { WritesTexelOrAtomic (step_of statement.now) }
+    ensures { result ≡ statement_operands (step_of statement.now) }
+{
+    match statement {
         Statement::ImageStore {
             image,
             coordinate,
@@ -374,39 +443,24 @@ pub fn statement_operands(statement: &Statement) -> StatementOperands<'_>
             read(*value),
             read_optional(fun.compare()),
         ]),
-        Statement::WorkGroupUniformLoad { pointer, .. } => Operands::few(&[read(*pointer)]),
-        Statement::Call { arguments, .. } => Operands::many(arguments.as_slice()),
-        Statement::RayQuery { query, fun } => ray_query_operands(*query, *fun),
-        Statement::RayPipelineFunction(
-            RayPipelineFunction::TraceRay {
-                acceleration_structure,
-                descriptor,
-                payload,
-            },
-        ) => Operands::few(&[
-            read(*acceleration_structure),
-            read(*descriptor),
-            read(*payload),
+        _ => unreachable!(),
+    }
+}
+
+/// The operands of a statement of a ray pipeline.
+fn ray_pipeline_operands<'a>(fun: RayPipelineFunction) -> StatementOperands<'a>
+    ensures { result ≡ simple_operands (RayPipeline fun) }
+{
+    match fun {
+        RayPipelineFunction::TraceRay {
+            acceleration_structure,
+            descriptor,
+            payload,
+        } => Operands::few(&[
+            read(acceleration_structure),
+            read(descriptor),
+            read(payload),
         ]),
-        Statement::SubgroupBallot { predicate, .. } => Operands::few(&[read_optional(*predicate)]),
-        Statement::SubgroupGather { mode, argument, .. } => {
-            Operands::few(&[read(*argument), read_optional(mode.index())])
-        }
-        Statement::SubgroupCollectiveOperation { argument, .. } => {
-            Operands::few(&[read(*argument)])
-        }
-        Statement::CooperativeStore { target, tile } => Operands::few(&[
-            read(*target),
-            Some((tile.pointer, Label::Write)),
-            read(tile.stride),
-        ]),
-        Statement::Emit(_)
-        | Statement::Block(_)
-        | Statement::Break
-        | Statement::Continue
-        | Statement::Kill
-        | Statement::ControlBarrier(_)
-        | Statement::MemoryBarrier(_) => Operands::few(&[]),
     }
 }
 

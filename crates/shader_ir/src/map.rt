@@ -1,0 +1,97 @@
+//! A map that contracts see as the list of its entries.
+ghost use Rattle.std.specs.Prelude.{◌≡◌, ◌↔◌, [], length, IsTrue, IfOk, IfErr, OnOk, OnErr};
+ghost use Rattle.std.specs.List.{IsDistinct};
+ghost use Rattle.std.specs.Map.{keys_of, lookup};
+ghost use Rattle.std.specs.Option.{option_copied};
+ghost use Rattle.indexmap.specs.IndexMap.{insert_entry};
+
+use indexmap::IndexMap;
+use indexmap::map::Iter;
+use std::alloc::{AllocFailed, Global};
+use std::hash::Hash;
+use std::marker::Model;
+
+/// A map in the order of insertion, seen as the list of its entries. Making one from an `IndexMap`, and giving that back, takes no memory.
+#[derive(Drop)]
+pub struct Map<K: Eq + Hash, V> {
+    entries: IndexMap<K, V>,
+}
+
+impl<K: Eq + Hash, V> Model for Map<K, V> {
+    ghost use Rattle.std.specs.Prelude.{List};
+
+    ghost Value = { List (K × V) };
+
+    ghost view = { λ map. map.entries.entries };
+}
+
+impl<K: Eq + Hash, V> Map<K, V> {
+    /// A map with no entries, which takes no memory.
+    pub fn new(alloc: Global) -> Map<K, V>
+        ensures { result ≡ [] }
+    {
+        Map {
+            entries: IndexMap::new(alloc),
+        }
+    }
+
+    /// The number of entries.
+    pub fn len(&self) -> usize
+        ensures len { result ≡ length self.now }
+        ensures distinct { IsDistinct K.eq (keys_of self.now) }
+    {
+        self.entries.len()
+    }
+
+    /// Whether there are no entries.
+    pub fn is_empty(&self) -> bool
+        ensures { IsTrue result ↔ (self.now ≡ []) }
+    {
+        self.entries.is_empty()
+    }
+
+    /// The value of a key.
+    pub fn get(&self, key: &K) -> Option<&V>
+        ensures { option_copied result ≡ lookup (K.eq key.now) self.now }
+    {
+        self.entries.get(key)
+    }
+
+    /// Sets the value of a key, and answers the old one. A new key comes last.
+    ///
+    /// # Errors
+    ///
+    /// Want of memory hands key and value back.
+    pub fn insert(&mut self, key: K, value: V) -> Result<Option<V>, AllocFailed<(K, V)>>
+    where
+        K: Drop,
+        ensures old { IfOk result (λ old. old ≡ lookup (K.eq key) self.old) }
+        ensures entries { OnOk result (self.new ≡ insert_entry K.eq self.old key value) }
+        ensures value_returned { IfErr result (λ failed. failed.value ≡ (key, value)) }
+        ensures err { OnErr result (self.new ≡ self.old) }
+    {
+        self.entries.insert(key, value)
+    }
+
+    /// The keys and values, in order.
+    pub fn iter(&self) -> Iter<'_, K, V>
+        ensures { result ≡ self.now }
+    {
+        self.entries.iter()
+    }
+
+    /// The `IndexMap` that was wrapped.
+    pub fn into_index_map(self) -> IndexMap<K, V>
+        ensures { result.entries ≡ self }
+    {
+        self.entries
+    }
+}
+
+impl<K: Eq + Hash, V> From<IndexMap<K, V>> for Map<K, V> {
+    ghost from_gives = { λ entries map. map ≡ entries.entries };
+
+    fn from(entries: IndexMap<K, V>) -> Map<K, V> {
+        Map { entries }
+    }
+}

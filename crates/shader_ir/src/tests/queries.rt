@@ -1,0 +1,1 @@
+//! Tests of queries on scalars and types.
