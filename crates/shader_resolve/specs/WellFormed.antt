@@ -1,9 +1,9 @@
 -- Which modules are well formed: a fact for each fault.
 use Rattle.std.specs.Prelude.{ℕ, ◌==◌, Bool, true, false, ◌&&◌, not, List, length, slice_get, Option, Some, None, IsTrue, nat_lt}
 use Rattle.std.specs.List.{list_all, enumerate_from}
-use Rattle.indexmap.specs.IndexMap.{keys, values}
 use Rattle.shader_arena.specs.Places.{places_between}
 use Rattle.shader_ir.specs.Body.{Emit, Call, Step, Leaf}
+use Rattle.shader_ir.specs.Occurs.{statements}
 use Rattle.shader_ir.specs.Operands.{expression_operands, statement_operands}
 use Rattle.shader_ir.specs.TypeTree.{type_handles, IsBackward}
 use Rattle.shader_ir.specs.declared.expression.Expression.{Expression}
@@ -23,7 +23,7 @@ use Rattle.shader_ir.specs.declared.types.ArraySize.{ArraySize}
 use Rattle.shader_ir.specs.declared.types.ArraySize.TheVariants.{Pending}
 use Rattle.shader_ir.specs.declared.types.TypeInner.{TypeInner}
 use Rattle.shader_ir.specs.declared.types.TypeInner.TheVariants.{Array, BindingArray, ValuePointer}
-use Rattle.shader_resolve.specs.Statements.{every_statement, statement_callee, statement_result}
+use Rattle.shader_resolve.specs.Statements.{statement_callee, statement_result}
 use Rattle.shader_resolve.specs.declared.well_formed.ModuleFault.{ModuleFault}
 use Rattle.shader_resolve.specs.declared.well_formed.ModuleFault.TheVariants.{HandleOutOfRange, TypeNotEarlier, OperandNotEarlier, CalleeNotEarlier, ArgumentCount, FilterNotEarlier, ValuePointerArgument, EmitRange}
 
@@ -66,7 +66,7 @@ is_pointer_type (Some type) = is_value_pointer type.inner
 is_pointer_type None = false
 
 abbrev pub takes : Option Function → ℕ → Bool
-takes (Some function) count = length function.arguments.items == count
+takes (Some function) count = length function.arguments == count
 takes None count = true
 
 -- whether the expressions of an Emit's range are below a bound
@@ -82,7 +82,7 @@ module _ (checked : Module) where
   abbrev pub special_in_range : SpecialTypes → Bool
   special_in_range special =
       is_below (length checked.types) special.ray_intersection && (is_below (length checked.types) special.ray_vertex_return
-      && list_all (λ ty. nat_lt ty (length checked.types)) (values special.predeclared_types))
+      && list_all (λ entry. nat_lt entry.1 (length checked.types)) special.predeclared_types)
 
   -- a local's initial value is among its function's expressions, all others' among the global expressions
   abbrev pub constant_in_range : Constant → Bool
@@ -145,15 +145,15 @@ module _ (checked : Module) where
 
   abbrev pub function_in_range : Function → Bool
   function_in_range function =
-      list_all (λ argument. nat_lt argument.ty (length checked.types)) function.arguments.items
+      list_all (λ argument. nat_lt argument.ty (length checked.types)) function.arguments
       && (result_in_range function.result
       && (every (λ place variable. local_in_range function variable) function.local_variables
       && (expressions_in_range (length function.local_variables) function.expressions
-      && (list_all (λ expression. nat_lt expression (length function.expressions)) (keys function.named_expressions)
+      && (list_all (λ entry. nat_lt entry.0 (length function.expressions)) function.named_expressions
       && is_below (length checked.diagnostic_filters) function.diagnostic_filter_leaf))))
 
   abbrev pub takes_no_value_pointer : Function → Bool
-  takes_no_value_pointer function = list_all (λ argument. not (is_pointer_type (slice_get checked.types argument.ty))) function.arguments.items
+  takes_no_value_pointer function = list_all (λ argument. not (is_pointer_type (slice_get checked.types argument.ty))) function.arguments
 
 -- whether each expression's operands are earlier
 abbrev pub operands_earlier : List Expression → Bool
@@ -166,7 +166,7 @@ results_earlier earlier expressions = every (λ place expression. is_below earli
 -- whether each function passes after so many others, and each entry point after all functions
 abbrev pub every_function : (ℕ → Function → Bool) → Module → Bool
 every_function test checked =
-    every test checked.functions && list_all (λ entry. test (length checked.functions) entry.function) checked.entry_points.items
+    every test checked.functions && list_all (λ entry. test (length checked.functions) entry.function) checked.entry_points
 
 module _ (checked : Module) where
   -- whether a statement of a function lacks the fault; the function has so many earlier ones
@@ -179,7 +179,7 @@ module _ (checked : Module) where
 
   -- whether each statement of a function lacks the fault
   abbrev pub body_lacks : ModuleFault → ℕ → Function → Bool
-  body_lacks fault earlier function = every_statement (statement_lacks fault earlier function) function.body
+  body_lacks fault earlier function = list_all (statement_lacks fault earlier function) (statements function.body)
 
   -- whether a function that has so many earlier ones lacks the fault
   abbrev pub function_lacks : ModuleFault → ℕ → Function → Bool

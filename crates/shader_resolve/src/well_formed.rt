@@ -94,10 +94,11 @@ fn functions_lack(module: &Module, fault: ModuleFault) -> bool
 
 /// To an entry point all functions are earlier.
 fn entry_points_lack(module: &Module, fault: ModuleFault) -> bool
-    ensures { result ≡ list_all (λ entry. function_lacks «module».now fault (length «module».now.functions) entry.function) «module».now.entry_points.items }
+    ensures { result ≡ list_all (λ entry. function_lacks «module».now fault (length «module».now.functions) entry.function) «module».now.entry_points }
 {
     module
         .entry_points
+        .as_slice()
         .iter()
         .all(|entry| function_lacks(module, fault, module.functions.len(), &entry.function))
 }

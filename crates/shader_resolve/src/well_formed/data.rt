@@ -1,6 +1,5 @@
 //! Tests of what a module holds beside its functions.
 ghost use Rattle.std.specs.Prelude.{◌≡◌, length, nat_lt};
-ghost use Rattle.indexmap.specs.IndexMap.{values};
 ghost use Rattle.std.specs.List.{list_all};
 ghost use Rattle.shader_ir.specs.TypeTree.{type_handles};
 ghost use Rattle.shader_resolve.specs.WellFormed.{constant_in_range, data_in_range, every, filter_in_range, global_in_range, is_below, override_in_range, pending_size, sizing_override, special_in_range, type_in_range};
@@ -88,9 +87,9 @@ fn special_in_range(module: &Module, special: &SpecialTypes) -> bool
 }
 
 fn predeclared_in_range(module: &Module, special: &SpecialTypes) -> bool
-    ensures { result ≡ list_all (λ ty. nat_lt ty (length «module».now.types)) (values special.now.predeclared_types) }
+    ensures { result ≡ list_all (λ entry. nat_lt entry.1 (length «module».now.types)) special.now.predeclared_types }
 {
-    for ty in special.predeclared_types.values() {
+    for (_, ty) in special.predeclared_types.iter() {
         if !is_below(*ty, module.types.len()) {
             return false;
         }

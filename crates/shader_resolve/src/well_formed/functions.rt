@@ -1,7 +1,6 @@
 //! Tests of functions, their statements aside.
 ghost use Rattle.std.specs.Prelude.{◌≡◌, length, nat_lt, slice_get};
 ghost use Rattle.std.specs.List.{list_all};
-ghost use Rattle.indexmap.specs.IndexMap.{keys};
 ghost use Rattle.shader_resolve.specs.WellFormed.{every, function_in_range, is_pointer_type, is_value_pointer, local_in_range, result_in_range, takes_no_value_pointer};
 
 use super::expressions::{expressions_in_range, is_below, is_optional_below};
@@ -24,10 +23,11 @@ pub fn function_in_range(module: &Module, function: &Function) -> bool
 }
 
 fn arguments_in_range(module: &Module, function: &Function) -> bool
-    ensures { result ≡ list_all (λ argument. nat_lt argument.ty (length «module».now.types)) function.now.arguments.items }
+    ensures { result ≡ list_all (λ argument. nat_lt argument.ty (length «module».now.types)) function.now.arguments }
 {
     function
         .arguments
+        .as_slice()
         .iter()
         .all(|argument| is_below(argument.ty, module.types.len()))
 }
@@ -42,9 +42,9 @@ fn result_in_range(module: &Module, function_result: Option<FunctionResult>) -> 
 }
 
 fn named_in_range(function: &Function) -> bool
-    ensures { result ≡ list_all (λ expression. nat_lt expression (length function.now.expressions)) (keys function.now.named_expressions) }
+    ensures { result ≡ list_all (λ entry. nat_lt entry.0 (length function.now.expressions)) function.now.named_expressions }
 {
-    for expression in function.named_expressions.keys() {
+    for (expression, _) in function.named_expressions.iter() {
         if !is_below(*expression, function.expressions.len()) {
             return false;
         }
@@ -71,6 +71,7 @@ pub fn takes_no_value_pointer(module: &Module, function: &Function) -> bool
 {
     function
         .arguments
+        .as_slice()
         .iter()
         .all(|argument| !is_pointer_type(module, argument.ty))
 }

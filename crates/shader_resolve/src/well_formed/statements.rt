@@ -2,8 +2,9 @@
 ghost use Rattle.std.specs.Prelude.{◌≡◌, nat_lt, slice_get};
 ghost use Rattle.std.specs.List.{list_all};
 ghost use Rattle.shader_arena.specs.Places.{places_between};
+ghost use Rattle.shader_ir.specs.Occurs.{statements, statements_within};
 ghost use Rattle.shader_ir.specs.BodyOf.{step_of};
-ghost use Rattle.shader_resolve.specs.Statements.{every_inside, every_statement, proceed_result, statement_callee, statement_result};
+ghost use Rattle.shader_resolve.specs.Statements.{proceed_result, statement_callee, statement_result};
 ghost use Rattle.shader_resolve.specs.WellFormed.{body_lacks, counts_match, is_emitted, statement_in_range, statement_lacks, takes};
 
 use super::ModuleFault;
@@ -21,6 +22,7 @@ pub fn body_lacks(module: &Module, fault: ModuleFault, earlier: usize, function:
 }
 
 #[cycle(blocks)]
+#[tactic(auto, using(crate::proofs::Tests::joined))]
 fn block_lacks(
     block: &Block,
     module: &Module,
@@ -28,7 +30,7 @@ fn block_lacks(
     earlier: usize,
     function: &Function,
 ) -> bool
-    ensures { result ≡ every_statement (statement_lacks «module».now fault earlier function.now) block.now }
+    ensures { result ≡ list_all (statement_lacks «module».now fault earlier function.now) (statements block.now) }
 {
     for statement in &block.statements {
         if !statement_lacks(module, fault, earlier, function, statement)
@@ -42,6 +44,7 @@ fn block_lacks(
 
 /// Whether no statement in the blocks of a statement has the fault.
 #[cycle(blocks)]
+#[tactic(auto, using(crate::proofs::Tests::joined))]
 fn blocks_lack(
     statement: &Statement,
     module: &Module,
@@ -49,7 +52,7 @@ fn blocks_lack(
     earlier: usize,
     function: &Function,
 ) -> bool
-    ensures { result ≡ every_inside (statement_lacks «module».now fault earlier function.now) (step_of statement.now) }
+    ensures { result ≡ list_all (statement_lacks «module».now fault earlier function.now) (statements_within (step_of statement.now)) }
 {
     match statement {
         Statement::Block(block) => block_lacks(block, module, fault, earlier, function),
@@ -113,8 +116,9 @@ fn statement_result(statement: &Statement) -> Option<Handle<mark::Expression>>
     ensures { result ≡ statement_result (step_of statement.now) }
 {
     match statement {
-        Statement::Atomic { result, .. } | Statement::Call { result, .. } => *result,
-        Statement::WorkGroupUniformLoad { result, .. }
+        Statement::Call { result, .. } => *result,
+        Statement::Atomic { result, .. }
+        | Statement::WorkGroupUniformLoad { result, .. }
         | Statement::SubgroupBallot { result, .. }
         | Statement::SubgroupGather { result, .. }
         | Statement::SubgroupCollectiveOperation { result, .. } => Some(*result),
