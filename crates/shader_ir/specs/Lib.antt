@@ -16,6 +16,7 @@ pub mod Operands
 pub mod Same
 pub mod SameLaws
 pub mod Scalars
+pub mod Shapes
 pub mod Sizes
 pub mod Slots
 pub mod TypeTree

@@ -126,9 +126,8 @@ IsArithmetic (Select condition accept reject) = Unit {0}
 IsArithmetic (Math fun arg arg1 arg2 arg3) = Unit {0}
 IsArithmetic _ = ⊥
 
--- the statement writes a texel, or works on memory atomically
-abbrev pub WritesTexelOrAtomic : Step → Type 0
-WritesTexelOrAtomic (Leaf (ImageStore image coordinate array_index value)) = Unit {0}
-WritesTexelOrAtomic (Leaf (Atomic pointer fun value result)) = Unit {0}
-WritesTexelOrAtomic (Leaf (ImageAtomic image coordinate array_index fun value)) = Unit {0}
-WritesTexelOrAtomic _ = ⊥
+-- the statement writes a texel
+abbrev pub WritesTexel : Step → Type 0
+WritesTexel (Leaf (ImageStore image coordinate array_index value)) = Unit {0}
+WritesTexel (Leaf (ImageAtomic image coordinate array_index fun value)) = Unit {0}
+WritesTexel _ = ⊥

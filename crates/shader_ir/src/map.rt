@@ -84,7 +84,8 @@ impl<K: Eq + Hash, V> Map<K, V> {
     pub fn into_index_map(self) -> IndexMap<K, V>
         ensures { result.entries ≡ self }
     {
-        self.entries
+        let Map { entries } = self;
+        entries
     }
 }
 

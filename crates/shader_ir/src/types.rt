@@ -1,5 +1,6 @@
 //! Types.
 ghost use Rattle.std.specs.Prelude.{◌≡◌, IfOk};
+ghost use Rattle.shader_ir.specs.Shapes.{IsOfScalars, IsResource};
 
 use crate::{
     Binding, CooperativeRole, CooperativeSize, Count, ImageClass, ImageDimension, Items, Name,
@@ -110,25 +111,66 @@ pub struct Type {
     pub inner: TypeInner,
 }
 
+impl Type {
+    /// The same type again.
+    ///
+    /// # Errors
+    ///
+    /// Want of memory for names and members.
+    pub fn copy(&self, alloc: Global) -> Result<Type, AllocError>
+        ensures { IfOk result (λ copy. copy ≡ self.now) }
+    {
+        Ok(Type {
+            name: copy_name(alloc, &self.name)?,
+            inner: self.inner.copy(alloc)?,
+        })
+    }
+}
+
 impl TypeInner {
     /// The same type again.
+    ///
+    /// # Errors
+    ///
+    /// Want of memory for the members of a struct.
     pub fn copy(&self, alloc: Global) -> Result<TypeInner, AllocError>
         ensures { IfOk result (λ inner. inner ≡ self.now) }
     {
-        Ok(match self {
-            TypeInner::Scalar(scalar) => TypeInner::Scalar(*scalar),
-            TypeInner::Vector { size, scalar } => TypeInner::Vector {
-                size: *size,
-                scalar: *scalar,
-            },
+        match self {
+            TypeInner::Struct { members, span } => Ok(TypeInner::Struct {
+                members: copy_members(alloc, members.as_slice())?,
+                span: *span,
+            }),
+            TypeInner::Pointer { base, space } => Ok(TypeInner::Pointer {
+                base: *base,
+                space: *space,
+            }),
+            TypeInner::Scalar(_)
+            | TypeInner::Vector { .. }
+            | TypeInner::Matrix { .. }
+            | TypeInner::CooperativeMatrix { .. }
+            | TypeInner::Atomic(_)
+            | TypeInner::ValuePointer { .. } => Ok(self.copy_of_scalars()),
+            _ => Ok(self.copy_of_resources()),
+        }
+    }
+
+    /// The same type again, which is made of scalars.
+    fn copy_of_scalars(&self) -> TypeInner
+        requires { IsOfScalars self.now }
+        ensures { result ≡ self.now }
+    {
+        match *self {
+            TypeInner::Scalar(scalar) => TypeInner::Scalar(scalar),
+            TypeInner::Vector { size, scalar } => TypeInner::Vector { size, scalar },
             TypeInner::Matrix {
                 columns,
                 rows,
                 scalar,
             } => TypeInner::Matrix {
-                columns: *columns,
-                rows: *rows,
-                scalar: *scalar,
+                columns,
+                rows,
+                scalar,
             },
             TypeInner::CooperativeMatrix {
                 columns,
@@ -136,33 +178,39 @@ impl TypeInner {
                 scalar,
                 role,
             } => TypeInner::CooperativeMatrix {
-                columns: *columns,
-                rows: *rows,
-                scalar: *scalar,
-                role: *role,
+                columns,
+                rows,
+                scalar,
+                role,
             },
-            TypeInner::Atomic(scalar) => TypeInner::Atomic(*scalar),
-            TypeInner::Pointer { base, space } => TypeInner::Pointer {
-                base: *base,
-                space: *space,
-            },
+            TypeInner::Atomic(scalar) => TypeInner::Atomic(scalar),
             TypeInner::ValuePointer {
                 size,
                 scalar,
                 space,
             } => TypeInner::ValuePointer {
-                size: *size,
-                scalar: *scalar,
-                space: *space,
+                size,
+                scalar,
+                space,
             },
+            _ => unreachable!(),
+        }
+    }
+
+    /// The same type again, which is an array or a resource.
+    fn copy_of_resources(&self) -> TypeInner
+        requires { IsResource self.now }
+        ensures { result ≡ self.now }
+    {
+        match self {
             TypeInner::Array { base, size, stride } => TypeInner::Array {
                 base: *base,
                 size: *size,
                 stride: *stride,
             },
-            TypeInner::Struct { members, span } => TypeInner::Struct {
-                members: copy_members(alloc, members.as_slice())?,
-                span: *span,
+            TypeInner::BindingArray { base, size } => TypeInner::BindingArray {
+                base: *base,
+                size: *size,
             },
             TypeInner::Image {
                 dim,
@@ -184,11 +232,8 @@ impl TypeInner {
             TypeInner::RayQuery { vertex_return } => TypeInner::RayQuery {
                 vertex_return: *vertex_return,
             },
-            TypeInner::BindingArray { base, size } => TypeInner::BindingArray {
-                base: *base,
-                size: *size,
-            },
-        })
+            _ => unreachable!(),
+        }
     }
 }
 
@@ -203,17 +248,27 @@ fn copy_members(alloc: Global, members: &[StructMember]) -> Result<Items<StructM
     Ok(Items::from(copies))
 }
 
+/// The same name again, where there is one.
+fn copy_name(alloc: Global, name: &Option<Name>) -> Result<Option<Name>, AllocError>
+    ensures { IfOk result (λ copy. copy ≡ name.now) }
+{
+    match name {
+        Some(name) => Ok(Some(name.copy(alloc)?)),
+        None => Ok(None),
+    }
+}
+
 impl StructMember {
     /// The same member again.
+    ///
+    /// # Errors
+    ///
+    /// Want of memory for the name.
     pub fn copy(&self, alloc: Global) -> Result<StructMember, AllocError>
         ensures { IfOk result (λ member. member ≡ self.now) }
     {
-        let name = match &self.name {
-            Some(name) => Some(name.copy(alloc)?),
-            None => None,
-        };
         Ok(StructMember {
-            name,
+            name: copy_name(alloc, &self.name)?,
             ty: self.ty,
             binding: self.binding,
             offset: self.offset,

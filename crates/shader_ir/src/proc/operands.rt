@@ -1,9 +1,9 @@
 //! The expressions that an expression or a statement uses, and how.
-ghost use Rattle.std.specs.Prelude.{◌≡◌, ◌≤◌, ◌∷◌, length};
+ghost use Rattle.std.specs.Prelude.{◌≡◌, ◌≤◌, [], ◌∷◌, length};
 ghost use Rattle.std.specs.Iterator.{YieldsFirst, item_count};
 ghost use Rattle.shader_ir.specs.Slots.{kept, read, read_optional, reads};
 ghost use Rattle.shader_ir.specs.Body.{RayPipeline};
-ghost use Rattle.shader_ir.specs.Operands.{exchange_compare, expression_operands, gather_index, gradient_y, level_handle, query_level, ray_query_operands, simple_operands, statement_operands, IsArithmetic, TakesTexels, WritesTexelOrAtomic};
+ghost use Rattle.shader_ir.specs.Operands.{exchange_compare, expression_operands, gather_index, gradient_y, level_handle, query_level, ray_query_operands, simple_operands, statement_operands, IsArithmetic, TakesTexels, WritesTexel};
 ghost use Rattle.shader_ir.specs.BodyOf.{step_of};
 
 use crate::{
@@ -255,23 +255,15 @@ pub fn expression_operands(expression: &Expression) -> ExpressionOperands<'_>
         Expression::Binary { .. } | Expression::Select { .. } | Expression::Math { .. } => {
             arithmetic_operands(expression)
         }
-        Expression::Splat { value: operand, .. }
-        | Expression::Swizzle {
-            vector: operand,
-            ..
-        }
-        | Expression::Load { pointer: operand }
-        | Expression::Unary { expr: operand, .. }
-        | Expression::Derivative { expr: operand, .. }
-        | Expression::Relational {
-            argument: operand,
-            ..
-        }
-        | Expression::As { expr: operand, .. }
-        | Expression::RayQueryVertexPositions { query: operand, .. }
-        | Expression::RayQueryGetIntersection { query: operand, .. } => {
-            Operands::few(&[read(*operand)])
-        }
+        Expression::Splat { value: one, .. }
+        | Expression::Swizzle { vector: one, .. }
+        | Expression::Load { pointer: one }
+        | Expression::Unary { expr: one, .. }
+        | Expression::Derivative { expr: one, .. }
+        | Expression::Relational { argument: one, .. }
+        | Expression::As { expr: one, .. }
+        | Expression::RayQueryVertexPositions { query: one, .. }
+        | Expression::RayQueryGetIntersection { query: one, .. } => { Operands::few(&[read(*one)]) }
         Expression::CooperativeLoad { tile, .. } => {
             Operands::few(&[read(tile.pointer), read(tile.stride)])
         }
@@ -357,37 +349,25 @@ pub fn statement_operands(statement: &Statement) -> StatementOperands<'_>
     ensures { result ≡ statement_operands (step_of statement.now) }
 {
     match statement {
-        Statement::If {
-            condition: operand,
-            ..
-        }
-        | Statement::Switch {
-            selector: operand,
-            ..
-        }
-        | Statement::WorkGroupUniformLoad {
-            pointer: operand,
-            ..
-        }
-        | Statement::SubgroupCollectiveOperation {
-            argument: operand,
-            ..
-        } => Operands::few(&[read(*operand)]),
-        Statement::Loop {
-            break_if: operand,
-            ..
-        }
-        | Statement::Return { value: operand }
-        | Statement::SubgroupBallot {
-            predicate: operand,
-            ..
-        } => Operands::few(&[read_optional(*operand)]),
+        Statement::If { condition: one, .. }
+        | Statement::Switch { selector: one, .. }
+        | Statement::WorkGroupUniformLoad { pointer: one, .. }
+        | Statement::SubgroupCollectiveOperation { argument: one, .. } => Operands::few(&[read(
+            *one,
+        )]),
+        Statement::Loop { break_if: one, .. }
+        | Statement::Return { value: one }
+        | Statement::SubgroupBallot { predicate: one, .. } => Operands::few(&[read_optional(*one)]),
         Statement::Store { pointer, value } => {
             Operands::few(&[Some((*pointer, Label::Write)), read(*value)])
         }
-        Statement::ImageStore { .. } | Statement::Atomic { .. } | Statement::ImageAtomic { .. } => {
-            texel_operands(statement)
-        }
+        Statement::ImageStore { .. } | Statement::ImageAtomic { .. } => texel_operands(statement),
+        Statement::Atomic {
+            pointer,
+            fun,
+            value,
+            ..
+        } => atomic_operands(*pointer, *fun, *value),
         Statement::Call { arguments, .. } => Operands::many(arguments.as_slice()),
         Statement::RayQuery { query, fun } => ray_query_operands(*query, *fun),
         Statement::RayPipelineFunction(fun) => ray_pipeline_operands(*fun),
@@ -403,9 +383,9 @@ pub fn statement_operands(statement: &Statement) -> StatementOperands<'_>
     }
 }
 
-/// The operands of a statement that writes a texel, or works on memory atomically.
+/// The operands of a statement that writes a texel.
 fn texel_operands(statement: &Statement) -> StatementOperands<'_>
-    requires { WritesTexelOrAtomic (step_of statement.now) }
+    requires { WritesTexel (step_of statement.now) }
     ensures { result ≡ statement_operands (step_of statement.now) }
 {
     match statement {
@@ -419,16 +399,6 @@ fn texel_operands(statement: &Statement) -> StatementOperands<'_>
             read(*coordinate),
             read_optional(*array_index),
             read(*value),
-        ]),
-        Statement::Atomic {
-            pointer,
-            fun,
-            value,
-            ..
-        } => Operands::few(&[
-            Some((*pointer, Label::ReadWrite)),
-            read(*value),
-            read_optional(fun.compare()),
         ]),
         Statement::ImageAtomic {
             image,
@@ -445,6 +415,21 @@ fn texel_operands(statement: &Statement) -> StatementOperands<'_>
         ]),
         _ => unreachable!(),
     }
+}
+
+/// The operands of an atomic statement.
+fn atomic_operands<'a>(
+    pointer: Handle<mark::Expression>,
+    fun: AtomicFunction,
+    value: Handle<mark::Expression>,
+) -> StatementOperands<'a>
+    ensures { result ≡ kept (Some (pointer, Label.ReadWrite) ∷ read value ∷ read_optional (exchange_compare fun) ∷ []) }
+{
+    Operands::few(&[
+        Some((pointer, Label::ReadWrite)),
+        read(value),
+        read_optional(fun.compare()),
+    ])
 }
 
 /// The operands of a statement of a ray pipeline.

@@ -11,7 +11,7 @@ use crate::{
 };
 use bitflags::Flags;
 use shader_arena::{Arena, Handle, Range, UniqueArena};
-use std::alloc::Global;
+use std::alloc::{AllocError, AllocFailed, Global};
 use std::process::Abort;
 use std::test::Fail;
 
@@ -44,13 +44,13 @@ fn expects_of(rt: &impl Abort, statement: &Statement, wanted: &[(usize, Label)])
     assert!(rt; holds(statement_operands(statement), wanted));
 }
 
-fn of_float(kind: MathFunction, arg1: Option<Handle<mark::Expression>>) -> Expression {
+fn of_math(fun: MathFunction, more: Option<u32>) -> Expression {
     Expression::Math {
-        fun: kind,
+        fun,
         arg: at(3),
-        arg1,
-        arg2: arg1,
-        arg3: arg1,
+        arg1: more.map(at),
+        arg2: more.map(at),
+        arg3: more.map(at),
     }
 }
 
@@ -98,6 +98,11 @@ fn operands_of_parts_and_images(rt: HostRuntime) -> Result<(), Fail> {
     let leveled = [(9, READ), (8, READ), (7, READ), (1, READ)];
     expects(&rt, &sample(false, SampleLevel::Exact(at(1))), &leveled);
     expects(&rt, &sample(false, SampleLevel::Bias(at(1))), &leveled);
+    Ok(())
+}
+
+#[test]
+fn operands_of_other_images(rt: HostRuntime) -> Result<(), Fail> {
     let load = Expression::ImageLoad {
         image: at(5),
         coordinate: at(4),
@@ -151,6 +156,12 @@ fn operands_of_values(rt: HostRuntime) -> Result<(), Fail> {
         argument: at(3),
     };
     expects(&rt, &relational, &one);
+    Ok(())
+}
+
+#[test]
+fn operands_of_calls(rt: HostRuntime) -> Result<(), Fail> {
+    let one = [(3, READ)];
     let cast = Expression::As {
         expr: at(3),
         kind: ScalarKind::Sint,
@@ -158,9 +169,14 @@ fn operands_of_values(rt: HostRuntime) -> Result<(), Fail> {
     };
     expects(&rt, &cast, &one);
     expects(&rt, &Expression::Load { pointer: at(3) }, &one);
-    expects(&rt, &of_float(MathFunction::Abs, None), &one);
+    expects(&rt, &of_math(MathFunction::Abs, None), &one);
     let four = [(3, READ), (2, READ), (2, READ), (2, READ)];
-    expects(&rt, &of_float(MathFunction::Mix, Some(at(2))), &four);
+    expects(&rt, &of_math(MathFunction::Mix, Some(2)), &four);
+    Ok(())
+}
+
+#[test]
+fn operands_of_several_values(rt: HostRuntime) -> Result<(), Fail> {
     let binary = Expression::Binary {
         op: BinaryOperator::Subtract,
         left: at(3),
@@ -270,8 +286,14 @@ fn operands_of_flow(rt: HostRuntime) -> Result<(), Fail> {
         break_if: None,
     };
     expects_of(&rt, &endless, &[]);
+    expects_of(&rt, &Statement::Block(empty()), &[]);
     expects_of(&rt, &Statement::Return { value: Some(at(3)) }, &[(3, READ)]);
     expects_of(&rt, &Statement::Return { value: None }, &[]);
+    Ok(())
+}
+
+#[test]
+fn operands_of_calls_and_barriers(rt: HostRuntime) -> Result<(), Fail> {
     let arguments = [at(3), at(3), at(1)].to_vec(rt.alloc())?;
     let call = Statement::Call {
         function: Handle::from_index(0),
@@ -279,7 +301,6 @@ fn operands_of_flow(rt: HostRuntime) -> Result<(), Fail> {
         result: Some(at(5)),
     };
     expects_of(&rt, &call, &[(3, READ), (3, READ), (1, READ)]);
-    expects_of(&rt, &Statement::Block(empty()), &[]);
     expects_of(&rt, &Statement::Emit(Range::new(at(1), at(2))), &[]);
     expects_of(&rt, &Statement::Break, &[]);
     expects_of(&rt, &Statement::Continue, &[]);
@@ -287,6 +308,12 @@ fn operands_of_flow(rt: HostRuntime) -> Result<(), Fail> {
     expects_of(&rt, &Statement::ControlBarrier(Barrier::STORAGE), &[]);
     expects_of(&rt, &Statement::MemoryBarrier(Barrier::TEXTURE), &[]);
     Ok(())
+}
+
+fn exchange() -> AtomicFunction {
+    AtomicFunction::Exchange {
+        compare: Some(at(1)),
+    }
 }
 
 #[test]
@@ -304,12 +331,9 @@ fn operands_of_memory(rt: HostRuntime) -> Result<(), Fail> {
     };
     let stored = [(4, Label::Write), (3, READ), (2, READ), (1, READ)];
     expects_of(&rt, &image_store, &stored);
-    let exchange = AtomicFunction::Exchange {
-        compare: Some(at(1)),
-    };
     let atomic = Statement::Atomic {
         pointer: at(3),
-        fun: exchange,
+        fun: exchange(),
         value: at(2),
         result: at(7),
     };
@@ -322,11 +346,16 @@ fn operands_of_memory(rt: HostRuntime) -> Result<(), Fail> {
         result: at(7),
     };
     expects_of(&rt, &added, &[(3, Label::ReadWrite), (2, READ)]);
+    Ok(())
+}
+
+#[test]
+fn operands_of_texels_and_tiles(rt: HostRuntime) -> Result<(), Fail> {
     let image_atomic = Statement::ImageAtomic {
         image: at(5),
         coordinate: at(4),
         array_index: Some(at(3)),
-        fun: exchange,
+        fun: exchange(),
         value: at(2),
     };
     let texel = [
@@ -384,6 +413,12 @@ fn operands_of_rays_and_subgroups(rt: HostRuntime) -> Result<(), Fail> {
         &alone,
     );
     expects_of(&rt, &of_query(RayQueryFunction::Terminate), &alone);
+    Ok(())
+}
+
+#[test]
+fn operands_of_subgroups(rt: HostRuntime) -> Result<(), Fail> {
+    let alone = [(9, READ)];
     let trace = Statement::RayPipelineFunction(RayPipelineFunction::TraceRay {
         acceleration_structure: at(3),
         descriptor: at(2),
@@ -423,6 +458,10 @@ fn named(inner: TypeInner, name: Option<Name>) -> Type {
     Type { name, inner }
 }
 
+fn name(alloc: Global, text: &str) -> Result<Name, Fail> {
+    Ok(Name::from(text.to_string(alloc)?))
+}
+
 fn pair_of_floats() -> TypeInner {
     TypeInner::Vector {
         size: VectorSize::Bi,
@@ -433,7 +472,7 @@ fn pair_of_floats() -> TypeInner {
 fn structure(alloc: Global, ty: Handle<mark::Type>) -> Result<TypeInner, Fail> {
     let mut members = Vec::new(alloc);
     members.push(StructMember {
-        name: Some(Name::from("x".to_string(alloc)?)),
+        name: Some(name(alloc, "x")?),
         ty,
         binding: None,
         offset: 0,
@@ -450,8 +489,8 @@ fn equal_types_have_one_handle(rt: HostRuntime) -> Result<(), Fail> {
     assert!(rt; !types.is_full());
     let first = types.insert(named(pair_of_floats(), None))?;
     assert!(rt; !types.is_full());
-    let name = Name::from("Pair".to_string(rt.alloc())?);
-    let other = types.insert(named(pair_of_floats(), Some(name)))?;
+    let pair = Some(name(rt.alloc(), "Pair")?);
+    let other = types.insert(named(pair_of_floats(), pair))?;
     assert!(rt; !types.is_full());
     let again = types.insert(named(pair_of_floats(), None))?;
     assert_eq!(rt; (first, other == first, types.len()), (again, false, 2));
@@ -462,9 +501,7 @@ fn equal_types_have_one_handle(rt: HostRuntime) -> Result<(), Fail> {
 }
 
 #[test]
-fn keys_know_structs_by_handle_and_pointers_by_what_they_point_to(
-    rt: HostRuntime,
-) -> Result<(), Fail> {
+fn keys_are_handles_of_structs_and_canonical_forms(rt: HostRuntime) -> Result<(), Fail> {
     let mut types: UniqueArena<Type, mark::Type> = UniqueArena::new(rt.alloc());
     assert!(rt; !types.is_full());
     let pair = types.insert(named(pair_of_floats(), None))?;
@@ -472,9 +509,9 @@ fn keys_know_structs_by_handle_and_pointers_by_what_they_point_to(
     let copy = inner.copy(rt.alloc())?;
     assert!(rt; inner == copy);
     assert!(rt; !types.is_full());
-    let left = types.insert(named(inner, Some(Name::from("L".to_string(rt.alloc())?))))?;
+    let left = types.insert(named(inner, Some(name(rt.alloc(), "L")?)))?;
     assert!(rt; !types.is_full());
-    let right = types.insert(named(copy, Some(Name::from("R".to_string(rt.alloc())?))))?;
+    let right = types.insert(named(copy, Some(name(rt.alloc(), "R")?)))?;
     assert!(rt; types_backward(&types) && types.contains_handle(pair));
     assert!(rt; types.contains_handle(left) && types.contains_handle(right));
     let left = TypeResolution::Handle(left);
@@ -507,9 +544,9 @@ fn keys_know_structs_by_handle_and_pointers_by_what_they_point_to(
 
 #[test]
 fn lists_maps_and_names_give_back_what_they_were_made_of(rt: HostRuntime) -> Result<(), Fail> {
-    let name = Name::from("Pair".to_string(rt.alloc())?);
-    assert_eq!(rt; name.copy(rt.alloc())?.as_str(), "Pair");
-    assert_eq!(rt; name.into_string().as_str(), "Pair");
+    let pair = name(rt.alloc(), "Pair")?;
+    assert_eq!(rt; pair.copy(rt.alloc())?.as_str(), "Pair");
+    assert_eq!(rt; pair.into_string().as_str(), "Pair");
     let items = Items::from([1u8, 2].to_vec(rt.alloc())?);
     assert_eq!(rt; (items.len(), items.is_empty()), (2, false));
     assert_eq!(rt; items.into_vec().as_slice(), [1, 2].as_slice());
@@ -583,5 +620,52 @@ fn a_module_lends_its_arenas(rt: HostRuntime) -> Result<(), Fail> {
         (1, 0, 0)
     );
     assert!(rt; ArraySize::Dynamic.is_same(&ArraySize::Dynamic));
+    Ok(())
+}
+
+#[test]
+fn a_refused_copy_is_made_when_asked_again(rt: HostRuntime) -> Result<(), Fail> {
+    let inner = structure(rt.alloc(), Handle::from_index(3))?;
+    let ty = named(inner, Some(name(rt.alloc(), "S")?));
+    let copy = match ty.copy(rt.alloc()) {
+        Ok(copy) => copy,
+        Err(AllocError) => {
+            println!(rt; "a copy of a type was refused")?;
+            ty.copy(rt.alloc())?
+        }
+    };
+    assert!(rt; copy == ty);
+    let resolution = TypeResolution::Value(copy.inner);
+    let again = match resolution.copy(rt.alloc()) {
+        Ok(again) => again,
+        Err(AllocError) => {
+            println!(rt; "a copy of a resolution was refused")?;
+            resolution.copy(rt.alloc())?
+        }
+    };
+    assert!(rt; again == resolution);
+    Ok(())
+}
+
+#[test]
+fn a_refused_insert_leaves_the_map(rt: HostRuntime) -> Result<(), Fail> {
+    let mut map: Map<u32, u32> = Map::new(rt.alloc());
+    for number in 0..20 {
+        if let Err(
+            AllocFailed {
+                value: (key, value),
+            },
+        ) = map.insert(number, number / 2)
+        {
+            println!(rt; "insert in a map was refused at length {}", map.len())?;
+            assert_eq!(rt; (key, value), (number, number / 2));
+            assert_eq!(rt; map.len(), number as usize);
+            map.insert(key, value)?;
+        }
+    }
+    assert_eq!(rt; map.len(), 20);
+    for (key, value) in map.iter() {
+        assert_eq!(rt; *value, *key / 2);
+    }
     Ok(())
 }

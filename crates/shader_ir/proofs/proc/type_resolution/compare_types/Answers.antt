@@ -7,7 +7,7 @@ non_struct_equivalent-requires-clause-self_in c =
 
 pub non_struct_equivalent-requires-clause-rhs_in : goal.non_struct_equivalent-requires-clause-rhs_in
 non_struct_equivalent-requires-clause-rhs_in c =
-    inner_fits c.args.types.now c.requires.backward c.args.rhs.now c.inner_with.result.now c.inner_with.ensures c.requires.rhs_fits
+    inner_fits c.args.types.now c.requires.backward c.args.rhs.now c.inner_with-right.result.now c.inner_with-right.ensures c.requires.rhs_fits
 
 pub returns-then-is_struct : goal.returns-then-is_struct
 returns-then-is_struct c =
@@ -19,7 +19,7 @@ returns-then-is_struct c =
 
 pub returns : goal.returns
 returns c =
-    let keys = same_keys c.args.types.now c.args.lhs.now c.args.rhs.now c.inner_with-left.result.now c.inner_with.result.now c.inner_with-left.ensures c.inner_with.ensures c.requires.rhs_fits
+    let keys = same_keys c.args.types.now c.args.lhs.now c.args.rhs.now c.inner_with-left.result.now c.inner_with-right.result.now c.inner_with-left.ensures c.inner_with-right.ensures c.requires.rhs_fits
     (c.is_struct.ensures.0 c.if-is_struct.false) in
     let same = c.non_struct_equivalent.ensures in
     ((λ e. keys.0 (same.0 e)), (λ e. same.1 (keys.1 e)))
