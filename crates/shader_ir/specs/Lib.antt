@@ -11,7 +11,9 @@ pub mod Layout
 pub mod LeafCode
 pub mod Occurs
 pub mod Operands
+pub mod Queries
 pub mod Scalars
 pub mod Sizes
 pub mod Slots
+pub mod TreeQueries
 pub mod TypeTree
