@@ -1,5 +1,5 @@
 -- Types that name earlier types alone, and their trees.
-use Rattle.std.proofs.Common.{◌≡◌, ◌∙◌, ap, sym, refl, subst, ℕ, zero, suc, ◌+◌, ◌<◌, ◌≤◌, List, [], ◌∷◌, Option, Some, None, All, length, slice_get, zero-add, if◌then◌else◌, get_or, arith, true, false, ◌&&◌}
+use Rattle.std.proofs.Common.{◌≡◌, ◌↔◌, ◌∙◌, ap, sym, refl, subst, ℕ, zero, suc, ◌+◌, ◌<◌, ◌≤◌, List, [], ◌∷◌, Option, Some, None, All, length, slice_get, zero-add, max, if◌then◌else◌, get_or, arith, true, false, ◌&&◌}
 use Rattle.std.proofs.lemmas.List.Elements.{All-map, All-head, All-tail}
 use Rattle.std.proofs.lemmas.Option.{slice_get_within}
 use Rattle.std.proofs.lemmas.List.{get_or-map, length-map}
@@ -10,7 +10,7 @@ use Rattle.shader_ir.specs.declared.types.TypeInner.{TypeInner}
 use Rattle.shader_ir.specs.declared.types.TypeInner.TheVariants.{Struct, Array}
 use Rattle.shader_ir.specs.declared.types.ArraySize.{ArraySize}
 use Rattle.shader_ir.specs.Conversion.{Shape, shape_of, shape_of_base, leaf_of, same_array_size, same_shape, scalar_conversion, conversion}
-use Rattle.shader_ir.specs.TypeTree.{type_handles, array_rank, PointsBelow, AreBackward, IsBackward, TypeTree, Node, NoTree, OneTree, put_tree, trees_at, tree_within, tree_of}
+use Rattle.shader_ir.specs.TypeTree.{type_handles, PointsBelow, IsBackward, TypeTree, Node, NoTree, OneTree, put_tree, trees_at, tree_within, tree_of}
 
 abbrev pub MembersBelow : ℕ → List StructMember → Type 0
 MembersBelow place members = All (λ (member : StructMember). member.ty < place) members
@@ -23,7 +23,16 @@ members_below place members span h k d lt =
     subst (λ n. n < place) (get_or-map (λ (member : StructMember). member.ty) members k d d.ty lt)
     (h k d.ty (subst (λ n. k < n) (sym (length-map members (λ (member : StructMember). member.ty))) lt))
 
--- the type at a place names earlier types alone
+-- a larger place serves as well
+pub weaker : (place more : ℕ) (inner : TypeInner) → place ≤ more → PointsBelow place inner → PointsBelow more inner
+weaker place more inner le h k d lt = let below : get_or (type_handles inner) k d < place = h k d lt in omega arith
+
+-- each entry of a listing names types before its place alone
+abbrev pub AreBackward : List (ℕ × «Type») → Type 0
+AreBackward [] = Unit {0}
+AreBackward (entry ∷ rest) = PointsBelow entry.0 entry.1.inner × AreBackward rest
+
+-- the type at a place of a listing names earlier types alone
 below_from : (first : ℕ) (types : List «Type») (place : ℕ) (type : «Type») → AreBackward (enumerate_from first types) → slice_get types place ≡ Some type → PointsBelow (first + place) type.inner
 below_from first [] place type backward at = absurd (cc)
 below_from first (t ∷ types) zero type backward at =
@@ -34,16 +43,30 @@ below_from first (t ∷ types) (suc place) type backward at =
     let sum : first + 1 + place ≡ first + suc place = omega arith in
     subst (λ n. PointsBelow n type.inner) sum (below_from (first + 1) types place type backward.1 at)
 
--- a larger place serves as well
-pub weaker : (place more : ℕ) (inner : TypeInner) → place ≤ more → PointsBelow place inner → PointsBelow more inner
-weaker place more inner le h k d lt = let below : get_or (type_handles inner) k d < place = h k d lt in omega arith
+listed_from : (first : ℕ) (types : List «Type») → ((place : ℕ) (type : «Type») → slice_get types place ≡ Some type → PointsBelow (first + place) type.inner) → AreBackward (enumerate_from first types)
+listed_from first [] earlier = tt
+listed_from first (t ∷ types) earlier =
+    let sum : first + 0 ≡ first = omega arith in (
+      subst (λ n. PointsBelow n t.inner) sum (earlier 0 t refl),
+      listed_from (first + 1) types (λ place type at. let next : first + suc place ≡ first + 1 + place = omega arith in subst (λ n. PointsBelow n type.inner) next (earlier (suc place) type at)),
+    )
+
+-- the listing of all types says that each names earlier ones
+pub listed : (types : List «Type») → AreBackward (enumerate_from 0 types) ↔ IsBackward types
+listed types =
+    (λ backward. let at_place = λ (place : ℕ) (type : «Type») (at : slice_get types place ≡ Some type). subst (λ n. PointsBelow n type.inner) (zero-add place) (below_from 0 types place type backward at) in
+    record {
+      in_range = λ place type at. let lt = slice_get_within types place type at in weaker place (length types) type.inner (omega arith) (at_place place type at);
+      earlier = at_place;
+    },
+    λ backward. listed_from 0 types (λ place type at. subst (λ n. PointsBelow n type.inner) (sym (zero-add place)) (backward.earlier place type at)))
+
+pub in_range_at : (types : List «Type») (place : ℕ) (type : «Type») → IsBackward types → slice_get types place ≡ Some type → PointsBelow (length types) type.inner
+in_range_at types place type backward at = backward.in_range place type at
 
 module _ (types : List «Type») (backward : IsBackward types) where
   pub below : (place : ℕ) (type : «Type») → slice_get types place ≡ Some type → PointsBelow place type.inner
-  below place type at = subst (λ n. PointsBelow n type.inner) (zero-add place) (below_from 0 types place type backward at)
-
-  pub found_below : (place : ℕ) (type : «Type») → slice_get types place ≡ Some type → PointsBelow (length types) type.inner
-  found_below place type at = let lt = slice_get_within types place type at in weaker place (length types) type.inner (omega arith) (below place type at)
+  below = backward.earlier
 
   -- trees that agree on the types below a place
   same_trees : (f g : TypeInner → TypeTree) (place : ℕ) → ((handle : ℕ) (type : «Type») → handle < place → slice_get types handle ≡ Some type → f type.inner ≡ g type.inner)
@@ -69,10 +92,10 @@ module _ (types : List «Type») (backward : IsBackward types) where
       ap (Node inner) (same_trees (tree_within (suc m) types) (tree_within (suc n) types) place
       (λ handle type lt at. enough m n handle type.inner (omega arith) (omega arith) (below handle type at)) (type_handles inner) h)
 
-  abbrev child : TypeInner → TypeTree
+  abbrev pub child : TypeInner → TypeTree
   child = tree_within (length types) types
 
-  child_is : (place : ℕ) (type : «Type») → slice_get types place ≡ Some type → child type.inner ≡ tree_of types type.inner
+  pub child_is : (place : ℕ) (type : «Type») → slice_get types place ≡ Some type → child type.inner ≡ tree_of types type.inner
   unfolding tree_within
   child_is place type at = by (length types) refl (slice_get_within types place type at)
     where
@@ -80,11 +103,13 @@ module _ (types : List «Type») (backward : IsBackward types) where
       by zero e lt = absurd (omega arith)
       by (suc n) e lt = subst (λ m. tree_within m types type.inner ≡ tree_within (suc m) types type.inner) (sym e) (enough n (suc n) place type.inner (omega arith) (omega arith) (below place type at))
 
-  -- the tree of an array holds that of its base
-  pub tree_of-Array : (base : ℕ) (size : ArraySize) (stride : ℕ) (type : «Type») → slice_get types base ≡ Some type
-      → tree_of types (Array base size stride) ≡ Node (Array base size stride) (OneTree (tree_of types type.inner) NoTree)
-  tree_of-Array base size stride type at =
-      ap (λ o. Node (Array base size stride) (put_tree child o NoTree)) at ∙ ap (λ t. Node (Array base size stride) (OneTree t NoTree)) (child_is base type at)
+  -- the tree of a type that names one type alone holds that of this type
+  pub tree_of-base : (inner : TypeInner) (base : ℕ) (type : «Type») → type_handles inner ≡ base ∷ [] → slice_get types base ≡ Some type
+      → tree_of types inner ≡ Node inner (OneTree (tree_of types type.inner) NoTree)
+  tree_of-base inner base type names at =
+      ap (λ handles. Node inner (trees_at child types handles)) names
+      ∙ ap (λ o. Node inner (put_tree child o NoTree)) at
+      ∙ ap (λ t. Node inner (OneTree t NoTree)) (child_is base type at)
 
   -- arrays of equal size convert as their bases do
   pub conversion-Array : (base : ℕ) (size : ArraySize) (stride : ℕ) (type : «Type») (goal_base : ℕ) (goal_size : ArraySize) (goal_stride : ℕ) (goal_type : «Type»)
@@ -92,7 +117,7 @@ module _ (types : List «Type») (backward : IsBackward types) where
       → conversion (tree_of types (Array base size stride)) (tree_of types (Array goal_base goal_size goal_stride))
       ≡ conversion (tree_of types type.inner) (tree_of types goal_type.inner)
   conversion-Array base size stride type goal_base goal_size goal_stride goal_type at goal_at same =
-      (λ i. conversion (tree_of-Array base size stride type at i) (tree_of-Array goal_base goal_size goal_stride goal_type goal_at i))
+      (λ i. conversion (tree_of-base (Array base size stride) base type refl at i) (tree_of-base (Array goal_base goal_size goal_stride) goal_base goal_type refl goal_at i))
       ∙ ap (λ b. if b && same_shape (shape_of (tree_of types type.inner)) (shape_of (tree_of types goal_type.inner)) then scalar_conversion (leaf_of (tree_of types type.inner)) (leaf_of (tree_of types goal_type.inner)) else None) same
 
 -- a type that is no array converts by its own scalars
@@ -119,6 +144,3 @@ conversion-unequal types base size stride goal_base goal_size goal_stride h =
     base_shape : TypeTree → Shape
     base_shape (Node inner bases) = shape_of_base bases
 
-pub rank_le : (place : ℕ) (inner : TypeInner) → PointsBelow place inner → array_rank inner ≤ place
-rank_le place (Array base size stride) h = let below : base < place = h 0 0 (omega arith) in omega arith
-rank_le place inner h = omega arith

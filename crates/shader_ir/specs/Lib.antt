@@ -13,10 +13,12 @@ pub mod LayoutLaws
 pub mod LeafCode
 pub mod Occurs
 pub mod Operands
+pub mod Queries
 pub mod Same
 pub mod SameLaws
 pub mod Scalars
 pub mod Shapes
 pub mod Sizes
 pub mod Slots
+pub mod TreeQueries
 pub mod TypeTree

@@ -1,9 +1,11 @@
--- The twelve named scalars, and which converts to which.
-use Rattle.std.specs.Prelude.{ℕ, ◌==◌, Bool, true, false, ◌&&◌, ◌||◌, not, List, [], ◌∷◌, ◌++◌, map}
+-- Scalars: those that have names, which is abstract, and which converts to which.
+use Rattle.std.specs.Prelude.{ℕ, ◌==◌, Bool, true, false, ◌&&◌, ◌||◌, List, [], ◌∷◌, ◌++◌, map, codes}
 use Rattle.std.specs.List.{list_any}
 use Rattle.shader_ir.specs.declared.scalar.ScalarKind.{ScalarKind}
 use Rattle.shader_ir.specs.declared.scalar.ScalarKind.TheVariants as kinds
 use Rattle.shader_ir.specs.declared.scalar.Scalar.{Scalar}
+use Rattle.shader_ir.specs.declared.scalar.VectorSize.{VectorSize}
+use Rattle.shader_ir.specs.declared.scalar.VectorSize.TheVariants.{Bi, Tri, Quad}
 
 abbrev pub same_kind : ScalarKind → ScalarKind → Bool
 same_kind kinds.Sint kinds.Sint = true
@@ -20,6 +22,20 @@ same_scalar a b = same_kind a.kind b.kind && (a.width == b.width)
 -- the scalar of a kind and a width in bytes
 abbrev pub scalar : ScalarKind → ℕ → Scalar
 scalar kind width = record { kind = kind; width = width }
+
+-- every kind but Bool is one of numbers
+abbrev pub is_numeric : ScalarKind → Bool
+is_numeric kinds.Bool = false
+is_numeric _ = true
+
+-- a scalar of a literal that has no type of its own yet
+abbrev pub is_abstract_kind : ScalarKind → Bool
+is_abstract_kind kinds.AbstractInt = true
+is_abstract_kind kinds.AbstractFloat = true
+is_abstract_kind _ = false
+
+abbrev pub is_abstract_scalar : Scalar → Bool
+is_abstract_scalar scalar = is_abstract_kind scalar.kind
 
 abbrev pub abstract_int : Scalar
 abstract_int = scalar kinds.AbstractInt 8
@@ -38,6 +54,21 @@ floats = scalar kinds.Float 4 ∷ scalar kinds.Float 2 ∷ scalar kinds.Float 8 
 -- the twelve scalars that have names
 unfoldable pub named_scalars : List Scalar
 named_scalars = abstract_int ∷ abstract_float ∷ (integers ++ floats ++ scalar kinds.Bool 1 ∷ [])
+
+-- the integers that a program may name, in the order in which an overload tries them
+abbrev pub concrete_ints : List Scalar
+concrete_ints =
+    scalar kinds.Sint 4 ∷ scalar kinds.Uint 4 ∷ scalar kinds.Sint 2
+    ∷ scalar kinds.Uint 2 ∷ scalar kinds.Sint 8 ∷ scalar kinds.Uint 8 ∷ []
+
+abbrev pub all_vector_sizes : List VectorSize
+all_vector_sizes = Bi ∷ Tri ∷ Quad ∷ []
+
+-- how a vector's size is written
+abbrev pub size_text : VectorSize → List ℕ
+size_text Bi = codes "2"
+size_text Tri = codes "3"
+size_text Quad = codes "4"
 
 -- each pair of which the first converts to the second: a scalar to itself, and an abstract one to what it may become
 abbrev pub conversions : List (Scalar × Scalar)

@@ -1,42 +1,140 @@
-//! Queries on types.
-ghost use Rattle.std.specs.Prelude.{◌↔◌, ◌<◌, All, IsTrue};
-ghost use Rattle.shader_ir.specs.TypeTree.{IsBackward, PointsBelow};
+//! Queries that read a type itself, and at most the type that it names.
+ghost use Rattle.std.specs.Prelude.{◌≡◌, length};
+ghost use Rattle.shader_ir.specs.Queries.{HasMember, component_count, component_type, is_atomic_pointer, kind_of, pointer_base, pointer_space, scalar_of, vector_size_and_scalar, width_of};
+ghost use Rattle.shader_ir.specs.Alignments.{vector_count};
+ghost use Rattle.shader_ir.specs.TypeTree.{PointsBelow};
 
-use crate::{StructMember, Type, TypeInner, mark};
-use shader_arena::{Handle, UniqueArena};
-
-/// Whether each type names earlier types alone.
-pub fn types_backward(types: &UniqueArena<Type, mark::Type>) -> bool
-    ensures { IsTrue result ↔ IsBackward types.now }
-{
-    for (handle, ty) in types.iter() {
-        if !ty.inner.points_below(handle) {
-            return false;
-        }
-    }
-    true
-}
-
-/// Whether the types of the members are before the place.
-fn members_point_below(members: &[StructMember], place: Handle<mark::Type>) -> bool
-    ensures { IsTrue result ↔ All (λ member. member.ty < place) members.now }
-{
-    members
-        .iter()
-        .all(|member| member.ty.index() < place.index())
-}
+use crate::{
+    AddressSpace, ArraySize, Scalar, ScalarKind, Type, TypeInner, TypeResolution, VectorSize, mark,
+};
+use shader_arena::UniqueArena;
 
 impl TypeInner {
-    /// Whether the type names types before the place alone.
-    pub fn points_below(&self, place: Handle<mark::Type>) -> bool
-        ensures { IsTrue result ↔ PointsBelow place self.now }
+    /// The scalar of a scalar, a vector or a matrix.
+    pub fn scalar(&self) -> Option<Scalar>
+        ensures { result ≡ scalar_of self.now }
     {
         match self {
-            TypeInner::Pointer { base, .. }
-            | TypeInner::Array { base, .. }
-            | TypeInner::BindingArray { base, .. } => base.index() < place.index(),
-            TypeInner::Struct { members, .. } => members_point_below(members.as_slice(), place),
-            _ => true,
+            TypeInner::Scalar(scalar) => Some(*scalar),
+            TypeInner::Vector { scalar, .. } => Some(*scalar),
+            TypeInner::Matrix { scalar, .. } => Some(*scalar),
+            TypeInner::CooperativeMatrix { scalar, .. } => Some(*scalar),
+            _ => None,
         }
+    }
+
+    /// The kind of the type's scalar.
+    pub fn scalar_kind(&self) -> Option<ScalarKind>
+        ensures { result ≡ kind_of self.now }
+    {
+        self.scalar().map(|scalar| scalar.kind)
+    }
+
+    /// The width of the type's scalar, in bytes.
+    pub fn scalar_width(&self) -> Option<u8>
+        ensures { result ≡ width_of self.now }
+    {
+        self.scalar().map(|scalar| scalar.width)
+    }
+
+    /// The scalar of a scalar or a vector, and the vector's size.
+    pub fn vector_size_and_scalar(&self) -> Option<(Option<VectorSize>, Scalar)>
+        ensures { result ≡ vector_size_and_scalar self.now }
+    {
+        match self {
+            TypeInner::Scalar(scalar) => Some((None, *scalar)),
+            TypeInner::Vector { size, scalar } => Some((Some(*size), *scalar)),
+            _ => None,
+        }
+    }
+
+    /// The space that a pointer points into.
+    pub fn pointer_space(&self) -> Option<AddressSpace>
+        ensures { result ≡ pointer_space self.now }
+    {
+        match self {
+            TypeInner::Pointer { space, .. } => Some(*space),
+            TypeInner::ValuePointer { space, .. } => Some(*space),
+            _ => None,
+        }
+    }
+
+    /// The type that a pointer points to.
+    pub fn pointer_base_type(&self) -> Option<TypeResolution>
+        ensures { result ≡ pointer_base self.now }
+    {
+        match self {
+            TypeInner::Pointer { base, .. } => Some(TypeResolution::Handle(*base)),
+            TypeInner::ValuePointer { size, scalar, .. } => {
+                let base = match size {
+                    Some(size) => scalar.to_inner_vector(*size),
+                    None => scalar.to_inner_scalar(),
+                };
+                Some(TypeResolution::Value(base))
+            }
+            _ => None,
+        }
+    }
+
+    /// Whether this is a pointer to an atomic of the arena.
+    pub fn is_atomic_pointer(&self, types: &UniqueArena<Type, mark::Type>) -> bool
+        requires { PointsBelow (length types.now) self.now }
+        ensures { result ≡ is_atomic_pointer types.now self.now }
+    {
+        match self {
+            TypeInner::Pointer { base, .. } => matches!(types[*base].inner, TypeInner::Atomic(_)),
+            _ => false,
+        }
+    }
+
+    /// How many parts an index may name, where the type fixes that: the components of a vector, the
+    /// columns of a matrix, the elements of an array and the members of a struct, of which no more
+    /// are told than `u32` holds.
+    pub fn components(&self) -> Option<u32>
+        ensures { result ≡ component_count self.now }
+    {
+        match self {
+            TypeInner::Vector { size, .. } => Some(size.components()),
+            TypeInner::Matrix { columns, .. } => Some(columns.components()),
+            TypeInner::Array { size, .. } => match size {
+                ArraySize::Constant(count) => Some(count.get()),
+                ArraySize::Pending(_) | ArraySize::Dynamic => None,
+            },
+            TypeInner::Struct { members, .. } => Some(members.len().min(u32::MAX as usize) as u32),
+            _ => None,
+        }
+    }
+
+    /// The type of the part at an index, where [`components`](TypeInner::components) tells a number.
+    /// Of a struct the index has to be that of a member; of any other type it isn't read.
+    pub fn component_type(&self, index: usize) -> Option<TypeResolution>
+        requires { HasMember self.now index }
+        ensures { result ≡ component_type self.now index }
+    {
+        match self {
+            TypeInner::Vector { scalar, .. } => {
+                Some(TypeResolution::Value(scalar.to_inner_scalar()))
+            }
+            TypeInner::Matrix { rows, scalar, .. } => {
+                Some(TypeResolution::Value(scalar.to_inner_vector(*rows)))
+            }
+            TypeInner::Array { base, size, .. } => match size {
+                ArraySize::Constant(_) => Some(TypeResolution::Handle(*base)),
+                ArraySize::Pending(_) | ArraySize::Dynamic => None,
+            },
+            TypeInner::Struct { members, .. } => {
+                Some(TypeResolution::Handle(members.as_slice()[index].ty))
+            }
+            _ => None,
+        }
+    }
+}
+
+impl VectorSize {
+    /// How many components a vector of this size has.
+    fn components(self) -> u32
+        ensures { result ≡ vector_count self }
+    {
+        self as u32
     }
 }

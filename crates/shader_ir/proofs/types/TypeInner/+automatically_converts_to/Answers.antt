@@ -1,22 +1,23 @@
-use Rattle.std.proofs.Common.{◌≡◌, ◌+◌, ◌∙◌, ap, sym, arith}
-use Rattle.shader_ir.specs.TypeTree.{array_rank, tree_of}
+use Rattle.std.proofs.Common.{◌≡◌, ◌∙◌, ap, sym, arith}
+use Rattle.shader_ir.specs.TypeTree.{type_handles, tree_of}
 use Rattle.shader_ir.specs.Conversion.{conversion}
-use Rattle.shader_ir.proofs.TypeTreeLemmas.{below, found_below, rank_le, conversion-Array, conversion-leaf, conversion-other, conversion-unequal}
+use Rattle.shader_ir.proofs.ReachLemmas.{falls}
+use Rattle.shader_ir.proofs.TypeTreeLemmas.{conversion-Array, conversion-leaf, conversion-other, conversion-unequal}
 use Rattle.shader_ir.proofs.types.TypeInner.+automatically_converts_to.Goals as goal
 
 -- the base comes before the array
 pub automatically_converts_to-requires : goal.automatically_converts_to-requires
 automatically_converts_to-requires t c =
-    let types = c.args.types.now in
     let backward = c.requires.backward in
-    let base_rank = rank_le c.in-Array.base c.index.result.now.inner (below types backward c.in-Array.base c.index.result.now c.index.ensures) in
-    let rank : array_rank c.args.self.now ≡ c.in-Array.base + 1 = ap array_rank c.in-Array.is in (
+    let from = c.in-Array in
+    let to = c.in-Array-goal in
+    let less = falls c.args.types.now backward c.args.self.now from.base c.index.result.now (ap type_handles from.is) c.index.ensures in (
       omega arith,
       (
         backward,
         (
-          found_below types backward c.in-Array.base c.index.result.now c.index.ensures,
-          found_below types backward c.in-Array-goal.goal_base c.index-in-Array-goal.result.now c.index-in-Array-goal.ensures,
+          backward.in_range from.base c.index.result.now c.index.ensures,
+          backward.in_range to.goal_base c.index-in-Array-goal.result.now c.index-in-Array-goal.ensures,
         ),
       ),
     )

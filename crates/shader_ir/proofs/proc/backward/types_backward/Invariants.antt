@@ -1,6 +1,7 @@
 use Rattle.std.proofs.Common.{◌↔◌}
-use Rattle.shader_ir.specs.TypeTree.{IsBackward, AreBackward}
-use Rattle.shader_ir.proofs.proc.type_methods.types_backward.Given as goal
+use Rattle.shader_ir.specs.TypeTree.{IsBackward}
+use Rattle.shader_ir.proofs.TypeTreeLemmas.{AreBackward}
+use Rattle.shader_ir.proofs.proc.backward.types_backward.Given as goal
 
 abbrev pub invariant-loop-handle : goal.invariant-loop-handle
 invariant-loop-handle l =
