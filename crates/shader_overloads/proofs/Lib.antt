@@ -1,0 +1,5 @@
+pub mod BitLemmas
+pub mod ListLemmas
+pub mod NarrowLemmas
+pub mod RegularLemmas
+pub mod SetLemmas

@@ -1,0 +1,14 @@
+use Rattle.std.proofs.Common.{◌≡◌, drop}
+use Rattle.shader_overloads.specs.Remaining.{remaining, RulesFit}
+use Rattle.shader_overloads.proofs.overload_set.narrow.Given as goal
+
+-- what the other calls leave of the set is what all calls leave of the first one
+abbrev pub invariant-loop-call : goal.invariant-loop-call
+invariant-loop-call g l =
+    let rules = g.S.OverloadSet.rules in
+    let accepting = g.S.OverloadSet.accepting in
+    record {
+      rest : remaining (accepting l.fn.set) l.types (drop l.call-index l.calls) (rules l.left) ≡ remaining (accepting l.fn.set) l.types l.calls (rules l.fn.set);
+      kind : accepting l.left ≡ accepting l.fn.set;
+      fits : RulesFit l.types (rules l.left);
+    }

@@ -1,0 +1,9 @@
+pub mod AnySet
+pub mod Bits
+pub mod Builtins
+pub mod Constructors
+pub mod Regular
+pub mod Remaining
+pub mod Rules
+pub mod SameType
+pub mod ScalarSets

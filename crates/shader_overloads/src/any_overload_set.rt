@@ -1,0 +1,70 @@
+//! Overload sets of either kind.
+ghost use Rattle.std.specs.Prelude.{◌≡◌};
+
+use crate::{OverloadSet, Regular, Rule};
+use shader_arena::UniqueArena;
+use shader_ir::{GlobalCtx, Type, TypeInner, mark};
+use std::alloc::{AllocError, Global};
+
+/// An overload set of either kind.
+#[derive(Drop)]
+pub enum AnyOverloadSet {
+    Regular(Regular),
+}
+
+impl From<Regular> for AnyOverloadSet {
+    ghost use Rattle.shader_overloads.specs.declared.any_overload_set.AnyOverloadSet.TheVariants as sets;
+
+    ghost from_gives = { λ regular set. set ≡ sets.Regular regular };
+
+    fn from(regular: Regular) -> AnyOverloadSet {
+        AnyOverloadSet::Regular(regular)
+    }
+}
+
+impl OverloadSet for AnyOverloadSet {
+    ghost use Rattle.shader_overloads.specs.AnySet.{rules_in, acceptance_in};
+
+    ghost rules = { rules_in };
+
+    ghost accepting = { acceptance_in };
+
+    fn is_empty(&self) -> bool {
+        match self {
+            AnyOverloadSet::Regular(regular) => regular.is_empty(),
+        }
+    }
+
+    fn arg(
+        &self,
+        alloc: Global,
+        i: usize,
+        ty: &TypeInner,
+        types: &UniqueArena<Type, mark::Type>,
+    ) -> Result<AnyOverloadSet, AllocError> {
+        match self {
+            AnyOverloadSet::Regular(regular) => {
+                let set = OverloadSet::arg(regular, alloc, i, ty, types)?;
+                Ok(AnyOverloadSet::Regular(set))
+            }
+        }
+    }
+
+    fn concrete_only(self, _types: &UniqueArena<Type, mark::Type>) -> AnyOverloadSet {
+        match self {
+            AnyOverloadSet::Regular(regular) => AnyOverloadSet::Regular(regular.concrete_only()),
+        }
+    }
+
+    fn most_preferred(&self, alloc: Global) -> Result<Rule, AllocError> {
+        match self {
+            AnyOverloadSet::Regular(regular) => regular.most_preferred(alloc),
+        }
+    }
+
+    fn overload_list(&self, alloc: Global, _gctx: GlobalCtx<'_>) -> Result<Vec<Rule>, AllocError> {
+        match self {
+            AnyOverloadSet::Regular(regular) => regular.overload_list(alloc),
+        }
+    }
+}

@@ -1,0 +1,20 @@
+//! The rules of builtin functions, and how the types of a call narrow them.
+#![tactic(auto)]
+
+mod any_overload_set;
+mod constructor_set;
+mod mathfunction;
+mod one_bits_iter;
+mod overload_set;
+mod regular;
+mod rule;
+mod scalar_set;
+
+pub use any_overload_set::AnyOverloadSet;
+pub use constructor_set::{ConstructorMembers, ConstructorSet, ConstructorSize};
+pub use mathfunction::MathOverloads;
+pub use one_bits_iter::OneBitsIter;
+pub use overload_set::{OverloadSet, SetCall, narrow};
+pub use regular::{ConclusionRule, Regular};
+pub use rule::{Conclusion, Rule};
+pub use scalar_set::{ScalarMembers, ScalarSet};

@@ -1,0 +1,132 @@
+//! What every overload set offers, said of its list of rules alone.
+ghost use Rattle.std.specs.Prelude.{◌≡◌, ◌≢◌, ◌↔◌, ℕ, Bool, [], List, All, IsTrue, IsOk, IfOk, Some, filter, length, slice_get};
+ghost use Rattle.shader_ir.specs.declared.types.«Type».{«Type»};
+ghost use Rattle.shader_ir.specs.declared.types.TypeInner.{TypeInner};
+ghost use Rattle.shader_ir.specs.TypeTree.{IsBackward, PointsBelow};
+ghost use Rattle.shader_overloads.specs.declared.rule.Rule.{Rule};
+
+use crate::{Regular, Rule};
+use shader_arena::UniqueArena;
+use shader_ir::{GlobalCtx, Type, TypeInner, mark};
+use std::alloc::{AllocError, Global};
+
+/// The rules of a builtin function that a call may still mean, the preferred one first.
+pub trait OverloadSet: Sized + Drop {
+    ghost use Rattle.shader_overloads.specs.Remaining.{has_concrete_arguments, RulesFit};
+
+    /// The rules, in order.
+    ghost rules: { Self → List Rule };
+
+    /// Whether a rule has an argument of a place that takes a value of a type, as sets of this kind decide it.
+    ghost accepting: { Self → List «Type» → ℕ → TypeInner → Rule → Bool };
+
+    /// Whether there is no rule.
+    fn is_empty(&self) -> bool
+        ensures { IsTrue result ↔ (rules self.now ≡ []) };
+
+    /// The rules that take a value of the type as argument `i`, converted by itself where that is needed.
+    fn arg(
+        &self,
+        alloc: Global,
+        i: usize,
+        ty: &TypeInner,
+        types: &UniqueArena<Type, mark::Type>,
+    ) -> Result<Self, AllocError>
+        requires backward { IsBackward types.now }
+        requires ty_in { PointsBelow (length types.now) ty.now }
+        requires fits { RulesFit types.now (rules self.now) }
+        ensures rules { IfOk result (λ set. rules set ≡ filter (accepting self.now types.now i ty.now) (rules self.now)) }
+        ensures kind { IfOk result (λ set. accepting set ≡ accepting self.now) };
+
+    /// The rules without abstract arguments.
+    fn concrete_only(self, types: &UniqueArena<Type, mark::Type>) -> Self
+        requires backward { IsBackward types.now }
+        requires fits { RulesFit types.now (rules self) }
+        ensures rules { rules result ≡ filter (has_concrete_arguments types.now) (rules self) }
+        ensures kind { accepting result ≡ accepting self };
+
+    /// The first rule.
+    fn most_preferred(&self, alloc: Global) -> Result<Rule, AllocError>
+        requires { rules self.now ≢ [] }
+        ensures { IfOk result (λ rule. slice_get (rules self.now) 0 ≡ Some rule) };
+
+    /// All rules, in order.
+    fn overload_list(&self, alloc: Global, gctx: GlobalCtx<'_>) -> Result<Vec<Rule>, AllocError>
+        ensures { IfOk result (λ list. list.items ≡ rules self.now) };
+}
+
+impl OverloadSet for Regular {
+    ghost use Rattle.shader_overloads.specs.Remaining.{accepts, has_concrete_arguments};
+
+    ghost rules = { λ set. set };
+
+    ghost accepting = { λ _. accepts };
+
+    fn is_empty(&self) -> bool {
+        self.is_empty()
+    }
+
+    /// Takes no memory.
+    fn arg(
+        &self,
+        _alloc: Global,
+        i: usize,
+        ty: &TypeInner,
+        types: &UniqueArena<Type, mark::Type>,
+    ) -> Result<Self, AllocError>
+        ensures found { IsOk result }
+        ensures rules { IfOk result (λ set. set ≡ filter (accepts types.now i ty.now) self.now) }
+        ensures kind { IfOk result (λ _. ◌≡◌ {A = List «Type» → ℕ → TypeInner → Rule → Bool} accepts accepts) }
+    {
+        Ok(self.arg(i, ty))
+    }
+
+    fn concrete_only(self, types: &UniqueArena<Type, mark::Type>) -> Self
+        ensures rules { result ≡ filter (has_concrete_arguments types.now) self }
+        ensures kind { ◌≡◌ {A = List «Type» → ℕ → TypeInner → Rule → Bool} accepts accepts }
+    {
+        self.concrete_only()
+    }
+
+    fn most_preferred(&self, alloc: Global) -> Result<Rule, AllocError> {
+        self.most_preferred(alloc)
+    }
+
+    fn overload_list(&self, alloc: Global, _gctx: GlobalCtx<'_>) -> Result<Vec<Rule>, AllocError> {
+        self.overload_list(alloc)
+    }
+}
+
+/// One step of narrowing a set.
+#[derive(Drop)]
+pub enum SetCall {
+    /// An argument of this place and type is supplied.
+    Arg(usize, TypeInner),
+    /// The arguments are not all known before the program runs, so none is abstract.
+    ConcreteOnly,
+}
+
+ghost use Rattle.shader_overloads.specs.Remaining.{CallFits, RulesFit, remaining};
+
+/// The set that is left after the calls, in their order.
+pub fn narrow<S: OverloadSet>(
+    alloc: Global,
+    set: S,
+    calls: &[SetCall],
+    types: &UniqueArena<Type, mark::Type>,
+) -> Result<S, AllocError>
+    requires backward { IsBackward types.now }
+    requires calls_fit { All (CallFits types.now) calls.now }
+    requires rules_fit { RulesFit types.now (S.rules set) }
+    ensures rules { IfOk result (λ left. S.rules left ≡ remaining (S.accepting set) types.now calls.now (S.rules set)) }
+    ensures kind { IfOk result (λ left. S.accepting left ≡ S.accepting set) }
+{
+    let mut left = set;
+    for call in calls {
+        left = match call {
+            SetCall::Arg(i, ty) => left.arg(alloc, *i, ty, types)?,
+            SetCall::ConcreteOnly => left.concrete_only(types),
+        };
+    }
+    Ok(left)
+}

@@ -1,0 +1,96 @@
+//! Rules: the types that a builtin function takes, and what it gives for them.
+ghost use Rattle.std.specs.Prelude.{◌≡◌, ◌⊎◌, IfOk, IsTrue};
+ghost use Rattle.shader_overloads.specs.Rules.{is_scalar_or_vector, vector_size};
+
+use crate::ConstructorSize;
+use shader_ir::{
+    Items, MathFunction, PredeclaredType, Scalar, TypeInner, TypeResolution, VectorSize,
+};
+use std::alloc::{AllocError, Global};
+
+/// A rule of a builtin function.
+#[derive(Drop)]
+pub struct Rule {
+    pub arguments: Items<TypeResolution>,
+    pub conclusion: Conclusion,
+}
+
+/// The type of a builtin's result.
+#[derive(Drop)]
+pub enum Conclusion {
+    /// A type that its shape says whole.
+    Value(TypeInner),
+    /// A type that the module declares for the builtin, among its special types.
+    Predeclared(PredeclaredType),
+}
+
+impl Conclusion {
+    /// The result type that the module declares for `Frexp` or `Modf` of a scalar or a vector.
+    pub fn for_frexp_modf(
+        function: MathFunction,
+        size: ConstructorSize,
+        scalar: Scalar,
+    ) -> Conclusion
+        requires function { (function ≡ MathFunction.Frexp) ⊎ (function ≡ MathFunction.Modf) }
+        requires size { IsTrue (is_scalar_or_vector size) }
+        ensures frexp { function ≡ MathFunction.Frexp → result ≡ Conclusion.Predeclared (PredeclaredType.FrexpResult (vector_size size) scalar) }
+        ensures modf { function ≡ MathFunction.Modf → result ≡ Conclusion.Predeclared (PredeclaredType.ModfResult (vector_size size) scalar) }
+    {
+        let size = vector_size(size);
+        Conclusion::Predeclared(match function {
+            MathFunction::Frexp => PredeclaredType::FrexpResult { size, scalar },
+            MathFunction::Modf => PredeclaredType::ModfResult { size, scalar },
+            _ => unreachable!(),
+        })
+    }
+
+    /// The same conclusion again.
+    pub fn copy(&self, alloc: Global) -> Result<Conclusion, AllocError>
+        ensures { IfOk result (λ conclusion. conclusion ≡ self.now) }
+    {
+        match self {
+            Conclusion::Value(inner) => Ok(Conclusion::Value(inner.copy(alloc)?)),
+            Conclusion::Predeclared(predeclared) => Ok(Conclusion::Predeclared(*predeclared)),
+        }
+    }
+}
+
+/// The size of a vector, and none of a scalar.
+fn vector_size(size: ConstructorSize) -> Option<VectorSize>
+    requires { IsTrue (is_scalar_or_vector size) }
+    ensures { result ≡ vector_size size }
+{
+    match size {
+        ConstructorSize::Scalar => None,
+        ConstructorSize::Vector(size) => Some(size),
+        ConstructorSize::Matrix { .. } => unreachable!(),
+    }
+}
+
+impl Rule {
+    /// The same rule again.
+    pub fn copy(&self, alloc: Global) -> Result<Rule, AllocError>
+        ensures { IfOk result (λ rule. rule ≡ self.now) }
+    {
+        let arguments = copy_arguments(alloc, self.arguments.as_slice())?;
+        let conclusion = self.conclusion.copy(alloc)?;
+        Ok(Rule {
+            arguments,
+            conclusion,
+        })
+    }
+}
+
+/// The same arguments again.
+fn copy_arguments(
+    alloc: Global,
+    arguments: &[TypeResolution],
+) -> Result<Items<TypeResolution>, AllocError>
+    ensures { IfOk result (λ copies. copies ≡ arguments.now) }
+{
+    let mut copies = Vec::with_capacity(alloc, arguments.len())?;
+    for argument in arguments {
+        copies.push(argument.copy(alloc)?)?;
+    }
+    Ok(Items::from(copies))
+}
