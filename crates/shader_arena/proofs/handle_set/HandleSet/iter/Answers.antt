@@ -1,6 +1,4 @@
-use Rattle.std.proofs.Common.{◌≡◌, ℕ, Contains, IsTrue, ◌↔◌, sym, subst}
-use Rattle.std.specs.List.Sorted.{IsStrictlyIncreasing}
-use Rattle.shader_arena.specs.Places.{is_member, members}
+use Rattle.std.proofs.Common.{◌≡◌}
 use Rattle.shader_arena.proofs.MembersLemmas.{Contains-members, IsStrictlyIncreasing-members}
 use Rattle.shader_arena.proofs.handle_set.HandleSet.iter.Goals as goal
 
