@@ -1,5 +1,5 @@
 -- The trees of the members of a struct.
-use Rattle.std.proofs.Common.{◌≡◌, ◌∙◌, ap, sym, refl, subst, ℕ, zero, suc, ◌+◌, ◌<◌, List, [], ◌∷◌, Option, Some, None, Bool, ◌&&◌, map, drop, length, slice_get, get_or, arith}
+use Rattle.std.proofs.Common.{◌≡◌, ◌∙◌, ap, sym, ℕ, zero, suc, ◌+◌, ◌<◌, List, [], ◌∷◌, Option, Some, None, Bool, ◌&&◌, map, drop, length, slice_get, get_or, arith}
 use Rattle.std.proofs.Math.Seq.{drop-cons}
 use Rattle.shader_ir.specs.declared.types.«Type».{«Type»}
 use Rattle.shader_ir.specs.declared.types.StructMember.{StructMember}

@@ -1,5 +1,5 @@
 -- Types that name earlier types alone, and their trees.
-use Rattle.std.proofs.Common.{◌≡◌, ◌↔◌, ◌∙◌, ap, sym, refl, subst, ℕ, zero, suc, ◌+◌, ◌<◌, ◌≤◌, List, [], ◌∷◌, Option, Some, None, All, length, slice_get, zero-add, max, if◌then◌else◌, get_or, arith, true, false, ◌&&◌}
+use Rattle.std.proofs.Common.{◌≡◌, ◌↔◌, ◌∙◌, ap, sym, refl, subst, ℕ, zero, suc, ◌+◌, ◌<◌, ◌≤◌, List, [], ◌∷◌, Option, Some, None, All, length, slice_get, zero-add, if◌then◌else◌, get_or, arith, true, false, ◌&&◌}
 use Rattle.std.proofs.lemmas.List.Elements.{All-map, All-head, All-tail}
 use Rattle.std.proofs.lemmas.Option.{slice_get_within}
 use Rattle.std.proofs.lemmas.List.{get_or-map, length-map}
@@ -53,13 +53,14 @@ listed_from first (t ∷ types) earlier =
 
 -- the listing of all types says that each names earlier ones
 pub listed : (types : List «Type») → AreBackward (enumerate_from 0 types) ↔ IsBackward types
-listed types =
-    (λ backward. let at_place = λ (place : ℕ) (type : «Type») (at : slice_get types place ≡ Some type). subst (λ n. PointsBelow n type.inner) (zero-add place) (below_from 0 types place type backward at) in
-    record {
-      in_range = λ place type at. let lt = slice_get_within types place type at in weaker place (length types) type.inner (omega arith) (at_place place type at);
-      earlier = at_place;
-    },
-    λ backward. listed_from 0 types (λ place type at. subst (λ n. PointsBelow n type.inner) (sym (zero-add place)) (backward.earlier place type at)))
+listed types = (
+  λ backward. let at_place = λ (place : ℕ) (type : «Type») (at : slice_get types place ≡ Some type). subst (λ n. PointsBelow n type.inner) (zero-add place) (below_from 0 types place type backward at) in
+      record {
+        in_range = λ place type at. let lt = slice_get_within types place type at in weaker place (length types) type.inner (omega arith) (at_place place type at);
+        earlier = at_place;
+      },
+  λ backward. listed_from 0 types (λ place type at. subst (λ n. PointsBelow n type.inner) (sym (zero-add place)) (backward.earlier place type at)),
+)
 
 pub in_range_at : (types : List «Type») (place : ℕ) (type : «Type») → IsBackward types → slice_get types place ≡ Some type → PointsBelow (length types) type.inner
 in_range_at types place type backward at = backward.in_range place type at
@@ -143,4 +144,3 @@ conversion-unequal types base size stride goal_base goal_size goal_stride h =
   where
     base_shape : TypeTree → Shape
     base_shape (Node inner bases) = shape_of_base bases
-

@@ -1,4 +1,4 @@
-//! Which types convert to which.
+//! Which types convert to which on their own.
 ghost use Rattle.std.specs.Prelude.{◌≡◌, length, Some};
 ghost use Rattle.shader_ir.specs.Conversion.{conversion, same_array_size, scalar_conversion};
 ghost use Rattle.shader_ir.specs.TypeTree.{IsBackward, PointsBelow, Node, NoTree, tree_of};
@@ -24,6 +24,7 @@ impl Scalar {
 }
 
 impl ArraySize {
+    /// Whether both are the same number, the same override's, or unknown.
     fn is_same(self, other: ArraySize) -> bool
         ensures { result ≡ same_array_size self other }
     {
@@ -32,7 +33,10 @@ impl ArraySize {
 }
 
 impl TypeInner {
-    /// The leaf scalars, where a value of this type converts to `goal`.
+    /// The leaf scalars of this type and of `goal`, where a value of this type converts to `goal` by
+    /// WGSL's automatic conversions: the types are alike but for their scalars and the strides of
+    /// arrays, and the scalars are equal or the first is abstract and of a kind that becomes the
+    /// second's. Widths don't count, and equal types answer their own scalar twice.
     pub fn automatically_converts_to(
         &self,
         goal: &TypeInner,
@@ -63,7 +67,7 @@ impl TypeInner {
         }
     }
 
-    /// The scalars, where this type is no array and a value of it converts to `goal`.
+    /// The same, where neither type is an array.
     fn leaf_converts_to(&self, goal: &TypeInner) -> Option<(Scalar, Scalar)>
         ensures { result ≡ conversion (Node self.now NoTree) (Node goal.now NoTree) }
     {

@@ -68,12 +68,19 @@ fn leaves_convert_where_shapes_are_equal(rt: HostRuntime) -> Result<(), Fail> {
     let abstract_pair = vector(VectorSize::Bi, Scalar::ABSTRACT_FLOAT);
     let abstract_pair = add(&rt, &mut types, abstract_pair)?;
     let half_pair = add(&rt, &mut types, vector(VectorSize::Bi, Scalar::F16))?;
-    let int_pair = add(&rt, &mut types, vector(VectorSize::Bi, Scalar::ABSTRACT_INT))?;
+    let int_pair = add(
+        &rt,
+        &mut types,
+        vector(VectorSize::Bi, Scalar::ABSTRACT_INT),
+    )?;
     let int_triple = add(&rt, &mut types, vector(VectorSize::Tri, Scalar::I32))?;
 
     let to_half = Some((Scalar::ABSTRACT_FLOAT, Scalar::F16));
     assert_eq!(rt; converted(&rt, &types, abstract_pair, half_pair), to_half);
-    assert_eq!(rt; converted(&rt, &types, float, float), Some((Scalar::F32, Scalar::F32)));
+    assert_eq!(rt;
+        converted(&rt, &types, float, float),
+        Some((Scalar::F32, Scalar::F32))
+    );
     assert_eq!(rt; converted(&rt, &types, abstract_float, uint), None);
     assert_eq!(rt; converted(&rt, &types, int_pair, int_triple), None);
     Ok(())
@@ -92,7 +99,10 @@ fn arrays_convert_where_their_sizes_are_equal(rt: HostRuntime) -> Result<(), Fai
     assert_eq!(rt; converted(&rt, &types, from, two), to_short);
     assert_eq!(rt; converted(&rt, &types, from, three), None);
 
-    assert_eq!(rt; inner_at(&rt, &types, two).scalar_for_conversions(&types), Some(Scalar::U16));
+    assert_eq!(rt;
+        inner_at(&rt, &types, two).scalar_for_conversions(&types),
+        Some(Scalar::U16)
+    );
     assert!(rt; inner_at(&rt, &types, from).is_abstract(&types));
     assert!(rt; !inner_at(&rt, &types, two).is_abstract(&types));
     Ok(())
@@ -105,10 +115,22 @@ fn scalars_are_told_apart(rt: HostRuntime) -> Result<(), Fail> {
     assert!(rt; Scalar::ABSTRACT_INT.is_abstract());
     assert!(rt; !Scalar::I64.is_abstract());
     assert_eq!(rt; Scalar::float(2), Scalar::F16);
-    assert!(rt; matches!(Scalar::I32.to_inner_atomic(), TypeInner::Atomic(Scalar::I32)));
+    assert!(rt;
+        matches!(
+            Scalar::I32.to_inner_atomic(),
+            TypeInner::Atomic(Scalar::I32)
+        )
+    );
 
     let mut ints = concrete_int_scalars();
-    for wanted in [Scalar::I32, Scalar::U32, Scalar::I16, Scalar::U16, Scalar::I64, Scalar::U64] {
+    for wanted in [
+        Scalar::I32,
+        Scalar::U32,
+        Scalar::I16,
+        Scalar::U16,
+        Scalar::I64,
+        Scalar::U64,
+    ] {
         assert_eq!(rt; ints.next(), Some(wanted));
     }
     assert_eq!(rt; ints.next(), None);
@@ -175,7 +197,14 @@ fn a_buffer_ends_in_an_array_of_unknown_size(rt: HostRuntime) -> Result<(), Fail
     let list = add(&rt, &mut types, array(int, ArraySize::Dynamic, 4))?;
     let fixed = add(&rt, &mut types, array(int, counted(&rt, 5), 4))?;
     let space = AddressSpace::WorkGroup;
-    let pointer = add(&rt, &mut types, TypeInner::Pointer { base: atomic, space })?;
+    let pointer = add(
+        &rt,
+        &mut types,
+        TypeInner::Pointer {
+            base: atomic,
+            space,
+        },
+    )?;
     let members = vec![in rt.alloc(); member(fixed, 0), member(list, 20)]?;
     let members = Items::from(members);
     let buffer = add(&rt, &mut types, TypeInner::Struct { members, span: 24 })?;

@@ -1,4 +1,4 @@
-use Rattle.std.proofs.Common.{◌≡◌, ◌∙◌, ap, sym, arith}
+use Rattle.std.proofs.Common.{◌∙◌, ap, sym, arith}
 use Rattle.shader_ir.specs.TypeTree.{type_handles, tree_of}
 use Rattle.shader_ir.specs.Conversion.{conversion}
 use Rattle.shader_ir.proofs.ReachLemmas.{falls}
@@ -39,7 +39,7 @@ returns-else-not-is_same t c =
     c.automatically_converts_to.ensures
     ∙ sym ((λ i. conversion (tree_of types (from.is i)) (tree_of types (to.is i)))
     ∙ conversion-Array types c.requires.backward from.base from.size from.stride c.index.result.now to.goal_base to.goal_size to.stride c.index-in-Array-goal.result.now
-        c.index.ensures c.index-in-Array-goal.ensures sizes)
+    c.index.ensures c.index-in-Array-goal.ensures sizes)
 
 pub returns-in_default-goal : goal.returns-in_default-goal
 returns-in_default-goal t c =

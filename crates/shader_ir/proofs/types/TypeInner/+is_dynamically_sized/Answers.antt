@@ -13,7 +13,7 @@ is_dynamically_sized-requires t c =
     let members = c.in-Struct.members in
     let member = c.in-Some.member.now in
     let found : slice_get members (length members - 1) ≡ Some member =
-        ap (λ list. slice_get list (length list - 1)) (sym c.as_slice.ensures) ∙ sym c.last.ensures.value ∙ ap option_copied c.in-Some.is in
+    ap (λ list. slice_get list (length list - 1)) (sym c.as_slice.ensures) ∙ sym c.last.ensures.value ∙ ap option_copied c.in-Some.is in
     let less = member_falls c.args.types.now backward members c.in-Struct.span (length members - 1) member c.index.result.now found c.index.ensures in
     let whole = ap reach c.in-Struct.is in
     (omega arith, (backward, backward.in_range member.ty c.index.result.now c.index.ensures))
@@ -24,9 +24,9 @@ returns-in-Some t c =
     let members = c.in-Struct.members in
     let member = c.in-Some.member.now in
     let found : slice_get members (length members - 1) ≡ Some member =
-        ap (λ list. slice_get list (length list - 1)) (sym c.as_slice.ensures) ∙ sym c.last.ensures.value ∙ ap option_copied c.in-Some.is in
+    ap (λ list. slice_get list (length list - 1)) (sym c.as_slice.ensures) ∙ sym c.last.ensures.value ∙ ap option_copied c.in-Some.is in
     let inside : length members - 1 < length members = slice_get_within members (length members - 1) member found in
     c.is_dynamically_sized.ensures
     ∙ sym (ap (λ inner. is_dynamically_sized (tree_of types inner)) c.in-Struct.is
     ∙ last_member types c.requires.backward is_last_dynamically_sized is_dynamically_sized (λ answer. refl) (λ answer tree trees. refl)
-        members (length members - 1) member c.index.result.now (omega arith) found c.index.ensures false)
+    members (length members - 1) member c.index.result.now (omega arith) found c.index.ensures false)

@@ -30,9 +30,9 @@ returns-in-Some t c =
     let members = c.in-Struct.members in
     let member = c.in-Some.member.now in
     let found : slice_get members (length members - 1) ≡ Some member =
-        ap (λ list. slice_get list (length list - 1)) (sym c.as_slice.ensures) ∙ sym c.last.ensures.value ∙ ap option_copied c.in-Some.is in
+    ap (λ list. slice_get list (length list - 1)) (sym c.as_slice.ensures) ∙ sym c.last.ensures.value ∙ ap option_copied c.in-Some.is in
     let inside : length members - 1 < length members = slice_get_within members (length members - 1) member found in
     c.is_runtime_array-in-Some.ensures
     ∙ sym (ap (λ inner. needs_host_buffer_byte_size (tree_of types inner)) c.in-Struct.is
     ∙ last_member types c.requires.backward ends_in_runtime_array (λ tree. is_runtime_array (root_of tree)) (λ answer. refl) (λ answer tree trees. refl)
-        members (length members - 1) member c.index.result.now (omega arith) found c.index.ensures false)
+    members (length members - 1) member c.index.result.now (omega arith) found c.index.ensures false)
