@@ -1,5 +1,5 @@
 -- `==` on types is equality of what contracts see.
-use Rattle.std.proofs.Common.{rules, ◌≡◌, ◌∙◌, refl, true, false, Bool, List, Option, Some, None, subst, sym}
+use Rattle.std.proofs.Common.{rules, ◌≡◌, true, Bool, List, Option, Some, None, subst}
 use Rattle.std.specs.Option.{option_eq}
 use Rattle.std.proofs.lemmas.Bool.{and_parts}
 use Rattle.std.specs.Cmp.Lexicographic.{pointwise, pointwise_decides}
