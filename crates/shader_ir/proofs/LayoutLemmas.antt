@@ -1,5 +1,5 @@
 -- Layouts over those of earlier types.
-use Rattle.std.proofs.Common.{◌≡◌, ◌∙◌, ap, sym, refl, subst, ℕ, zero, suc, ◌+◌, ◌<◌, ◌≤◌, nat_lt, max, List, [], ◌∷◌, ◌++◌, length, map, slice_get, take, get_or, Option, Some, None, Result, Ok, if◌then◌else◌, unwrap_or, ◌⊎◌, inl, inr, arith, rules, length-append}
+use Rattle.std.proofs.Common.{◌≡◌, ◌∙◌, ap, sym, refl, subst, ℕ, zero, suc, ◌+◌, ◌<◌, ◌≤◌, nat_lt, max, List, [], ◌∷◌, ◌++◌, length, map, slice_get, take, Option, Some, None, Ok, if◌then◌else◌, unwrap_or, ◌⊎◌, inl, inr, arith, rules, length-append}
 use Rattle.std.specs.List.{enumerate_from}
 use Rattle.std.specs.Option.{option_map}
 use Rattle.std.proofs.lemmas.Bool.{cases_lt}
@@ -10,7 +10,7 @@ use Rattle.shader_ir.specs.Layout.{alignment_of, greatest_of, member_fault, part
 use Rattle.shader_ir.specs.Sizes.{AreSizesInRange, AreTypeSizesInRange, IsTypeSizeInRange}
 use Rattle.shader_ir.specs.TypeTree.{type_handles, TypeTree, TypeTrees, Node, NoTree, OneTree, put_tree, trees_at, tree_within, tree_of}
 use Rattle.shader_ir.specs.declared.proc.layouter.LayoutErrorInner.{LayoutErrorInner}
-use Rattle.shader_ir.specs.declared.proc.layouter.LayoutErrorInner.TheVariants.{InvalidArrayElementType, InvalidStructMemberType}
+use Rattle.shader_ir.specs.declared.proc.layouter.LayoutErrorInner.TheVariants.{InvalidArrayElementType}
 use Rattle.shader_ir.specs.declared.proc.layouter.TypeLayout.{TypeLayout}
 use Rattle.shader_ir.specs.declared.module.GlobalCtx.{GlobalCtx}
 use Rattle.shader_ir.specs.declared.types.«Type».{«Type»}
@@ -86,14 +86,14 @@ module _ (types others : List «Type») (bound : ℕ) (agree : (place : ℕ) →
     -- a type without fault has one alignment among either's types
     pub same_alignment : (place : ℕ) (inner : TypeInner) → place ≤ bound → place ≤ length types → place ≤ length others → part_fault place inner ≡ None
         → alignment_of (tree_of types inner) ≡ alignment_of (tree_of others inner)
-    unfolding tree_of
+    unfolding tree_of tree_within
     same_alignment place inner within le le' fine = enough (length types) (length others) place inner le le' within fine
 
 -- a type that is held has in a tree the alignment that it has alone
 child_alike : (types : List «Type») (bound : ℕ) → ((place : ℕ) (type : «Type») → place < bound → slice_get types place ≡ Some type → part_fault place type.inner ≡ None)
     → (place : ℕ) (type : «Type») → place < bound → slice_get types place ≡ Some type
     → alignment_of (tree_within (length types) types type.inner) ≡ alignment_of (tree_of types type.inner)
-unfolding tree_of
+unfolding tree_of tree_within
 child_alike types bound sound place type lt at = by (length types) refl (slice_get_within types place type at)
   where
     by : (n : ℕ) → length types ≡ n → place < n → alignment_of (tree_within (length types) types type.inner) ≡ alignment_of (tree_within (suc (length types)) types type.inner)
