@@ -1,5 +1,5 @@
 //! Sizes and alignments of all types of an arena.
-ghost use Rattle.std.specs.Prelude.{ℕ, ◌≡◌, ◌<◌, ◌≤◌, ◌^◌, [], IfOk, IfErr, Some, length, slice_get, take};
+ghost use Rattle.std.specs.Prelude.{◌≡◌, ◌<◌, ◌≤◌, [], IfOk, IfErr, Some, length, slice_get, take};
 ghost use Rattle.std.specs.Int.{next_multiple_of};
 
 use crate::proc::sizes::MAX_TYPE_SIZE;

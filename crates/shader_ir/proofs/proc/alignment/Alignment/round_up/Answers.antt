@@ -1,4 +1,3 @@
-use Rattle.std.proofs.Common.{◌≡◌}
 use Rattle.shader_ir.proofs.PowerLemmas.{next_multiple}
 use Rattle.shader_ir.proofs.proc.alignment.Alignment.round_up.Goals as goal
 
