@@ -7,3 +7,4 @@ pub mod MaskLemmas
 pub mod TreeLemmas
 pub mod TakesLemmas
 pub mod FormLemmas
+pub mod CountLemmas

@@ -40,6 +40,19 @@ impl OverloadSet for AnyOverloadSet {
 
     ghost accepting = { acceptance_in };
 
+    fn copy(&self, alloc: Global) -> Result<AnyOverloadSet, AllocError> {
+        match self {
+            AnyOverloadSet::List(list) => {
+                let set = list.copy(alloc)?;
+                Ok(AnyOverloadSet::List(set))
+            }
+            AnyOverloadSet::Regular(regular) => {
+                let set = OverloadSet::copy(regular, alloc)?;
+                Ok(AnyOverloadSet::Regular(set))
+            }
+        }
+    }
+
     fn is_empty(&self) -> bool {
         match self {
             AnyOverloadSet::List(list) => list.is_empty(),

@@ -97,6 +97,14 @@ impl OverloadSet for List {
 
     ghost accepting = { λ _. list_accepts };
 
+    fn copy(&self, _alloc: Global) -> Result<List, AllocError> {
+        let rules = self.rules.clone()?;
+        Ok(List {
+            members: self.members,
+            rules,
+        })
+    }
+
     fn is_empty(&self) -> bool {
         self.members == 0
     }
