@@ -175,12 +175,12 @@ split n xs d fits some =
     }
 
 -- the number of zeros below the lowest set bit is the place of the first element
-pub first_element : {X : Type 0} (n : ℕ) (xs : List X) (d : X) → n < 2 ^ 16 → items_where (has_bit n) xs ≢ [] → (trailing_zeros w16 n < length xs) × Front (items_where (has_bit n) xs) xs (trailing_zeros w16 n) d
-first_element n xs d fits some =
-    let facts = bit_at-trailing_zeros w16 n (some_bit n xs some) fits in
-    let none : (i : ℕ) → i < trailing_zeros w16 n → has_bit n i ≡ false = λ i h. ap (λ b. nat_eq b 1) (facts.2 i h) in
-    let within = first_within (has_bit n) xs (trailing_zeros w16 n) none some in
-    (within, items_where-front (has_bit n) xs (trailing_zeros w16 n) d none (ap (λ b. nat_eq b 1) facts.1) within)
+pub first_element : {X : Type 0} (w : Width) (n : ℕ) (xs : List X) (d : X) → n < 2 ^ bits w → items_where (has_bit n) xs ≢ [] → (trailing_zeros w n < length xs) × Front (items_where (has_bit n) xs) xs (trailing_zeros w n) d
+first_element w n xs d fits some =
+    let facts = bit_at-trailing_zeros w n (some_bit n xs some) fits in
+    let none : (i : ℕ) → i < trailing_zeros w n → has_bit n i ≡ false = λ i h. ap (λ b. nat_eq b 1) (facts.2 i h) in
+    let within = first_within (has_bit n) xs (trailing_zeros w n) none some in
+    (within, items_where-front (has_bit n) xs (trailing_zeros w n) d none (ap (λ b. nat_eq b 1) facts.1) within)
 
 -- one step over the members of a set, each seen as a list of one element
 pub members_step : {X : Type 0} (n : ℕ) (xs : List X) (d : X) → n < 2 ^ 16 → items_where (has_bit n) xs ≢ [] → map (λ x. x ∷ []) (items_where (has_bit n) xs) ≡ items_where (has_bit (bit_and n (2 ^ 16 - 1 - (n - 1)))) xs ∷ map (λ x. x ∷ []) (items_where (has_bit (bit_and n (n - 1))) xs)

@@ -3,3 +3,8 @@ pub mod ListLemmas
 pub mod NarrowLemmas
 pub mod RegularLemmas
 pub mod SetLemmas
+pub mod MaskLemmas
+pub mod TreeLemmas
+pub mod TakesLemmas
+pub mod FormLemmas
+pub mod CountLemmas

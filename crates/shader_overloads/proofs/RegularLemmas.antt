@@ -162,6 +162,10 @@ pub ok_first : {X E : Type 0} (r : Result X E) (x : X) (o : Option X) → o ≡ 
 ok_first (Ok y) x o e h = e ∙ ap Some (sym h)
 ok_first (Err z) x o e h = h
 
+pub ok_same : {X E : Type 0} (r : Result X E) (x y : X) → IfOk r (λ z. z ≡ x) → x ≡ y → IfOk r (λ z. z ≡ y)
+ok_same (Ok z) x y h e = h ∙ e
+ok_same (Err z) x y h e = h
+
 -- ---- conclusions
 
 list_all-filter : {X : Type 0} (p q : X → Bool) (xs : List X) → list_all p xs ≡ true → list_all p (filter q xs) ≡ true

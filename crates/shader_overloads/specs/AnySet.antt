@@ -5,10 +5,12 @@ use Rattle.shader_ir.specs.declared.types.TypeInner.{TypeInner}
 use Rattle.shader_overloads.specs.declared.rule.Rule.{Rule}
 use Rattle.shader_overloads.specs.declared.any_overload_set.AnyOverloadSet.{AnyOverloadSet}
 use Rattle.shader_overloads.specs.declared.any_overload_set.AnyOverloadSet.TheVariants as sets
-use Rattle.shader_overloads.specs.Remaining.{accepts}
+use Rattle.shader_overloads.specs.Remaining.{accepts, list_accepts}
 
 abbrev pub rules_in : AnyOverloadSet → List Rule
+rules_in (sets.List rules) = rules
 rules_in (sets.Regular rules) = rules
 
 abbrev pub acceptance_in : AnyOverloadSet → List «Type» → ℕ → TypeInner → Rule → Bool
+acceptance_in (sets.List rules) = list_accepts
 acceptance_in (sets.Regular rules) = accepts

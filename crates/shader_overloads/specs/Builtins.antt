@@ -1,5 +1,5 @@
 -- The rules of each builtin, written out.
-use Rattle.std.specs.Prelude.{ℕ, Bool, true, false, List, [], ◌∷◌, ◌++◌, map}
+use Rattle.std.specs.Prelude.{ℕ, Bool, List, [], ◌∷◌, ◌++◌, map}
 use Rattle.std.specs.List.{flat_map}
 use Rattle.shader_ir.specs.declared.operators.MathFunction.{MathFunction}
 use Rattle.shader_ir.specs.declared.operators.MathFunction.TheVariants as f
@@ -181,17 +181,6 @@ rules_of f.Transpose = transpose_rules
 rules_of f.ExtractBits = extract_bits_rules
 rules_of f.InsertBits = insert_bits_rules
 rules_of f.Mix = mix_rules
-
--- whether the rules of a builtin are those of a regular set
-abbrev pub is_regular : MathFunction → Bool
-is_regular f.Ldexp = false
-is_regular f.Outer = false
-is_regular f.Refract = false
-is_regular f.Transpose = false
-is_regular f.ExtractBits = false
-is_regular f.InsertBits = false
-is_regular f.Mix = false
-is_regular _ = true
 
 -- how the set of a builtin accepts arguments
 abbrev pub acceptance_of : MathFunction → List «Type» → ℕ → TypeInner → Rule → Bool

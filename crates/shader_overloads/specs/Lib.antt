@@ -2,6 +2,9 @@ pub mod AnySet
 pub mod Bits
 pub mod Builtins
 pub mod Constructors
+pub mod Counts
+pub mod ListForms
+pub mod ListSet
 pub mod Regular
 pub mod Remaining
 pub mod Rules

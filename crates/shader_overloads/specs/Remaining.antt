@@ -1,11 +1,12 @@
 -- Which rules accept an argument, and the rules that remain after the calls on a set.
-use Rattle.std.specs.Prelude.{ℕ, ◌<◌, Bool, true, false, not, ◌&&◌, ◌||◌, List, filter, slice_get, length, All, Option, Some, None, option_and_then, is_some, IfSome}
+use Rattle.std.specs.Prelude.{◌≡◌, ℕ, ◌<◌, Bool, true, false, not, ◌&&◌, ◌||◌, List, filter, slice_get, length, All, Option, Some, None, option_and_then, is_some, IfSome}
 use Rattle.std.specs.List.{list_all}
 use Rattle.shader_ir.specs.declared.scalar.Scalar as s
 use Rattle.shader_ir.specs.declared.types.«Type».{«Type»}
 use Rattle.shader_ir.specs.declared.types.TypeInner.{TypeInner}
-use Rattle.shader_ir.specs.declared.types.TypeInner.TheVariants.{Scalar, Vector, Matrix, Atomic, Array}
+use Rattle.shader_ir.specs.declared.types.TypeInner.TheVariants.{Scalar, Vector, Matrix, Atomic, Array, Struct}
 use Rattle.shader_ir.specs.declared.proc.type_resolution.TypeResolution.{TypeResolution}
+use Rattle.shader_ir.specs.declared.proc.type_resolution.TypeResolution.TheVariants as resolutions
 use Rattle.shader_ir.specs.Conversion.{converts, same_size}
 use Rattle.shader_ir.specs.Key.{canonical, inner_of, FitsTypes, IsNoStruct}
 use Rattle.shader_ir.specs.Scalars.{is_convertible}
@@ -13,6 +14,7 @@ use Rattle.shader_ir.specs.TypeTree.{PointsBelow, TypeTree, Node, NoTree, OneTre
 use Rattle.shader_overloads.specs.declared.overload_set.SetCall.{SetCall}
 use Rattle.shader_overloads.specs.declared.overload_set.SetCall.TheVariants.{Arg, ConcreteOnly}
 use Rattle.shader_overloads.specs.declared.rule.Rule.{Rule}
+use Rattle.shader_overloads.specs.Bits.{has_bit, items_where}
 use Rattle.shader_overloads.specs.SameType.{same_type}
 use Rattle.shader_overloads.specs.ScalarSets.{is_abstract_kind}
 
@@ -103,6 +105,18 @@ RuleFits types rule = All (ArgumentFits types) rule.arguments
 -- so it is of the arguments of all rules
 pub record RulesFit (types : List «Type») (rules : List Rule) : Type 0 where
   pub each : All (RuleFits types) rules
+
+-- so it is of the rules of a list that are left
+pub record MembersFit (types : List «Type») (rules : List Rule) (members : ℕ) : Type 0 where
+  pub each : All (RuleFits types) (items_where (has_bit members) rules)
+
+-- a struct that is no type of the arena
+abbrev pub is_free_struct : TypeResolution → Bool
+is_free_struct (resolutions.Value (Struct members span)) = true
+is_free_struct _ = false
+
+abbrev pub has_no_struct : Rule → Bool
+has_no_struct rule = list_all (λ argument. not (is_free_struct argument)) rule.arguments
 
 -- the handles of a type that a call supplies are in range
 abbrev pub CallFits : List «Type» → SetCall → Type 0

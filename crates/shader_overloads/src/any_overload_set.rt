@@ -1,7 +1,7 @@
 //! Overload sets of either kind.
 ghost use Rattle.std.specs.Prelude.{◌≡◌};
 
-use crate::{OverloadSet, Regular, Rule};
+use crate::{List, OverloadSet, Regular, Rule};
 use shader_arena::UniqueArena;
 use shader_ir::{GlobalCtx, Type, TypeInner, mark};
 use std::alloc::{AllocError, Global};
@@ -9,7 +9,18 @@ use std::alloc::{AllocError, Global};
 /// An overload set of either kind.
 #[derive(Drop)]
 pub enum AnyOverloadSet {
+    List(List),
     Regular(Regular),
+}
+
+impl From<List> for AnyOverloadSet {
+    ghost use Rattle.shader_overloads.specs.declared.any_overload_set.AnyOverloadSet.TheVariants as sets;
+
+    ghost from_gives = { λ list set. set ≡ sets.List list };
+
+    fn from(list: List) -> AnyOverloadSet {
+        AnyOverloadSet::List(list)
+    }
 }
 
 impl From<Regular> for AnyOverloadSet {
@@ -29,8 +40,22 @@ impl OverloadSet for AnyOverloadSet {
 
     ghost accepting = { acceptance_in };
 
+    fn copy(&self, alloc: Global) -> Result<AnyOverloadSet, AllocError> {
+        match self {
+            AnyOverloadSet::List(list) => {
+                let set = list.copy(alloc)?;
+                Ok(AnyOverloadSet::List(set))
+            }
+            AnyOverloadSet::Regular(regular) => {
+                let set = OverloadSet::copy(regular, alloc)?;
+                Ok(AnyOverloadSet::Regular(set))
+            }
+        }
+    }
+
     fn is_empty(&self) -> bool {
         match self {
+            AnyOverloadSet::List(list) => list.is_empty(),
             AnyOverloadSet::Regular(regular) => regular.is_empty(),
         }
     }
@@ -43,6 +68,10 @@ impl OverloadSet for AnyOverloadSet {
         types: &UniqueArena<Type, mark::Type>,
     ) -> Result<AnyOverloadSet, AllocError> {
         match self {
+            AnyOverloadSet::List(list) => {
+                let set = list.arg(alloc, i, ty, types)?;
+                Ok(AnyOverloadSet::List(set))
+            }
             AnyOverloadSet::Regular(regular) => {
                 let set = OverloadSet::arg(regular, alloc, i, ty, types)?;
                 Ok(AnyOverloadSet::Regular(set))
@@ -50,20 +79,23 @@ impl OverloadSet for AnyOverloadSet {
         }
     }
 
-    fn concrete_only(self, _types: &UniqueArena<Type, mark::Type>) -> AnyOverloadSet {
+    fn concrete_only(self, types: &UniqueArena<Type, mark::Type>) -> AnyOverloadSet {
         match self {
+            AnyOverloadSet::List(list) => AnyOverloadSet::List(list.concrete_only(types)),
             AnyOverloadSet::Regular(regular) => AnyOverloadSet::Regular(regular.concrete_only()),
         }
     }
 
     fn most_preferred(&self, alloc: Global) -> Result<Rule, AllocError> {
         match self {
+            AnyOverloadSet::List(list) => list.most_preferred(alloc),
             AnyOverloadSet::Regular(regular) => regular.most_preferred(alloc),
         }
     }
 
-    fn overload_list(&self, alloc: Global, _gctx: GlobalCtx<'_>) -> Result<Vec<Rule>, AllocError> {
+    fn overload_list(&self, alloc: Global, gctx: GlobalCtx<'_>) -> Result<Vec<Rule>, AllocError> {
         match self {
+            AnyOverloadSet::List(list) => list.overload_list(alloc, gctx),
             AnyOverloadSet::Regular(regular) => regular.overload_list(alloc),
         }
     }

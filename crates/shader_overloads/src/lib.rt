@@ -3,15 +3,19 @@
 
 mod any_overload_set;
 mod constructor_set;
+mod list;
+mod list_forms;
 mod mathfunction;
 mod one_bits_iter;
 mod overload_set;
 mod regular;
 mod rule;
 mod scalar_set;
+pub mod utils;
 
 pub use any_overload_set::AnyOverloadSet;
 pub use constructor_set::{ConstructorMembers, ConstructorSet, ConstructorSize};
+pub use list::List;
 pub use mathfunction::MathOverloads;
 pub use one_bits_iter::OneBitsIter;
 pub use overload_set::{OverloadSet, SetCall, narrow};

@@ -7,12 +7,14 @@ ghost use Rattle.shader_overloads.specs.declared.rule.Rule.{Rule};
 ghost use Rattle.shader_overloads.specs.Constructors.{constructors_in};
 ghost use Rattle.shader_overloads.specs.Rules.{can_conclude, regular_rules};
 ghost use Rattle.shader_overloads.specs.ScalarSets.{scalars_in};
-ghost use Rattle.shader_overloads.specs.Builtins.{rules_of, acceptance_of, is_regular, scalars_and_vectors};
+ghost use Rattle.shader_overloads.specs.Builtins.{acceptance_of, extract_bits_rules, insert_bits_rules, ldexp_rules, mix_rules, outer_rules, refract_rules, rules_of, scalars_and_vectors, transpose_rules};
 ghost use Rattle.shader_overloads.specs.AnySet.{rules_in, acceptance_in};
-ghost use Rattle.shader_overloads.specs.Remaining.{accepts};
+ghost use Rattle.shader_overloads.specs.Remaining.{accepts, RulesFit};
 
-use crate::{AnyOverloadSet, ConclusionRule, ConstructorSet, Regular, ScalarSet};
-use shader_ir::MathFunction;
+use crate::list;
+use crate::list_forms::{ListForm, by_scalar, by_size};
+use crate::{AnyOverloadSet, ConclusionRule, ConstructorSet, ConstructorSize, Regular, ScalarSet};
+use shader_ir::{MathFunction, Scalar, VectorSize};
 use std::alloc::{AllocError, Global};
 
 /// The rules of the constructors and the scalars.
@@ -26,6 +28,7 @@ fn regular(
     requires conclude { IsTrue (list_all (can_conclude conclude) (constructors_in constructors)) }
     ensures rules { rules_in result ≡ regular_rules arity conclude (constructors_in constructors) (scalars_in scalars) }
     ensures kind { ◌≡◌ {A = List «Type» → ℕ → TypeInner → Rule → Bool} (acceptance_in result) accepts }
+    ensures fits { (types : List «Type») → RulesFit types (rules_in result) }
 {
     AnyOverloadSet::Regular(Regular::new(arity, constructors, scalars, conclude))
 }
@@ -36,6 +39,7 @@ fn component_wise(arity: usize, scalars: ScalarSet) -> AnyOverloadSet
     requires { 0 < arity }
     ensures rules { rules_in result ≡ regular_rules arity ConclusionRule.ArgumentType scalars_and_vectors (scalars_in scalars) }
     ensures kind { ◌≡◌ {A = List «Type» → ℕ → TypeInner → Rule → Bool} (acceptance_in result) accepts }
+    ensures fits { (types : List «Type») → RulesFit types (rules_in result) }
 {
     regular(
         arity,
@@ -45,24 +49,151 @@ fn component_wise(arity: usize, scalars: ScalarSet) -> AnyOverloadSet
     )
 }
 
+static FLOATS: [Scalar; 3] = [Scalar::F32, Scalar::F16, Scalar::F64];
+
+static ALL_FLOATS: [Scalar; 4] = [
+    Scalar::ABSTRACT_FLOAT,
+    Scalar::F32,
+    Scalar::F16,
+    Scalar::F64,
+];
+
+static INTEGERS: [Scalar; 6] = [
+    Scalar::I32,
+    Scalar::U32,
+    Scalar::I16,
+    Scalar::U16,
+    Scalar::I64,
+    Scalar::U64,
+];
+
+static VECTORS: [ConstructorSize; 3] = [
+    ConstructorSize::Vector(VectorSize::Bi),
+    ConstructorSize::Vector(VectorSize::Tri),
+    ConstructorSize::Vector(VectorSize::Quad),
+];
+
+static SCALARS_AND_VECTORS: [ConstructorSize; 4] = [
+    ConstructorSize::Scalar,
+    ConstructorSize::Vector(VectorSize::Bi),
+    ConstructorSize::Vector(VectorSize::Tri),
+    ConstructorSize::Vector(VectorSize::Quad),
+];
+
+static MATRICES: [ConstructorSize; 9] = [
+    ConstructorSize::Matrix {
+        columns: VectorSize::Bi,
+        rows: VectorSize::Bi,
+    },
+    ConstructorSize::Matrix {
+        columns: VectorSize::Bi,
+        rows: VectorSize::Tri,
+    },
+    ConstructorSize::Matrix {
+        columns: VectorSize::Bi,
+        rows: VectorSize::Quad,
+    },
+    ConstructorSize::Matrix {
+        columns: VectorSize::Tri,
+        rows: VectorSize::Bi,
+    },
+    ConstructorSize::Matrix {
+        columns: VectorSize::Tri,
+        rows: VectorSize::Tri,
+    },
+    ConstructorSize::Matrix {
+        columns: VectorSize::Tri,
+        rows: VectorSize::Quad,
+    },
+    ConstructorSize::Matrix {
+        columns: VectorSize::Quad,
+        rows: VectorSize::Bi,
+    },
+    ConstructorSize::Matrix {
+        columns: VectorSize::Quad,
+        rows: VectorSize::Tri,
+    },
+    ConstructorSize::Matrix {
+        columns: VectorSize::Quad,
+        rows: VectorSize::Quad,
+    },
+];
+
+/// A float with an integer exponent of its shape.
+fn ldexp(alloc: Global) -> Result<list::List, AllocError>
+    ensures rules { IfOk result (λ set. set ≡ ldexp_rules) }
+    ensures fits { (types : List «Type») → IfOk result (λ set. RulesFit types set) }
+{
+    let rules = by_scalar(alloc, ListForm::Ldexp, &FLOATS, &SCALARS_AND_VECTORS)?;
+    list::List::from_rules(rules)
+}
+
+/// Two vectors, of the columns' size and of the rows'.
+fn outer(alloc: Global) -> Result<list::List, AllocError>
+    ensures rules { IfOk result (λ set. set ≡ outer_rules) }
+    ensures fits { (types : List «Type») → IfOk result (λ set. RulesFit types set) }
+{
+    let rules = by_size(alloc, ListForm::Outer, &MATRICES, &FLOATS)?;
+    list::List::from_rules(rules)
+}
+
+/// Two vectors and a scalar.
+fn refract(alloc: Global) -> Result<list::List, AllocError>
+    ensures rules { IfOk result (λ set. set ≡ refract_rules) }
+    ensures fits { (types : List «Type») → IfOk result (λ set. RulesFit types set) }
+{
+    let rules = by_size(alloc, ListForm::Refract, &VECTORS, &FLOATS)?;
+    list::List::from_rules(rules)
+}
+
+/// A matrix.
+fn transpose(alloc: Global) -> Result<list::List, AllocError>
+    ensures rules { IfOk result (λ set. set ≡ transpose_rules) }
+    ensures fits { (types : List «Type») → IfOk result (λ set. RulesFit types set) }
+{
+    let rules = by_size(alloc, ListForm::Transpose, &MATRICES, &ALL_FLOATS)?;
+    list::List::from_rules(rules)
+}
+
+/// Integers, an offset and a count.
+fn extract_bits(alloc: Global) -> Result<list::List, AllocError>
+    ensures rules { IfOk result (λ set. set ≡ extract_bits_rules) }
+    ensures fits { (types : List «Type») → IfOk result (λ set. RulesFit types set) }
+{
+    let rules = by_scalar(alloc, ListForm::ExtractBits, &INTEGERS, &SCALARS_AND_VECTORS)?;
+    list::List::from_rules(rules)
+}
+
+/// Integers, more of them, an offset and a count.
+fn insert_bits(alloc: Global) -> Result<list::List, AllocError>
+    ensures rules { IfOk result (λ set. set ≡ insert_bits_rules) }
+    ensures fits { (types : List «Type») → IfOk result (λ set. RulesFit types set) }
+{
+    let rules = by_scalar(alloc, ListForm::InsertBits, &INTEGERS, &SCALARS_AND_VECTORS)?;
+    list::List::from_rules(rules)
+}
+
+/// Two floats of one shape, and a third of it or a scalar.
+fn mix(alloc: Global) -> Result<list::List, AllocError>
+    ensures rules { IfOk result (λ set. set ≡ mix_rules) }
+    ensures fits { (types : List «Type») → IfOk result (λ set. RulesFit types set) }
+{
+    let rules = by_scalar(alloc, ListForm::Mix, &ALL_FLOATS, &SCALARS_AND_VECTORS)?;
+    list::List::from_rules(rules)
+}
+
 /// The overload sets of builtin functions.
 pub trait MathOverloads: Sized {
-    /// Whether the rules of the builtin are known here.
-    ghost is_known: { Self → Bool };
-
     /// The rules that a call of the builtin may mean.
-    fn overloads(self, alloc: Global) -> Result<AnyOverloadSet, AllocError>
-        requires { IsTrue (is_known self) };
+    fn overloads(self, alloc: Global) -> Result<AnyOverloadSet, AllocError>;
 }
 
 impl MathOverloads for MathFunction {
-    ghost is_known = { is_regular };
-
     #[tactic(auto, unfolding(crate::specs::Constructors::all_constructors, shader_ir::specs::Scalars::named_scalars))]
     fn overloads(self, alloc: Global) -> Result<AnyOverloadSet, AllocError>
-        requires { IsTrue (is_regular self) }
         ensures rules { IfOk result (λ set. rules_in set ≡ rules_of self) }
         ensures kind { IfOk result (λ set. ◌≡◌ {A = List «Type» → ℕ → TypeInner → Rule → Bool} (acceptance_in set) (acceptance_of self)) }
+        ensures fits { (types : List «Type») → IfOk result (λ set. RulesFit types (rules_in set)) }
     {
         use ConclusionRule as Cr;
         use ConstructorSet as Cs;
@@ -134,13 +265,13 @@ impl MathOverloads for MathFunction {
             Mf::Inverse => Ok(regular(1, Cs::SQUARE_MATRICES, Ss::FLOAT, Cr::ArgumentType)),
             Mf::Determinant => Ok(regular(1, Cs::SQUARE_MATRICES, Ss::FLOAT, Cr::Scalar)),
             Mf::QuantizeToF16 => Ok(component_wise(1, Ss::F32)),
-            Mf::Ldexp
-            | Mf::Outer
-            | Mf::Refract
-            | Mf::Transpose
-            | Mf::ExtractBits
-            | Mf::InsertBits
-            | Mf::Mix => unreachable!(),
+            Mf::Ldexp => Ok(AnyOverloadSet::List(ldexp(alloc)?)),
+            Mf::Outer => Ok(AnyOverloadSet::List(outer(alloc)?)),
+            Mf::Refract => Ok(AnyOverloadSet::List(refract(alloc)?)),
+            Mf::Transpose => Ok(AnyOverloadSet::List(transpose(alloc)?)),
+            Mf::ExtractBits => Ok(AnyOverloadSet::List(extract_bits(alloc)?)),
+            Mf::InsertBits => Ok(AnyOverloadSet::List(insert_bits(alloc)?)),
+            Mf::Mix => Ok(AnyOverloadSet::List(mix(alloc)?)),
         }
     }
 }

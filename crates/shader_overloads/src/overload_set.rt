@@ -20,6 +20,11 @@ pub trait OverloadSet: Sized + Drop {
     /// Whether a rule has an argument of a place that takes a value of a type, as sets of this kind decide it.
     ghost accepting: { Self → List «Type» → ℕ → TypeInner → Rule → Bool };
 
+    /// An equal set. No rule is copied.
+    fn copy(&self, alloc: Global) -> Result<Self, AllocError>
+        ensures rules { IfOk result (λ set. rules set ≡ rules self.now) }
+        ensures kind { IfOk result (λ set. accepting set ≡ accepting self.now) };
+
     /// Whether there is no rule.
     fn is_empty(&self) -> bool
         ensures { IsTrue result ↔ (rules self.now ≡ []) };
@@ -61,6 +66,15 @@ impl OverloadSet for Regular {
     ghost rules = { λ set. set };
 
     ghost accepting = { λ _. accepts };
+
+    /// Takes no memory.
+    fn copy(&self, _alloc: Global) -> Result<Self, AllocError>
+        ensures found { IsOk result }
+        ensures rules { IfOk result (λ set. set ≡ self.now) }
+        ensures kind { IfOk result (λ _. ◌≡◌ {A = List «Type» → ℕ → TypeInner → Rule → Bool} accepts accepts) }
+    {
+        Ok(self.copy())
+    }
 
     fn is_empty(&self) -> bool {
         self.is_empty()

@@ -5,6 +5,7 @@ ghost use Rattle.shader_ir.specs.declared.proc.type_resolution.TypeResolution.Th
 ghost use Rattle.shader_overloads.specs.Constructors.{constructors_in, to_inner};
 ghost use Rattle.shader_overloads.specs.ScalarSets.{scalars_in};
 ghost use Rattle.shader_overloads.specs.Remaining.{leaf_scalar};
+ghost use Rattle.shader_overloads.specs.Counts.{IsLeastCount, IsGreatestCount};
 ghost use Rattle.shader_overloads.specs.Rules.{regular_rules, rule_for, conclusion_of, can_conclude};
 
 use crate::{Conclusion, ConstructorSet, ConstructorSize, Rule, ScalarSet};
@@ -75,6 +76,34 @@ impl Regular {
         ensures { result ≡ [] }
     {
         Self::EMPTY
+    }
+
+    /// An equal set.
+    pub fn copy(&self) -> Regular
+        ensures { result ≡ self.now }
+    {
+        Regular {
+            arity: self.arity,
+            constructors: self.constructors,
+            scalars: self.scalars,
+            conclude: self.conclude,
+        }
+    }
+
+    /// The number of arguments of each rule.
+    pub fn min_arguments(&self) -> usize
+        requires { self.now ≢ [] }
+        ensures { IsLeastCount result self.now }
+    {
+        self.arity
+    }
+
+    /// The number of arguments of each rule.
+    pub fn max_arguments(&self) -> usize
+        requires { self.now ≢ [] }
+        ensures { IsGreatestCount result self.now }
+    {
+        self.arity
     }
 
     pub fn is_empty(&self) -> bool

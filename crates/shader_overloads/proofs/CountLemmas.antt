@@ -1,0 +1,54 @@
+-- How many arguments the rules of a set have.
+use Rattle.std.proofs.Common.{◌≡◌, ◌≢◌, ◌≤◌, ◌<◌, ◌∙◌, ℕ, zero, suc, List, [], ◌∷◌, ◌++◌, length, map, replicate, refl, sym, ap, arith, subst, inl, inr, ◌⊎◌, Some, None, slice_get, length-append}
+use Rattle.std.specs.List.{flat_map}
+use Rattle.std.proofs.lemmas.List.{length-replicate}
+use Rattle.shader_ir.specs.declared.scalar.Scalar.{Scalar}
+use Rattle.shader_ir.specs.declared.proc.type_resolution.TypeResolution.TheVariants as resolutions
+use Rattle.shader_overloads.specs.declared.constructor_set.ConstructorSize.{ConstructorSize}
+use Rattle.shader_overloads.specs.declared.regular.ConclusionRule.{ConclusionRule}
+use Rattle.shader_overloads.specs.declared.rule.Rule.{Rule}
+use Rattle.shader_overloads.specs.Constructors.{to_inner}
+use Rattle.shader_overloads.specs.Counts.{IsCount, IsLeastCount, IsGreatestCount}
+use Rattle.shader_overloads.specs.Rules.{regular_rules, rule_for}
+
+-- an element of a list, of which each is made by f of some two parts
+element_of : {X Y Z : Type 0} (P : Z → Type 0) (f : X → Y → Z) → ((x : X) (y : Y) → P (f x y)) → (x : X) (ys : List Y) (rest : List Z) → ((k : ℕ) (z : Z) → slice_get rest k ≡ Some z → P z) → (k : ℕ) (z : Z) → slice_get (map (f x) ys ++ rest) k ≡ Some z → P z
+element_of P f each x [] rest later k z at = later k z at
+element_of P f each x (y ∷ ys) rest later zero z at = let same : f x y ≡ z = cc in subst P same (each x y)
+element_of P f each x (y ∷ ys) rest later (suc k) z at = element_of P f each x ys rest later k z at
+
+element : {X Y Z : Type 0} (P : Z → Type 0) (f : X → Y → Z) → ((x : X) (y : Y) → P (f x y)) → (xs : List X) (ys : List Y) (k : ℕ) (z : Z) → slice_get (flat_map (λ x. map (f x) ys) xs) k ≡ Some z → P z
+element P f each [] ys k z at = absurd (cc)
+element P f each (x ∷ xs) ys k z at = element_of P f each x ys (flat_map (λ v. map (f v) ys) xs) (element P f each xs ys) k z at
+
+rule_for-count : (arity : ℕ) (conclude : ConclusionRule) (size : ConstructorSize) (s : Scalar) → length (rule_for arity conclude size s).arguments ≡ arity
+rule_for-count arity conclude size s = length-replicate arity (resolutions.Value (to_inner size s))
+
+-- each rule of a regular set has its arity
+count_of : (arity : ℕ) (conclude : ConclusionRule) (all : List ConstructorSize) (scalars : List Scalar) (k : ℕ) (rule : Rule) → slice_get (regular_rules arity conclude all scalars) k ≡ Some rule → length rule.arguments ≡ arity
+unfolding regular_rules
+count_of arity conclude all scalars = element (λ (rule : Rule). length rule.arguments ≡ arity) (rule_for arity conclude) (rule_for-count arity conclude) all scalars
+
+some_first : (rules : List Rule) → rules ≢ [] → (rule : Rule) × (slice_get rules 0 ≡ Some rule)
+some_first [] some = absurd (some refl)
+some_first (rule ∷ rules) some = (rule, refl)
+
+reached : (arity : ℕ) (conclude : ConclusionRule) (all : List ConstructorSize) (scalars : List Scalar) (rules : List Rule) → regular_rules arity conclude all scalars ≡ rules → rules ≢ [] → IsCount arity rules
+reached arity conclude all scalars rules e some =
+    let first = some_first rules some in
+    (0, first.0, first.1, count_of arity conclude all scalars 0 first.0 (ap (λ list. slice_get list 0) e ∙ first.1))
+
+bound : (arity : ℕ) (conclude : ConclusionRule) (all : List ConstructorSize) (scalars : List Scalar) (rules : List Rule) → regular_rules arity conclude all scalars ≡ rules → (k : ℕ) (rule : Rule) → slice_get rules k ≡ Some rule → length rule.arguments ≡ arity
+bound arity conclude all scalars rules e k rule at = count_of arity conclude all scalars k rule (ap (λ list. slice_get list k) e ∙ at)
+
+pub least_count : (arity : ℕ) (conclude : ConclusionRule) (all : List ConstructorSize) (scalars : List Scalar) (rules : List Rule) → regular_rules arity conclude all scalars ≡ rules → rules ≢ [] → IsLeastCount arity rules
+least_count arity conclude all scalars rules e some = record {
+  reached = reached arity conclude all scalars rules e some;
+  bound = λ k rule at. let count = bound arity conclude all scalars rules e k rule at in omega arith;
+}
+
+pub greatest_count : (arity : ℕ) (conclude : ConclusionRule) (all : List ConstructorSize) (scalars : List Scalar) (rules : List Rule) → regular_rules arity conclude all scalars ≡ rules → rules ≢ [] → IsGreatestCount arity rules
+greatest_count arity conclude all scalars rules e some = record {
+  reached = reached arity conclude all scalars rules e some;
+  bound = λ k rule at. let count = bound arity conclude all scalars rules e k rule at in omega arith;
+}

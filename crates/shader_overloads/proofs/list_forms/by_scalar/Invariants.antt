@@ -1,0 +1,8 @@
+use Rattle.std.proofs.Common.{◌≡◌, take}
+use Rattle.std.specs.List.{flat_map}
+use Rattle.shader_overloads.specs.ListForms.{rows}
+use Rattle.shader_overloads.proofs.list_forms.by_scalar.Given as goal
+
+-- the rules of the scalars so far
+abbrev pub invariant-loop-scalar : goal.invariant-loop-scalar
+invariant-loop-scalar l = l.rules.items ≡ flat_map (λ scalar. flat_map (λ size. rows l.form size scalar) l.sizes) (take l.scalar-index l.scalars)

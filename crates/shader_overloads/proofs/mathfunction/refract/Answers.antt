@@ -1,0 +1,20 @@
+use Rattle.std.proofs.Common.{◌∙◌, ap, sym, subst}
+use Rattle.shader_overloads.specs.Remaining.{RulesFit}
+use Rattle.shader_overloads.specs.Builtins.{refract_rules}
+use Rattle.shader_overloads.proofs.FormLemmas.{refract_made, plain_rules_fit, ok_fit}
+use Rattle.shader_overloads.proofs.RegularLemmas.{ok_same}
+use Rattle.shader_overloads.proofs.mathfunction.refract.Goals as goal
+
+pub from_rules-requires-clause-count : goal.from_rules-requires-clause-count
+from_rules-requires-clause-count c = (refract_made c.in_ok-rules.rules.items c.in_ok-rules.ensures).few
+
+pub from_rules-requires-clause-no_struct : goal.from_rules-requires-clause-no_struct
+from_rules-requires-clause-no_struct c = (refract_made c.in_ok-rules.rules.items c.in_ok-rules.ensures).no_struct
+
+pub returns-clause-rules : goal.returns-clause-rules
+returns-clause-rules c = ok_same c.from_rules.result _ _ c.from_rules.ensures (refract_made c.in_ok-rules.rules.items c.in_ok-rules.ensures).is
+
+pub returns-clause-fits : goal.returns-clause-fits
+returns-clause-fits c types =
+    let made = refract_made c.in_ok-rules.rules.items c.in_ok-rules.ensures in
+    ok_fit types c.from_rules.result _ _ c.from_rules.ensures made.is made.plain

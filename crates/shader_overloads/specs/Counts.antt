@@ -1,0 +1,17 @@
+-- How many arguments rules have.
+use Rattle.std.specs.Prelude.{◌≡◌, ◌≤◌, ℕ, List, Some, length, slice_get}
+use Rattle.shader_overloads.specs.declared.rule.Rule.{Rule}
+
+-- some rule has so many arguments
+abbrev pub IsCount : ℕ → List Rule → Type 0
+IsCount count rules = (k : ℕ) × (rule : Rule) × (slice_get rules k ≡ Some rule) × (length rule.arguments ≡ count)
+
+-- the least number of arguments that a rule has
+pub record IsLeastCount (count : ℕ) (rules : List Rule) : Type 0 where
+  pub reached : IsCount count rules
+  pub bound : (k : ℕ) (rule : Rule) → slice_get rules k ≡ Some rule → count ≤ length rule.arguments
+
+-- the greatest number of arguments that a rule has
+pub record IsGreatestCount (count : ℕ) (rules : List Rule) : Type 0 where
+  pub reached : IsCount count rules
+  pub bound : (k : ℕ) (rule : Rule) → slice_get rules k ≡ Some rule → length rule.arguments ≤ count

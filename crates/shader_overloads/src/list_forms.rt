@@ -1,0 +1,210 @@
+//! The rules of the builtins whose overload sets are lists.
+ghost use Rattle.std.specs.Prelude.{◌≡◌, ◌++◌, ◌∷◌, [], IfOk, OnOk};
+ghost use Rattle.std.specs.List.{flat_map};
+ghost use Rattle.shader_overloads.specs.Builtins.{rule};
+ghost use Rattle.shader_overloads.specs.ListForms.{rows};
+
+use crate::utils::rule;
+use crate::{ConstructorSize, Rule};
+use shader_ir::{Scalar, TypeInner};
+use std::alloc::{AllocError, Global};
+
+/// A builtin whose overload set is a list.
+#[derive(Clone, Copy)]
+pub enum ListForm {
+    Ldexp,
+    Outer,
+    Refract,
+    Transpose,
+    ExtractBits,
+    InsertBits,
+    Mix,
+}
+
+/// The rules of all combinations, those of one scalar together.
+pub fn by_scalar(
+    alloc: Global,
+    form: ListForm,
+    scalars: &[Scalar],
+    sizes: &[ConstructorSize],
+) -> Result<Vec<Rule>, AllocError>
+    ensures { IfOk result (λ rules. rules.items ≡ flat_map (λ scalar. flat_map (λ size. rows form size scalar) sizes.now) scalars.now) }
+{
+    let mut rules = Vec::new(alloc);
+    for scalar in scalars {
+        push_sizes(alloc, &mut rules, form, *scalar, sizes)?;
+    }
+    Ok(rules)
+}
+
+/// The rules of all combinations, those of one constructor together.
+pub fn by_size(
+    alloc: Global,
+    form: ListForm,
+    sizes: &[ConstructorSize],
+    scalars: &[Scalar],
+) -> Result<Vec<Rule>, AllocError>
+    ensures { IfOk result (λ rules. rules.items ≡ flat_map (λ size. flat_map (rows form size) scalars.now) sizes.now) }
+{
+    let mut rules = Vec::new(alloc);
+    for size in sizes {
+        push_scalars(alloc, &mut rules, form, *size, scalars)?;
+    }
+    Ok(rules)
+}
+
+fn push_sizes(
+    alloc: Global,
+    rules: &mut Vec<Rule>,
+    form: ListForm,
+    scalar: Scalar,
+    sizes: &[ConstructorSize],
+) -> Result<(), AllocError>
+    ensures { OnOk result (rules.new.items ≡ rules.old.items ++ flat_map (λ size. rows form size scalar) sizes.now) }
+{
+    for size in sizes {
+        push_rows(alloc, rules, form, *size, scalar)?;
+    }
+    Ok(())
+}
+
+fn push_scalars(
+    alloc: Global,
+    rules: &mut Vec<Rule>,
+    form: ListForm,
+    size: ConstructorSize,
+    scalars: &[Scalar],
+) -> Result<(), AllocError>
+    ensures { OnOk result (rules.new.items ≡ rules.old.items ++ flat_map (rows form size) scalars.now) }
+{
+    for scalar in scalars {
+        push_rows(alloc, rules, form, size, *scalar)?;
+    }
+    Ok(())
+}
+
+/// Appends the rules of one constructor and one scalar.
+fn push_rows(
+    alloc: Global,
+    rules: &mut Vec<Rule>,
+    form: ListForm,
+    size: ConstructorSize,
+    scalar: Scalar,
+) -> Result<(), AllocError>
+    ensures { OnOk result (rules.new.items ≡ rules.old.items ++ rows form size scalar) }
+{
+    let ret = size.to_inner(scalar);
+    let first = size.to_inner(scalar);
+    match form {
+        ListForm::Ldexp => {
+            let exponent = size.to_inner(Scalar::I32);
+            push_rule(alloc, rules, &[first, exponent], ret)
+        }
+        ListForm::Outer => push_outer(alloc, rules, size, scalar),
+        ListForm::Refract => {
+            let normal = size.to_inner(scalar);
+            push_rule(alloc, rules, &[first, normal, TypeInner::Scalar(scalar)], ret)
+        }
+        ListForm::Transpose => push_transpose(alloc, rules, size, scalar),
+        ListForm::ExtractBits => {
+            push_rule(alloc, rules, &[first, unsigned(), unsigned()], ret)
+        }
+        ListForm::InsertBits => {
+            let bits = size.to_inner(scalar);
+            push_rule(alloc, rules, &[first, bits, unsigned(), unsigned()], ret)
+        }
+        ListForm::Mix => push_mix(alloc, rules, size, scalar),
+    }
+}
+
+fn push_outer(
+    alloc: Global,
+    rules: &mut Vec<Rule>,
+    size: ConstructorSize,
+    scalar: Scalar,
+) -> Result<(), AllocError>
+    ensures { OnOk result (rules.new.items ≡ rules.old.items ++ rows ListForm.Outer size scalar) }
+{
+    match size {
+        ConstructorSize::Matrix { columns, rows } => {
+            let left = TypeInner::Vector {
+                size: columns,
+                scalar,
+            };
+            let right = TypeInner::Vector { size: rows, scalar };
+            let ret = TypeInner::Matrix {
+                columns,
+                rows,
+                scalar,
+            };
+            push_rule(alloc, rules, &[left, right], ret)
+        }
+        ConstructorSize::Scalar => Ok(()),
+        ConstructorSize::Vector(_) => Ok(()),
+    }
+}
+
+fn push_transpose(
+    alloc: Global,
+    rules: &mut Vec<Rule>,
+    size: ConstructorSize,
+    scalar: Scalar,
+) -> Result<(), AllocError>
+    ensures { OnOk result (rules.new.items ≡ rules.old.items ++ rows ListForm.Transpose size scalar) }
+{
+    match size {
+        ConstructorSize::Matrix { columns, rows } => {
+            let input = TypeInner::Matrix {
+                columns,
+                rows,
+                scalar,
+            };
+            let ret = TypeInner::Matrix {
+                columns: rows,
+                rows: columns,
+                scalar,
+            };
+            push_rule(alloc, rules, &[input], ret)
+        }
+        ConstructorSize::Scalar => Ok(()),
+        ConstructorSize::Vector(_) => Ok(()),
+    }
+}
+
+fn push_mix(
+    alloc: Global,
+    rules: &mut Vec<Rule>,
+    size: ConstructorSize,
+    scalar: Scalar,
+) -> Result<(), AllocError>
+    ensures { OnOk result (rules.new.items ≡ rules.old.items ++ rows ListForm.Mix size scalar) }
+{
+    let left = size.to_inner(scalar);
+    let right = size.to_inner(scalar);
+    let ratio = size.to_inner(scalar);
+    let ret = size.to_inner(scalar);
+    push_rule(alloc, rules, &[left, right, ratio], ret)?;
+    let left = size.to_inner(scalar);
+    let right = size.to_inner(scalar);
+    let ret = size.to_inner(scalar);
+    push_rule(alloc, rules, &[left, right, TypeInner::Scalar(scalar)], ret)
+}
+
+fn unsigned() -> TypeInner
+    ensures { result ≡ TypeInner.Scalar Scalar.U32 }
+{
+    TypeInner::Scalar(Scalar::U32)
+}
+
+fn push_rule<const N: usize>(
+    alloc: Global,
+    rules: &mut Vec<Rule>,
+    args: &[TypeInner; N],
+    ret: TypeInner,
+) -> Result<(), AllocError>
+    ensures { OnOk result (rules.new.items ≡ rules.old.items ++ rule args.now ret ∷ []) }
+{
+    let made = rule(alloc, args, ret)?;
+    rules.push(made)?;
+    Ok(())
+}
