@@ -1,5 +1,6 @@
 mod AnswerSteps
 mod Appending
+mod BuiltinFacts
 mod Decimals
 mod Found
 mod InputSpellings
@@ -8,4 +9,5 @@ mod Placing
 mod RequestSpellings
 mod Separators
 mod Splits
+mod Supplied
 mod TypeSpellings

@@ -1,17 +1,23 @@
 -- Lines and the requests that they make, in both directions.
-use Rattle.std.proofs.Common.{◌≡◌, ℕ, Bool, true, false, eqb, Option, Some, None, List, [], ◌∷◌, ◌++◌, refl, sym, subst, ap, ◌∙◌}
+use Rattle.std.proofs.Common.{◌≡◌, ℕ, ◌<◌, length, map, arith, Bool, true, false, eqb, Option, Some, None, List, [], ◌∷◌, ◌++◌, refl, sym, subst, ap, ◌∙◌}
+use Rattle.std.specs.Prelude.{IsTrue}
 use Rattle.std.specs.List.{slice_split, list_any, join_with_byte}
 use Rattle.std.specs.Option.{option_map, option_and_then}
-use Rattle.std.proofs.lemmas.Option.{option_and_then_some}
+use Rattle.std.proofs.lemmas.Option.{option_and_then_some, same_Some}
 use Rattle.std.proofs.lemmas.List.Splits.{join_with_byte-slice_split}
+use Rattle.shader_ir.specs.declared.operators.MathFunction.{MathFunction}
+use Rattle.shader_overloads.specs.Builtins.{is_regular}
 use Rattle.typer.specs.declared.request.Kind.{Kind}
 use Rattle.typer.specs.declared.request.Kind.TheVariants as kinds
 use Rattle.typer.specs.declared.request.Request.{Request}
-use Rattle.typer.specs.declared.request.Request.TheVariants.{Convert}
+use Rattle.typer.specs.declared.request.Request.TheVariants.{Call, Rules, Convert}
 use Rattle.typer.specs.declared.types.SpelledType.{SpelledType}
+use Rattle.typer.specs.Builtins.{builtin_of, builtin_text}
 use Rattle.typer.specs.Laws.{RequestsAreSpelled}
-use Rattle.typer.specs.Requests.{IsWritableRequest, all_kinds, convert_from, kind_of, kind_text, request_from, request_of, request_text, request_with, request_words}
+use Rattle.typer.specs.Requests.{AreWritableTypes, IsWritableRequest, all_kinds, call_from, call_with, convert_from, kind_of, kind_text, named_from, request_from, request_of, request_text, request_with, request_words, rules_from, types_of}
+use Rattle.typer.specs.Builtins.{named_builtins}
 use Rattle.typer.specs.Types.{type_of, type_text}
+use Rattle.typer.proofs.BuiltinFacts.{builtin_facts, builtin_is_regular}
 use Rattle.typer.proofs.Found.{found_is, mapped}
 use Rattle.typer.proofs.Separators.{AreSolid, is_break, is_end, is_space, no_end, no_space, quiet_append, split_joined}
 use Rattle.typer.proofs.TypeSpellings.{type_is, type_named, type_quiet}
@@ -54,7 +60,59 @@ convert_is (from ∷ to ∷ []) request e =
     subst (AreWordsOf kinds.Convert (from ∷ to ∷ [])) m.2 (spelled, (h.1, k.1)))
 convert_is (from ∷ to ∷ other ∷ words) request e = cc
 
+-- types whose texts are the words
+abbrev AreTypesOf : List (List ℕ) → List SpelledType → Type 0
+AreTypesOf words types = (map type_text types ≡ words) × AreWritableTypes types
+
+types_are : (words : List (List ℕ)) (types : List SpelledType) → types_of words ≡ Some types → AreTypesOf words types
+types_are [] types e = subst (AreTypesOf []) (same_Some [] types e) (refl, tt)
+types_are (word ∷ words) types e =
+    option_and_then_some {P = AreTypesOf (word ∷ words) types} (λ t. option_map (λ ts. t ∷ ts) (types_of words)) (type_of word) types e
+    (λ t found inner.
+    let m = mapped (λ (ts : List SpelledType). t ∷ ts) (types_of words) types inner in
+    let h = type_is word t found in
+    let k = types_are words m.0 m.1 in
+    let spelled : map type_text (t ∷ m.0) ≡ word ∷ words =
+        ap (λ (w : List ℕ). w ∷ map type_text m.0) (sym h.0) ∙ ap (λ (ws : List (List ℕ)). word ∷ ws) k.0 in
+    subst (AreTypesOf (word ∷ words)) m.2 (spelled, (h.1, k.1)))
+
+-- a builtin and types whose texts are the words
+abbrev AreNamedOf : List (List ℕ) → MathFunction × List SpelledType → Type 0
+AreNamedOf words named = (builtin_text named.0 ∷ map type_text named.1 ≡ words) × IsTrue (is_regular named.0) × AreWritableTypes named.1
+
+named_are : (words : List (List ℕ)) (named : MathFunction × List SpelledType) → named_from words ≡ Some named → AreNamedOf words named
+named_are [] named e = cc
+named_are (name ∷ words) named e =
+    option_and_then_some {P = AreNamedOf (name ∷ words) named} (λ function. option_map (λ types. (function, types)) (types_of words)) (builtin_of name) named e
+    (λ function found inner.
+    let m = mapped (λ (types : List SpelledType). (function, types)) (types_of words) named inner in
+    let h = found_is builtin_text named_builtins name function found in
+    let k = types_are words m.0 m.1 in
+    let spelled : builtin_text function ∷ map type_text m.0 ≡ name ∷ words =
+        ap (λ (w : List ℕ). w ∷ map type_text m.0) (sym h) ∙ ap (λ (ws : List (List ℕ)). name ∷ ws) k.0 in
+    subst (AreNamedOf (name ∷ words)) m.2 (spelled, builtin_is_regular name function found, k.1))
+
+call_with_is : (words : List (List ℕ)) (function : MathFunction) (types : List SpelledType) (request : Request) → AreNamedOf words (function, types)
+    → call_with function types ≡ Some request → AreWordsOf kinds.Call words request
+call_with_is words function [] request named e = cc
+call_with_is words function (t ∷ types) request named e =
+    subst (AreWordsOf kinds.Call words) (same_Some (Call function (t ∷ types)) request e)
+    (ap (λ (ws : List (List ℕ)). kind_text kinds.Call ∷ ws) named.0, (named.1, named.2, omega arith))
+
+call_is : (words : List (List ℕ)) (request : Request) → call_from words ≡ Some request → AreWordsOf kinds.Call words request
+call_is words request e =
+    option_and_then_some {P = AreWordsOf kinds.Call words request} (λ (named : MathFunction × List SpelledType). call_with named.0 named.1) (named_from words) request e
+    (λ named found inner. call_with_is words named.0 named.1 request (named_are words named found) inner)
+
+rules_are : (words : List (List ℕ)) (request : Request) → rules_from words ≡ Some request → AreWordsOf kinds.Rules words request
+rules_are words request e =
+    let m = mapped (λ (named : MathFunction × List SpelledType). Rules named.0 named.1) (named_from words) request e in
+    let named = named_are words m.0 m.1 in
+    subst (AreWordsOf kinds.Rules words) m.2 (ap (λ (ws : List (List ℕ)). kind_text kinds.Rules ∷ ws) named.0, (named.1, named.2))
+
 with_is : (kind : Kind) (words : List (List ℕ)) (request : Request) → request_with kind words ≡ Some request → AreWordsOf kind words request
+with_is kinds.Call words request e = call_is words request e
+with_is kinds.Rules words request e = rules_are words request e
 with_is kinds.Convert words request e = convert_is words request e
 
 words_are : (words : List (List ℕ)) (request : Request) → request_from words ≡ Some request → (words ≡ request_words request) × IsWritableRequest request
@@ -73,17 +131,37 @@ request_is line request e =
     let h = words_are (slice_split is_space line) request e in
     (sym (join_with_byte-slice_split 32 line) ∙ ap (join_with_byte 32) h.0, h.1)
 
+types_unbroken : (types : List SpelledType) → AreWritableTypes types → AreUnbroken (map type_text types)
+types_unbroken [] writable = tt
+types_unbroken (t ∷ types) writable = (type_quiet t writable.0, types_unbroken types writable.1)
+
 request_unbroken : (request : Request) → IsWritableRequest request → AreUnbroken (request_words request)
+request_unbroken (Call function types) writable = (refl, ((builtin_facts function writable.0).1, types_unbroken types writable.1))
+request_unbroken (Rules function types) writable = (refl, ((builtin_facts function writable.0).1, types_unbroken types writable.1))
 request_unbroken (Convert from to) writable = (refl, (type_quiet from writable.0, (type_quiet to writable.1, tt)))
 
 -- the text of a request has no end of line
 pub request_line : (request : Request) → IsWritableRequest request → list_any is_end (request_text request) ≡ false
 request_line request writable = unbroken_line (request_words request) (request_unbroken request writable)
 
+types_named : (types : List SpelledType) → AreWritableTypes types → types_of (map type_text types) ≡ Some types
+types_named [] writable = refl
+types_named (t ∷ types) writable = rw (type_named t writable.0, types_named types writable.1) refl
+
 words_named : (request : Request) → IsWritableRequest request → request_from (request_words request) ≡ Some request
+words_named (Call function []) writable = absurd (omega (arith, writable.2))
+words_named (Call function (t ∷ types)) writable =
+    rw ((builtin_facts function writable.0).0, type_named t writable.1.0, types_named types writable.1.1) refl
+words_named (Rules function types) writable = rw ((builtin_facts function writable.0).0, types_named types writable.1) refl
 words_named (Convert from to) writable = rw (type_named from writable.0, type_named to writable.1) refl
 
 words_cut : (request : Request) → IsWritableRequest request → slice_split is_space (request_text request) ≡ request_words request
+words_cut (Call function types) writable =
+    split_joined 32 (kind_text kinds.Call) (builtin_text function ∷ map type_text types) refl
+    (unbroken_solid (request_words (Call function types)) (request_unbroken (Call function types) writable))
+words_cut (Rules function types) writable =
+    split_joined 32 (kind_text kinds.Rules) (builtin_text function ∷ map type_text types) refl
+    (unbroken_solid (request_words (Rules function types)) (request_unbroken (Rules function types) writable))
 words_cut (Convert from to) writable =
     split_joined 32 (kind_text kinds.Convert) (type_text from ∷ type_text to ∷ []) refl
     (unbroken_solid (request_words (Convert from to)) (request_unbroken (Convert from to) writable))

@@ -1,29 +1,46 @@
 -- What is said to each line, and to a whole input.
 use Rattle.std.specs.Prelude.{◌+◌, ℕ, List, [], ◌∷◌, ◌++◌, Option, Some, None, codes}
 use Rattle.std.specs.Option.{option_map}
+use Rattle.std.specs.List.{join_by}
 use Rattle.std.specs.Fmt.{decimal}
 use Rattle.shader_ir.specs.declared.scalar.Scalar.{Scalar}
+use Rattle.shader_overloads.specs.declared.rule.Conclusion.{Conclusion}
+use Rattle.shader_overloads.specs.declared.rule.Rule.{Rule}
 use Rattle.typer.specs.declared.answer.Outcome.{Outcome}
 use Rattle.typer.specs.declared.answer.Outcome.TheVariants.{Done, BadLine}
 use Rattle.typer.specs.declared.reply.Reply.{Reply}
-use Rattle.typer.specs.declared.reply.Reply.TheVariants.{Conversion, Refused}
+use Rattle.typer.specs.declared.reply.Reply.TheVariants as replies
 use Rattle.typer.specs.declared.request.Request.{Request}
-use Rattle.typer.specs.declared.request.Request.TheVariants.{Convert}
+use Rattle.typer.specs.declared.request.Request.TheVariants.{Call, Rules, Convert}
+use Rattle.typer.specs.Calls.{conclusion_of, rules_left}
 use Rattle.typer.specs.Conversions.{conversion_of}
 use Rattle.typer.specs.Lines.{lines_of}
 use Rattle.typer.specs.Requests.{request_of}
 use Rattle.typer.specs.Scalars.{scalar_text}
+use Rattle.typer.specs.Texts.{conclusion_text, rule_text}
 
 abbrev pub reply_text : Reply → List ℕ
-reply_text (Conversion from to) = scalar_text from ++ codes " to " ++ scalar_text to
-reply_text Refused = codes "refused"
+reply_text (replies.Conclusion conclusion) = conclusion_text conclusion
+reply_text (replies.Rules rules) = join_by rule_text (codes "; ") rules
+reply_text (replies.Conversion from to) = scalar_text from ++ codes " to " ++ scalar_text to
+reply_text replies.Refused = codes "refused"
 
 abbrev pub converted : Option (Scalar × Scalar) → Reply
-converted (Some scalars) = Conversion scalars.0 scalars.1
-converted None = Refused
+converted (Some scalars) = replies.Conversion scalars.0 scalars.1
+converted None = replies.Refused
+
+abbrev pub concluded : Option Conclusion → Reply
+concluded (Some conclusion) = replies.Conclusion conclusion
+concluded None = replies.Refused
+
+abbrev pub listed : List Rule → Reply
+listed [] = replies.Refused
+listed (rule ∷ rules) = replies.Rules (rule ∷ rules)
 
 -- the reply to a request
 abbrev pub reply_of : Request → Reply
+reply_of (Call function arguments) = concluded (conclusion_of function arguments)
+reply_of (Rules function arguments) = listed (rules_left function arguments)
 reply_of (Convert from to) = converted (conversion_of from to)
 
 -- the reply to a line, if it asks for something

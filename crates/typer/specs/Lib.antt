@@ -1,4 +1,6 @@
 pub mod Answers
+pub mod Builtins
+pub mod Calls
 pub mod Conversions
 pub mod Cuts
 pub mod Laws
@@ -8,4 +10,5 @@ pub mod Pieces
 pub mod Requests
 pub mod Runs
 pub mod Scalars
+pub mod Texts
 pub mod Types

@@ -2,6 +2,7 @@
 
 ghost use Rattle.std.specs.Prelude.{◌≡◌, ◌<◌, ◌≤◌, ◌+◌, [], length, IfOk};
 ghost use Rattle.shader_ir.specs.TypeTree.{PointsBelow};
+ghost use Rattle.typer.specs.Calls.{own_inner, own_types};
 ghost use Rattle.typer.specs.Conversions.{AreFlat, IsPlaced, KeepsTypes, conversion_of};
 
 use crate::types::SpelledType;
@@ -10,7 +11,7 @@ use shader_ir::{ArraySize, Scalar, Type, TypeInner, mark};
 use std::alloc::{AllocError, Global};
 
 /// The type as the IR has it. The base of an array goes into the arena.
-fn place(
+pub fn place(
     types: &mut UniqueArena<Type, mark::Type>,
     spelled: SpelledType,
 ) -> Result<TypeInner, AllocError>
@@ -20,6 +21,7 @@ fn place(
     ensures kept { IfOk result (λ _. KeepsTypes types.old types.new) }
     ensures room { IfOk result (λ _. length types.new ≤ length types.old + 1) }
     ensures placed { IfOk result (λ inner. IsPlaced types.new spelled inner) }
+    ensures alone { IfOk result (λ inner. types.old ≡ [] → (types.new ≡ own_types spelled) × (inner ≡ own_inner spelled)) }
     ensures within { IfOk result (λ inner. PointsBelow (length types.new) inner) }
 {
     match spelled {

@@ -2,7 +2,9 @@
 #![tactic(auto)]
 
 mod answer;
+mod builtins;
 mod bytes;
+mod call;
 mod conversion;
 mod laws;
 mod lines;
@@ -21,6 +23,7 @@ mod source;
 mod status;
 #[cfg(test)]
 mod tests;
+mod texts;
 mod types;
 mod writing;
 

@@ -1,15 +1,23 @@
 //! What is said to a line.
 
+use crate::call::{conclusion, remaining_rules};
 use crate::conversion::conversion;
 use crate::request::{Request, parse_request};
 use crate::scalars::ScalarText;
-use shader_ir::Scalar;
+use crate::texts::{ConclusionText, RulesText};
+use crate::types::SpelledType;
+use shader_ir::{Items, MathFunction, Scalar};
+use shader_overloads::{Conclusion, Rule};
 use std::alloc::{AllocError, Global};
 use std::fmt;
 
 /// What is said to a line that asks for something.
 #[derive(Drop)]
 pub enum Reply {
+    /// The type of a call.
+    Conclusion(Conclusion),
+    /// The rules that are left, one at least.
+    Rules(Items<Rule>),
     /// The leaf scalars of a conversion, from and to.
     Conversion(Scalar, Scalar),
     Refused,
@@ -23,6 +31,8 @@ impl fmt::Display for Reply {
 
     fn fmt<W: fmt::Write>(&self, f: &mut fmt::Formatter<W>) -> fmt::Result {
         match self {
+            Reply::Conclusion(conclusion) => write!(f, "{}", ConclusionText(conclusion)),
+            Reply::Rules(rules) => write!(f, "{}", RulesText(rules.as_slice())),
             Reply::Conversion(from, to) => {
                 write!(f, "{} to {}", ScalarText(*from), ScalarText(*to))
             }
@@ -32,8 +42,11 @@ impl fmt::Display for Reply {
 }
 
 impl Reply {
-    ghost use Rattle.std.specs.Prelude.{◌≡◌, IfOk};
-    ghost use Rattle.typer.specs.Answers.{converted, reply_to};
+    ghost use Rattle.std.specs.Prelude.{◌≡◌, IfOk, IsTrue, Some};
+    ghost use Rattle.shader_overloads.specs.Builtins.{is_regular};
+    ghost use Rattle.typer.specs.Answers.{concluded, converted, listed, reply_to};
+    ghost use Rattle.typer.specs.Calls.{conclusion_of, rules_left};
+    ghost use Rattle.typer.specs.Conversions.{conversion_of};
 
     fn from_conversion(scalars: Option<(Scalar, Scalar)>) -> Reply
         ensures { result ≡ converted scalars }
@@ -44,6 +57,59 @@ impl Reply {
         }
     }
 
+    fn from_conclusion(found: Option<Conclusion>) -> Reply
+        ensures { result ≡ concluded found }
+    {
+        match found {
+            Some(found) => Reply::Conclusion(found),
+            None => Reply::Refused,
+        }
+    }
+
+    fn from_rules(rules: Items<Rule>) -> Reply
+        ensures { result ≡ listed rules }
+    {
+        if rules.len() == 0 {
+            return Reply::Refused;
+        }
+        Reply::Rules(rules)
+    }
+
+    fn to_call(
+        alloc: Global,
+        function: MathFunction,
+        arguments: &[SpelledType],
+    ) -> Result<Option<Reply>, AllocError>
+        requires { IsTrue (is_regular function) }
+        ensures { IfOk result (λ reply. reply ≡ Some (concluded (conclusion_of function arguments.now))) }
+    {
+        let found = conclusion(alloc, function, arguments)?;
+        Ok(Some(Reply::from_conclusion(found)))
+    }
+
+    fn to_rules(
+        alloc: Global,
+        function: MathFunction,
+        arguments: &[SpelledType],
+    ) -> Result<Option<Reply>, AllocError>
+        requires { IsTrue (is_regular function) }
+        ensures { IfOk result (λ reply. reply ≡ Some (listed (rules_left function arguments.now))) }
+    {
+        let rules = remaining_rules(alloc, function, arguments)?;
+        Ok(Some(Reply::from_rules(rules)))
+    }
+
+    fn to_conversion(
+        alloc: Global,
+        from: SpelledType,
+        to: SpelledType,
+    ) -> Result<Option<Reply>, AllocError>
+        ensures { IfOk result (λ reply. reply ≡ Some (converted (conversion_of from to))) }
+    {
+        let scalars = conversion(alloc, from, to)?;
+        Ok(Some(Reply::from_conversion(scalars)))
+    }
+
     /// The reply to a line, if it asks for something.
     pub fn to(alloc: Global, line: &[u8]) -> Result<Option<Reply>, AllocError>
         ensures { IfOk result (λ reply. reply ≡ reply_to line.now) }
@@ -52,9 +118,13 @@ impl Reply {
             return Ok(None);
         };
         match request {
-            Request::Convert(from, to) => {
-                Ok(Some(Reply::from_conversion(conversion(alloc, from, to)?)))
+            Request::Call(function, arguments) => {
+                Reply::to_call(alloc, function, arguments.as_slice())
             }
+            Request::Rules(function, arguments) => {
+                Reply::to_rules(alloc, function, arguments.as_slice())
+            }
+            Request::Convert(from, to) => Reply::to_conversion(alloc, from, to),
         }
     }
 }

@@ -1,22 +1,31 @@
 //! What a line asks for.
 
 ghost use Rattle.std.specs.Prelude.{◌≡◌, IfOk};
+ghost use Rattle.std.specs.Option.{option_map};
 ghost use Rattle.typer.specs.Pieces.{pieces_left};
-ghost use Rattle.typer.specs.Requests.{kind_of, convert_from, request_from, request_of};
+ghost use Rattle.typer.specs.Requests.{call_from, convert_from, kind_of, named_from, request_from, request_of, rules_from, types_of};
 
+use crate::builtins::builtin_from_word;
 use crate::pieces::Pieces;
 use crate::types::SpelledType;
+use shader_ir::{Items, MathFunction};
 use std::alloc::{AllocError, Global};
 
 /// What a line asks for, by its first word.
 #[derive(Clone, Copy, Debug, PartialEq, Eq)]
 pub enum Kind {
+    Call,
+    Rules,
     Convert,
 }
 
 /// A line that asks for something.
 #[derive(Drop)]
 pub enum Request {
+    /// The type of a call with these arguments, of which there is one at least.
+    Call(MathFunction, Items<SpelledType>),
+    /// The rules of a builtin that take these arguments.
+    Rules(MathFunction, Items<SpelledType>),
     /// The scalars by which a value of the first type becomes one of the second.
     Convert(SpelledType, SpelledType),
 }
@@ -24,12 +33,14 @@ pub enum Request {
 impl Kind {
     ghost use Rattle.typer.specs.Requests.{kind_text};
 
-    const ALL: [Kind; 1] = [Kind::Convert];
+    const ALL: [Kind; 3] = [Kind::Call, Kind::Rules, Kind::Convert];
 
     fn word(self) -> &'static str
         ensures { result.now ≡ kind_text self }
     {
         match self {
+            Kind::Call => "call",
+            Kind::Rules => "rules",
             Kind::Convert => "convert",
         }
     }
@@ -59,21 +70,76 @@ fn parse_convert(mut words: Pieces<'_>) -> Option<Request>
     Some(Request::Convert(from, to))
 }
 
+/// The types that the words spell, if each spells one.
+fn parse_types(alloc: Global, words: Pieces<'_>) -> Result<Option<Vec<SpelledType>>, AllocError>
+    ensures { IfOk result (λ types. option_map (λ v. v.items) types ≡ types_of (pieces_left words.entry)) }
+{
+    let mut types = Vec::new(alloc);
+    for word in words {
+        let Some(next) = SpelledType::from_word(word) else {
+            return Ok(None);
+        };
+        types.push(next)?;
+    }
+    Ok(Some(types))
+}
+
+/// The builtin that the first word names, and the types that the others spell.
+fn parse_arguments(
+    alloc: Global,
+    mut words: Pieces<'_>,
+) -> Result<Option<(MathFunction, Vec<SpelledType>)>, AllocError>
+    ensures { IfOk result (λ named. option_map (λ n. (n.0, n.1.items)) named ≡ named_from (pieces_left words.entry)) }
+{
+    let Some(function) = words.next().and_then(builtin_from_word) else {
+        return Ok(None);
+    };
+    match parse_types(alloc, words)? {
+        Some(types) => Ok(Some((function, types))),
+        None => Ok(None),
+    }
+}
+
+/// The request for a call's type, if the words name a builtin and spell a type at least.
+fn parse_call(alloc: Global, words: Pieces<'_>) -> Result<Option<Request>, AllocError>
+    ensures { IfOk result (λ request. request ≡ call_from (pieces_left words.entry)) }
+{
+    let Some((function, arguments)) = parse_arguments(alloc, words)? else {
+        return Ok(None);
+    };
+    if arguments.is_empty() {
+        return Ok(None);
+    }
+    Ok(Some(Request::Call(function, Items::from(arguments))))
+}
+
+/// The request for rules, if the words name a builtin and spell types.
+fn parse_rules(alloc: Global, words: Pieces<'_>) -> Result<Option<Request>, AllocError>
+    ensures { IfOk result (λ request. request ≡ rules_from (pieces_left words.entry)) }
+{
+    let Some((function, arguments)) = parse_arguments(alloc, words)? else {
+        return Ok(None);
+    };
+    Ok(Some(Request::Rules(function, Items::from(arguments))))
+}
+
 /// The request that the words make.
-fn parse_words(mut words: Pieces<'_>) -> Result<Option<Request>, AllocError>
+fn parse_words(alloc: Global, mut words: Pieces<'_>) -> Result<Option<Request>, AllocError>
     ensures { IfOk result (λ request. request ≡ request_from (pieces_left words.entry)) }
 {
     let Some(kind) = words.next().and_then(Kind::from_word) else {
         return Ok(None);
     };
     match kind {
+        Kind::Call => parse_call(alloc, words),
+        Kind::Rules => parse_rules(alloc, words),
         Kind::Convert => Ok(parse_convert(words)),
     }
 }
 
 /// The request that a line makes, if it makes one.
-pub fn parse_request(_alloc: Global, line: &[u8]) -> Result<Option<Request>, AllocError>
+pub fn parse_request(alloc: Global, line: &[u8]) -> Result<Option<Request>, AllocError>
     ensures { IfOk result (λ request. request ≡ request_of line.now) }
 {
-    parse_words(Pieces::new(line, b' '))
+    parse_words(alloc, Pieces::new(line, b' '))
 }

@@ -3,12 +3,31 @@ use crate::running::run;
 use crate::status::Status;
 use std::alloc::AllocError;
 
-const ROWS: &[u8] = b"convert vec2<AbstractFloat> vec2<f16>\nconvert f32 u32\nconvert f32 f32\n";
+const ROWS: &[u8] = b"call Max u32 AbstractInt\ncall Max f32 f64\ncall Abs AbstractInt\n";
 
-const ANSWER: &[u8] = b"AbstractFloat to f16\nrefused\nf32 to f32\n";
+const ANSWER: &[u8] = b"u32\nrefused\nAbstractInt\n";
 
 /// Lines with their answers, each an input of its own.
-const ANSWERED: [(&[u8], &[u8]); 8] = [
+const ANSWERED: [(&[u8], &[u8]); 27] = [
+    (b"call Max u32 AbstractInt\n", b"u32\n"),
+    (b"call Max f32 f64\n", b"refused\n"),
+    (b"call Abs AbstractInt\n", b"AbstractInt\n"),
+    (b"call Max u32\n", b"u32\n"),
+    (b"call Fma f32 AbstractFloat AbstractInt\n", b"f32\n"),
+    (b"call Max vec2<f32> vec3<f32>\n", b"refused\n"),
+    (b"call Abs mat2x2<f32>\n", b"refused\n"),
+    (b"call Abs f32 f32\n", b"refused\n"),
+    (b"call Abs bool\n", b"refused\n"),
+    (b"call Sin AbstractInt\n", b"AbstractFloat\n"),
+    (b"call Distance AbstractFloat AbstractFloat\n", b"f32\n"),
+    (b"call Modf vec2<f32>\n", b"modf_result<vec2<f32>>\n"),
+    (b"call Modf AbstractInt\n", b"modf_result<f32>\n"),
+    (b"call Cross vec3<AbstractInt> vec3<AbstractFloat>\n", b"vec3<AbstractFloat>\n"),
+    (b"call Abs array<f32,2,4>\n", b"refused\n"),
+    (b"rules Pow vec2<AbstractInt> vec2<f16>\n", b"(vec2<f16>, vec2<f16>) -> vec2<f16>\n"),
+    (b"rules Pack4xI8\n", b"(vec4<i32>) -> u32\n"),
+    (b"rules Abs bool\n", b"refused\n"),
+    (b"call Abs f32", b"f32\n"),
     (b"convert vec2<AbstractFloat> vec2<f16>\n", b"AbstractFloat to f16\n"),
     (b"convert f32 f32\n", b"f32 to f32\n"),
     (b"convert AbstractFloat u32\n", b"refused\n"),
@@ -20,7 +39,11 @@ const ANSWERED: [(&[u8], &[u8]); 8] = [
 ];
 
 /// Lines that ask for nothing, each an input of its own.
-const BAD: [&[u8]; 9] = [
+const BAD: [&[u8]; 13] = [
+    b"call Abs\n",
+    b"rules\n",
+    b"call abs f32\n",
+    b"rules Abs \n",
     b"\n",
     b"convert f32\n",
     b"convert f32 f32 f32\n",
@@ -50,11 +73,11 @@ fn stops_at_bad_lines(rt: HostRuntime) {
         assert_eq!(rt; run(rt.alloc(), &mut source, &mut sink), Status::BadLine);
         assert_eq!(rt; sink.bytes(), b"bad line 1\n".as_slice());
     }
-    let input = b"convert f32 f32\nfoo\nconvert f32 f32\n".as_slice();
+    let input = b"call Abs f32\nfoo\ncall Abs f32\n".as_slice();
     let mut source = TestSource::new(input, 100);
     let mut sink = TestSink::new(Vec::new(rt.alloc()), 100, 1000);
     assert_eq!(rt; run(rt.alloc(), &mut source, &mut sink), Status::BadLine);
-    assert_eq!(rt; sink.bytes(), b"f32 to f32\nbad line 2\n".as_slice());
+    assert_eq!(rt; sink.bytes(), b"f32\nbad line 2\n".as_slice());
 }
 
 #[test]

@@ -1,0 +1,44 @@
+-- Calls of builtins: the rules that remain, and what the preferred one concludes.
+use Rattle.std.specs.Prelude.{◌+◌, ◌&&◌, ℕ, Bool, true, List, [], ◌∷◌, filter, Option, Some, None}
+use Rattle.shader_ir.specs.declared.operators.MathFunction.{MathFunction}
+use Rattle.shader_ir.specs.declared.types.«Type».{«Type»}
+use Rattle.shader_ir.specs.declared.types.ArraySize.TheVariants.{Constant}
+use Rattle.shader_ir.specs.declared.types.TypeInner.{TypeInner}
+use Rattle.shader_ir.specs.declared.types.TypeInner.TheVariants as inner
+use Rattle.shader_overloads.specs.declared.rule.Conclusion.{Conclusion}
+use Rattle.shader_overloads.specs.declared.rule.Rule.{Rule}
+use Rattle.shader_overloads.specs.Builtins.{acceptance_of, rules_of}
+use Rattle.typer.specs.declared.types.SpelledType.{SpelledType}
+use Rattle.typer.specs.declared.types.SpelledType.TheVariants.{Plain, Array}
+use Rattle.typer.specs.Conversions.{unnamed}
+use Rattle.typer.specs.Types.{inner_of}
+
+-- a type in an arena of its own, which holds the base of an array and nothing else
+abbrev pub own_types : SpelledType → List «Type»
+own_types (Plain plain) = []
+own_types (Array base count stride) = unnamed (inner_of base) ∷ []
+
+abbrev pub own_inner : SpelledType → TypeInner
+own_inner (Plain plain) = inner_of plain
+own_inner (Array base count stride) = inner.Array 0 (Constant count) stride
+
+-- whether a rule takes the type as the argument of a place
+abbrev pub takes_argument : MathFunction → ℕ → SpelledType → Rule → Bool
+takes_argument function place spelled rule = acceptance_of function (own_types spelled) place (own_inner spelled) rule
+
+-- whether a rule takes the arguments, of which the first has the place
+abbrev pub takes_all : MathFunction → ℕ → List SpelledType → Rule → Bool
+takes_all function place [] rule = true
+takes_all function place (argument ∷ arguments) rule = takes_argument function place argument rule && takes_all function (place + 1) arguments rule
+
+-- the rules of the builtin that take all arguments, in order
+abbrev pub rules_left : MathFunction → List SpelledType → List Rule
+rules_left function arguments = filter (takes_all function 0 arguments) (rules_of function)
+
+abbrev pub first_conclusion : List Rule → Option Conclusion
+first_conclusion [] = None
+first_conclusion (rule ∷ rules) = Some rule.conclusion
+
+-- the type of the call, where a rule is left
+abbrev pub conclusion_of : MathFunction → List SpelledType → Option Conclusion
+conclusion_of function arguments = first_conclusion (rules_left function arguments)
