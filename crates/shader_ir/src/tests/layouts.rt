@@ -41,7 +41,7 @@ impl Arenas {
     }
 
     fn add(&mut self, rt: &impl Abort, inner: TypeInner) -> Result<Handle<mark::Type>, Fail> {
-        assert!(rt; !self.types.is_full());
+        assert!(rt; self.types.len() < 100);
         match self.types.insert(Type { name: None, inner }) {
             Ok(handle) => Ok(handle),
             Err(failed) => Ok(self.types.insert(failed.value)?),
@@ -53,7 +53,7 @@ impl Arenas {
         rt: &impl Abort,
         expression: Expression,
     ) -> Result<Handle<mark::Expression>, Fail> {
-        assert!(rt; !self.expressions.is_full());
+        assert!(rt; self.expressions.len() < 100);
         match self.expressions.append(expression) {
             Ok(handle) => Ok(handle),
             Err(failed) => Ok(self.expressions.append(failed.value)?),
@@ -65,7 +65,7 @@ impl Arenas {
         rt: &impl Abort,
         init: Handle<mark::Expression>,
     ) -> Result<Handle<mark::Constant>, Fail> {
-        assert!(rt; !self.constants.is_full());
+        assert!(rt; self.constants.len() < 100);
         let constant = Constant {
             name: None,
             ty: Handle::from_index(0),
@@ -82,7 +82,7 @@ impl Arenas {
         rt: &impl Abort,
         init: Option<Handle<mark::Expression>>,
     ) -> Result<Handle<mark::Override>, Fail> {
-        assert!(rt; !self.overrides.is_full());
+        assert!(rt; self.overrides.len() < 100);
         let sizer = Override {
             name: None,
             ty: Handle::from_index(0),
