@@ -20,7 +20,6 @@ use Rattle.shader_ir.specs.contracts.types.StructMemberPartialEq.TheImpl as memb
 use Rattle.shader_ir.specs.contracts.types.TypeInnerPartialEq.TheImpl as inner
 use Rattle.shader_ir.specs.contracts.types.TypePartialEq.TheImpl as whole
 use Rattle.shader_ir.specs.contracts.«module».PredeclaredTypePartialEq.TheImpl as predeclared
-use Rattle.shader_ir.specs.declared.scalar.VectorSize.{VectorSize}
 use Rattle.shader_ir.specs.declared.types.StructMember.{StructMember}
 use Rattle.shader_ir.specs.declared.types.«Type».{«Type»}
 use Rattle.shader_ir.specs.declared.types.TypeInner.{TypeInner}
