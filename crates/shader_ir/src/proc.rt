@@ -4,7 +4,7 @@ mod alignment;
 mod backward;
 mod conversion;
 mod known_numbers;
-pub(crate) mod layouter;
+mod layouter;
 mod operands;
 mod scalars;
 mod sizes;
