@@ -1,3 +1,4 @@
+pub mod ConversionLemmas
 pub mod KeyLemmas
 pub mod LayoutLemmas
 pub mod MemberLemmas
