@@ -1,3 +1,4 @@
+pub mod ConversionLemmas
 pub mod KeyLemmas
 pub mod LayoutLawLemmas
 pub mod LayoutLemmas

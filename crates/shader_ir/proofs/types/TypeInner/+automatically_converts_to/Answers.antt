@@ -2,7 +2,7 @@ use Rattle.std.proofs.Common.{◌∙◌, ap, sym, arith}
 use Rattle.shader_ir.specs.TypeTree.{type_handles, tree_of}
 use Rattle.shader_ir.specs.Conversion.{conversion}
 use Rattle.shader_ir.proofs.ReachLemmas.{falls}
-use Rattle.shader_ir.proofs.TypeTreeLemmas.{conversion-Array, conversion-leaf, conversion-other, conversion-unequal}
+use Rattle.shader_ir.proofs.ConversionLemmas.{conversion-Array, conversion-leaf, conversion-other, conversion-unequal}
 use Rattle.shader_ir.proofs.types.TypeInner.+automatically_converts_to.Goals as goal
 
 -- the base comes before the array
