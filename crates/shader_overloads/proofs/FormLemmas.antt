@@ -158,7 +158,6 @@ mix_made rules e = record {
   plain = refl;
 }
 
-
 pub ok_fit : {E : Type 0} (list : List «Type») (r : Result (List Rule) E) (made written : List Rule) → IfOk r (λ rules. rules ≡ made) → made ≡ written → list_all is_plain_rule written ≡ true → IfOk r (λ rules. RulesFit list rules)
 ok_fit list (Ok rules) made written e is plain = subst (RulesFit list) (sym (e ∙ is)) (plain_rules_fit list written plain)
 ok_fit list (Err error) made written e is plain = e

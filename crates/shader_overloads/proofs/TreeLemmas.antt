@@ -76,7 +76,6 @@ module _ (types : List «Type») (backward : IsBackward types) where
   tree_of-Array base size stride type at =
       ap (λ o. Node (Array base size stride) (put_tree child o NoTree)) at ∙ ap (λ t. Node (Array base size stride) (OneTree t NoTree)) (child_is base type at)
 
-
 pub rank_le : (place : ℕ) (inner : TypeInner) → PointsBelow place inner → array_rank inner ≤ place
 rank_le place (Array base size stride) h = let below : base < place = h 0 0 (omega arith) in omega arith
 rank_le place inner h = omega arith

@@ -261,11 +261,7 @@ fn accepts_argument(
 }
 
 /// Whether an argument takes a value of the type.
-fn takes(
-    argument: &TypeResolution,
-    ty: &TypeInner,
-    types: &UniqueArena<Type, mark::Type>,
-) -> bool
+fn takes(argument: &TypeResolution, ty: &TypeInner, types: &UniqueArena<Type, mark::Type>) -> bool
     requires backward { IsBackward types.now }
     requires ty_in { PointsBelow (length types.now) ty.now }
     requires fits { ArgumentFits types.now argument.now }

@@ -103,12 +103,15 @@ fn push_rows(
         ListForm::Outer => push_outer(alloc, rules, size, scalar),
         ListForm::Refract => {
             let normal = size.to_inner(scalar);
-            push_rule(alloc, rules, &[first, normal, TypeInner::Scalar(scalar)], ret)
+            push_rule(
+                alloc,
+                rules,
+                &[first, normal, TypeInner::Scalar(scalar)],
+                ret,
+            )
         }
         ListForm::Transpose => push_transpose(alloc, rules, size, scalar),
-        ListForm::ExtractBits => {
-            push_rule(alloc, rules, &[first, unsigned(), unsigned()], ret)
-        }
+        ListForm::ExtractBits => { push_rule(alloc, rules, &[first, unsigned(), unsigned()], ret) }
         ListForm::InsertBits => {
             let bits = size.to_inner(scalar);
             push_rule(alloc, rules, &[first, bits, unsigned(), unsigned()], ret)

@@ -11,9 +11,10 @@ ghost use Rattle.shader_overloads.specs.Builtins.{acceptance_of, extract_bits_ru
 ghost use Rattle.shader_overloads.specs.AnySet.{rules_in, acceptance_in};
 ghost use Rattle.shader_overloads.specs.Remaining.{accepts, RulesFit};
 
-use crate::list;
 use crate::list_forms::{ListForm, by_scalar, by_size};
-use crate::{AnyOverloadSet, ConclusionRule, ConstructorSet, ConstructorSize, Regular, ScalarSet};
+use crate::{
+    AnyOverloadSet, ConclusionRule, ConstructorSet, ConstructorSize, Regular, ScalarSet, list,
+};
 use shader_ir::{MathFunction, Scalar, VectorSize};
 use std::alloc::{AllocError, Global};
 
@@ -160,7 +161,12 @@ fn extract_bits(alloc: Global) -> Result<list::List, AllocError>
     ensures rules { IfOk result (λ set. set ≡ extract_bits_rules) }
     ensures fits { (types : List «Type») → IfOk result (λ set. RulesFit types set) }
 {
-    let rules = by_scalar(alloc, ListForm::ExtractBits, &INTEGERS, &SCALARS_AND_VECTORS)?;
+    let rules = by_scalar(
+        alloc,
+        ListForm::ExtractBits,
+        &INTEGERS,
+        &SCALARS_AND_VECTORS,
+    )?;
     list::List::from_rules(rules)
 }
 
@@ -239,29 +245,64 @@ impl MathOverloads for MathFunction {
             | Mf::FirstTrailingBit
             | Mf::FirstLeadingBit => Ok(component_wise(1, Ss::CONCRETE_INTEGER)),
             Mf::Pack4x8snorm | Mf::Pack4x8unorm => Ok(regular(1, Cs::VEC4, Ss::F32, Cr::U32)),
-            Mf::Pack2x16snorm
-            | Mf::Pack2x16unorm
-            | Mf::Pack2x16float => Ok(regular(1, Cs::VEC2, Ss::F32, Cr::U32)),
+            Mf::Pack2x16snorm | Mf::Pack2x16unorm | Mf::Pack2x16float => Ok(regular(
+                1,
+                Cs::VEC2,
+                Ss::F32,
+                Cr::U32,
+            )),
             Mf::Pack4xI8 | Mf::Pack4xI8Clamp => Ok(regular(1, Cs::VEC4, Ss::I32, Cr::U32)),
             Mf::Pack4xU8 | Mf::Pack4xU8Clamp => Ok(regular(1, Cs::VEC4, Ss::U32, Cr::U32)),
-            Mf::Unpack4x8snorm
-            | Mf::Unpack4x8unorm => Ok(regular(1, Cs::SCALAR, Ss::U32, Cr::Vec4F)),
-            Mf::Unpack2x16snorm
-            | Mf::Unpack2x16unorm
-            | Mf::Unpack2x16float => Ok(regular(1, Cs::SCALAR, Ss::U32, Cr::Vec2F)),
+            Mf::Unpack4x8snorm | Mf::Unpack4x8unorm => Ok(regular(
+                1,
+                Cs::SCALAR,
+                Ss::U32,
+                Cr::Vec4F,
+            )),
+            Mf::Unpack2x16snorm | Mf::Unpack2x16unorm | Mf::Unpack2x16float => Ok(regular(
+                1,
+                Cs::SCALAR,
+                Ss::U32,
+                Cr::Vec2F,
+            )),
             Mf::Unpack4xI8 => Ok(regular(1, Cs::SCALAR, Ss::U32, Cr::Vec4I)),
             Mf::Unpack4xU8 => Ok(regular(1, Cs::SCALAR, Ss::U32, Cr::Vec4U)),
             Mf::Dot4I8Packed => Ok(regular(2, Cs::SCALAR, Ss::U32, Cr::I32)),
             Mf::Dot4U8Packed => Ok(regular(2, Cs::SCALAR, Ss::U32, Cr::U32)),
             Mf::Dot => Ok(regular(2, Cs::VECN, Ss::NUMERIC, Cr::Scalar)),
-            Mf::Modf => Ok(regular(1, Cs::SCALAR_OR_VECN, Ss::FLOAT_ABSTRACT_UNIMPLEMENTED, Cr::Modf)),
-            Mf::Frexp => Ok(regular(1, Cs::SCALAR_OR_VECN, Ss::FLOAT_ABSTRACT_UNIMPLEMENTED, Cr::Frexp)),
+            Mf::Modf => Ok(regular(
+                1,
+                Cs::SCALAR_OR_VECN,
+                Ss::FLOAT_ABSTRACT_UNIMPLEMENTED,
+                Cr::Modf,
+            )),
+            Mf::Frexp => Ok(regular(
+                1,
+                Cs::SCALAR_OR_VECN,
+                Ss::FLOAT_ABSTRACT_UNIMPLEMENTED,
+                Cr::Frexp,
+            )),
             Mf::Cross => Ok(regular(2, Cs::VEC3, Ss::FLOAT, Cr::ArgumentType)),
-            Mf::Distance => Ok(regular(2, Cs::SCALAR_OR_VECN, Ss::FLOAT_ABSTRACT_UNIMPLEMENTED, Cr::Scalar)),
+            Mf::Distance => Ok(regular(
+                2,
+                Cs::SCALAR_OR_VECN,
+                Ss::FLOAT_ABSTRACT_UNIMPLEMENTED,
+                Cr::Scalar,
+            )),
             Mf::Length => Ok(regular(1, Cs::SCALAR_OR_VECN, Ss::FLOAT, Cr::Scalar)),
             Mf::Normalize => Ok(regular(1, Cs::VECN, Ss::FLOAT, Cr::ArgumentType)),
-            Mf::FaceForward => Ok(regular(3, Cs::VECN, Ss::FLOAT_ABSTRACT_UNIMPLEMENTED, Cr::ArgumentType)),
-            Mf::Reflect => Ok(regular(2, Cs::VECN, Ss::FLOAT_ABSTRACT_UNIMPLEMENTED, Cr::ArgumentType)),
+            Mf::FaceForward => Ok(regular(
+                3,
+                Cs::VECN,
+                Ss::FLOAT_ABSTRACT_UNIMPLEMENTED,
+                Cr::ArgumentType,
+            )),
+            Mf::Reflect => Ok(regular(
+                2,
+                Cs::VECN,
+                Ss::FLOAT_ABSTRACT_UNIMPLEMENTED,
+                Cr::ArgumentType,
+            )),
             Mf::Inverse => Ok(regular(1, Cs::SQUARE_MATRICES, Ss::FLOAT, Cr::ArgumentType)),
             Mf::Determinant => Ok(regular(1, Cs::SQUARE_MATRICES, Ss::FLOAT, Cr::Scalar)),
             Mf::QuantizeToF16 => Ok(component_wise(1, Ss::F32)),
