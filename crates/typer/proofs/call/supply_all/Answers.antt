@@ -1,11 +1,9 @@
-use Rattle.std.proofs.Common.{◌≡◌, ◌∙◌, List, sym, subst, ap, arith}
+use Rattle.std.proofs.Common.{◌≡◌, ◌∙◌, List, sym, ap, arith}
 use Rattle.std.specs.List.{filter}
 use Rattle.std.proofs.lemmas.List.{drop_all}
 use Rattle.shader_overloads.specs.AnySet.{rules_in}
-use Rattle.shader_overloads.specs.Remaining.{RulesFit}
 use Rattle.typer.specs.declared.types.SpelledType.{SpelledType}
 use Rattle.typer.specs.Calls.{own_inner, own_types, rules_left, takes_all, takes_argument}
-use Rattle.typer.proofs.BuiltinFacts.{rules_fit}
 use Rattle.typer.proofs.Supplied.{fewer_fit, none_left, supplied}
 use Rattle.typer.proofs.call.supply_all.Goals as goal
 
@@ -13,7 +11,7 @@ pub loop-i-init : goal.loop-i-init
 loop-i-init c = record {
   rest = ap (filter (takes_all c.args.function 0 c.args.arguments.now)) c.in_ok-left.ensures.rules;
   kind = c.in_ok-left.ensures.kind;
-  fits = λ types. subst (RulesFit types) (sym c.in_ok-left.ensures.rules) (rules_fit types c.args.function c.requires);
+  fits = λ types. c.in_ok-left.ensures.fits types;
 }
 
 pub loop-i-preserved : goal.loop-i-preserved
