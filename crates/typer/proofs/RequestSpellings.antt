@@ -53,8 +53,8 @@ convert_is (from ∷ to ∷ []) request e =
     let h = type_is from t found in
     let k = type_is to m.0 m.1 in
     let spelled : request_words (Convert t m.0) ≡ kind_text kinds.Convert ∷ from ∷ to ∷ [] =
-        ap (λ (x : List ℕ). kind_text kinds.Convert ∷ x ∷ type_text m.0 ∷ []) (sym h.0)
-        ∙ ap (λ (x : List ℕ). kind_text kinds.Convert ∷ from ∷ x ∷ []) (sym k.0) in
+    ap (λ (x : List ℕ). kind_text kinds.Convert ∷ x ∷ type_text m.0 ∷ []) (sym h.0)
+    ∙ ap (λ (x : List ℕ). kind_text kinds.Convert ∷ from ∷ x ∷ []) (sym k.0) in
     subst (AreWordsOf kinds.Convert (from ∷ to ∷ [])) m.2 (spelled, (h.1, k.1)))
 convert_is (from ∷ to ∷ other ∷ words) request e = cc
 
@@ -71,7 +71,7 @@ types_are (word ∷ words) types e =
     let h = type_is word t found in
     let k = types_are words m.0 m.1 in
     let spelled : map type_text (t ∷ m.0) ≡ word ∷ words =
-        ap (λ (w : List ℕ). w ∷ map type_text m.0) (sym h.0) ∙ ap (λ (ws : List (List ℕ)). word ∷ ws) k.0 in
+    ap (λ (w : List ℕ). w ∷ map type_text m.0) (sym h.0) ∙ ap (λ (ws : List (List ℕ)). word ∷ ws) k.0 in
     subst (AreTypesOf (word ∷ words)) m.2 (spelled, (h.1, k.1)))
 
 -- a builtin and types whose texts are the words
@@ -87,7 +87,7 @@ named_are (name ∷ words) named e =
     let h = found_is builtin_text named_builtins name function found in
     let k = types_are words m.0 m.1 in
     let spelled : builtin_text function ∷ map type_text m.0 ≡ name ∷ words =
-        ap (λ (w : List ℕ). w ∷ map type_text m.0) (sym h) ∙ ap (λ (ws : List (List ℕ)). name ∷ ws) k.0 in
+    ap (λ (w : List ℕ). w ∷ map type_text m.0) (sym h) ∙ ap (λ (ws : List (List ℕ)). name ∷ ws) k.0 in
     subst (AreNamedOf (name ∷ words)) m.2 (spelled, k.1))
 
 call_with_is : (words : List (List ℕ)) (function : MathFunction) (types : List SpelledType) (request : Request) → AreNamedOf words (function, types)

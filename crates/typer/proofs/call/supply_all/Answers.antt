@@ -19,7 +19,7 @@ loop-i-preserved c =
     let argument = c.index-arguments-i.result in
     let before = rules_in c.loop-i.left in
     let step : rules_in c.in_ok-left-2.left ≡ filter (takes_argument c.args.function c.loop-i.i argument) before =
-        c.in_ok-left-2.ensures.rules ∙ ap (λ accepting. filter (accepting (own_types argument) c.loop-i.i (own_inner argument)) before) c.loop-i.invariant.kind in
+    c.in_ok-left-2.ensures.rules ∙ ap (λ accepting. filter (accepting (own_types argument) c.loop-i.i (own_inner argument)) before) c.loop-i.invariant.kind in
     record {
       rest = supplied c.args.function c.args.arguments.now c.loop-i.i argument argument before (rules_in c.in_ok-left-2.left)
           (rules_left c.args.function c.args.arguments.now) (omega arith) (sym c.index-arguments-i.is) step c.loop-i.invariant.rest;
