@@ -1,12 +1,10 @@
 -- Lines and the requests that they make, in both directions.
 use Rattle.std.proofs.Common.{◌≡◌, ℕ, ◌<◌, length, map, arith, Bool, true, false, eqb, Option, Some, None, List, [], ◌∷◌, ◌++◌, refl, sym, subst, ap, ◌∙◌}
-use Rattle.std.specs.Prelude.{IsTrue}
 use Rattle.std.specs.List.{slice_split, list_any, join_with_byte}
 use Rattle.std.specs.Option.{option_map, option_and_then}
 use Rattle.std.proofs.lemmas.Option.{option_and_then_some, same_Some}
 use Rattle.std.proofs.lemmas.List.Splits.{join_with_byte-slice_split}
 use Rattle.shader_ir.specs.declared.operators.MathFunction.{MathFunction}
-use Rattle.shader_overloads.specs.Builtins.{is_regular}
 use Rattle.typer.specs.declared.request.Kind.{Kind}
 use Rattle.typer.specs.declared.request.Kind.TheVariants as kinds
 use Rattle.typer.specs.declared.request.Request.{Request}
@@ -17,7 +15,7 @@ use Rattle.typer.specs.Laws.{RequestsAreSpelled}
 use Rattle.typer.specs.Requests.{AreWritableTypes, IsWritableRequest, all_kinds, call_from, call_with, convert_from, kind_of, kind_text, named_from, request_from, request_of, request_text, request_with, request_words, rules_from, types_of}
 use Rattle.typer.specs.Builtins.{named_builtins}
 use Rattle.typer.specs.Types.{type_of, type_text}
-use Rattle.typer.proofs.BuiltinFacts.{builtin_facts, builtin_is_regular}
+use Rattle.typer.proofs.BuiltinFacts.{builtin_facts}
 use Rattle.typer.proofs.Found.{found_is, mapped}
 use Rattle.typer.proofs.Separators.{AreSolid, is_break, is_end, is_space, no_end, no_space, quiet_append, split_joined}
 use Rattle.typer.proofs.TypeSpellings.{type_is, type_named, type_quiet}
@@ -55,8 +53,8 @@ convert_is (from ∷ to ∷ []) request e =
     let h = type_is from t found in
     let k = type_is to m.0 m.1 in
     let spelled : request_words (Convert t m.0) ≡ kind_text kinds.Convert ∷ from ∷ to ∷ [] =
-        ap (λ (x : List ℕ). kind_text kinds.Convert ∷ x ∷ type_text m.0 ∷ []) (sym h.0)
-        ∙ ap (λ (x : List ℕ). kind_text kinds.Convert ∷ from ∷ x ∷ []) (sym k.0) in
+    ap (λ (x : List ℕ). kind_text kinds.Convert ∷ x ∷ type_text m.0 ∷ []) (sym h.0)
+    ∙ ap (λ (x : List ℕ). kind_text kinds.Convert ∷ from ∷ x ∷ []) (sym k.0) in
     subst (AreWordsOf kinds.Convert (from ∷ to ∷ [])) m.2 (spelled, (h.1, k.1)))
 convert_is (from ∷ to ∷ other ∷ words) request e = cc
 
@@ -73,12 +71,12 @@ types_are (word ∷ words) types e =
     let h = type_is word t found in
     let k = types_are words m.0 m.1 in
     let spelled : map type_text (t ∷ m.0) ≡ word ∷ words =
-        ap (λ (w : List ℕ). w ∷ map type_text m.0) (sym h.0) ∙ ap (λ (ws : List (List ℕ)). word ∷ ws) k.0 in
+    ap (λ (w : List ℕ). w ∷ map type_text m.0) (sym h.0) ∙ ap (λ (ws : List (List ℕ)). word ∷ ws) k.0 in
     subst (AreTypesOf (word ∷ words)) m.2 (spelled, (h.1, k.1)))
 
 -- a builtin and types whose texts are the words
 abbrev AreNamedOf : List (List ℕ) → MathFunction × List SpelledType → Type 0
-AreNamedOf words named = (builtin_text named.0 ∷ map type_text named.1 ≡ words) × IsTrue (is_regular named.0) × AreWritableTypes named.1
+AreNamedOf words named = (builtin_text named.0 ∷ map type_text named.1 ≡ words) × AreWritableTypes named.1
 
 named_are : (words : List (List ℕ)) (named : MathFunction × List SpelledType) → named_from words ≡ Some named → AreNamedOf words named
 named_are [] named e = cc
@@ -89,15 +87,15 @@ named_are (name ∷ words) named e =
     let h = found_is builtin_text named_builtins name function found in
     let k = types_are words m.0 m.1 in
     let spelled : builtin_text function ∷ map type_text m.0 ≡ name ∷ words =
-        ap (λ (w : List ℕ). w ∷ map type_text m.0) (sym h) ∙ ap (λ (ws : List (List ℕ)). name ∷ ws) k.0 in
-    subst (AreNamedOf (name ∷ words)) m.2 (spelled, builtin_is_regular name function found, k.1))
+    ap (λ (w : List ℕ). w ∷ map type_text m.0) (sym h) ∙ ap (λ (ws : List (List ℕ)). name ∷ ws) k.0 in
+    subst (AreNamedOf (name ∷ words)) m.2 (spelled, k.1))
 
 call_with_is : (words : List (List ℕ)) (function : MathFunction) (types : List SpelledType) (request : Request) → AreNamedOf words (function, types)
     → call_with function types ≡ Some request → AreWordsOf kinds.Call words request
 call_with_is words function [] request named e = cc
 call_with_is words function (t ∷ types) request named e =
     subst (AreWordsOf kinds.Call words) (same_Some (Call function (t ∷ types)) request e)
-    (ap (λ (ws : List (List ℕ)). kind_text kinds.Call ∷ ws) named.0, (named.1, named.2, omega arith))
+    (ap (λ (ws : List (List ℕ)). kind_text kinds.Call ∷ ws) named.0, (named.1, omega arith))
 
 call_is : (words : List (List ℕ)) (request : Request) → call_from words ≡ Some request → AreWordsOf kinds.Call words request
 call_is words request e =
@@ -108,7 +106,7 @@ rules_are : (words : List (List ℕ)) (request : Request) → rules_from words �
 rules_are words request e =
     let m = mapped (λ (named : MathFunction × List SpelledType). Rules named.0 named.1) (named_from words) request e in
     let named = named_are words m.0 m.1 in
-    subst (AreWordsOf kinds.Rules words) m.2 (ap (λ (ws : List (List ℕ)). kind_text kinds.Rules ∷ ws) named.0, (named.1, named.2))
+    subst (AreWordsOf kinds.Rules words) m.2 (ap (λ (ws : List (List ℕ)). kind_text kinds.Rules ∷ ws) named.0, named.1)
 
 with_is : (kind : Kind) (words : List (List ℕ)) (request : Request) → request_with kind words ≡ Some request → AreWordsOf kind words request
 with_is kinds.Call words request e = call_is words request e
@@ -136,8 +134,8 @@ types_unbroken [] writable = tt
 types_unbroken (t ∷ types) writable = (type_quiet t writable.0, types_unbroken types writable.1)
 
 request_unbroken : (request : Request) → IsWritableRequest request → AreUnbroken (request_words request)
-request_unbroken (Call function types) writable = (refl, ((builtin_facts function writable.0).1, types_unbroken types writable.1))
-request_unbroken (Rules function types) writable = (refl, ((builtin_facts function writable.0).1, types_unbroken types writable.1))
+request_unbroken (Call function types) writable = (refl, ((builtin_facts function).1, types_unbroken types writable.0))
+request_unbroken (Rules function types) writable = (refl, ((builtin_facts function).1, types_unbroken types writable))
 request_unbroken (Convert from to) writable = (refl, (type_quiet from writable.0, (type_quiet to writable.1, tt)))
 
 -- the text of a request has no end of line
@@ -149,10 +147,10 @@ types_named [] writable = refl
 types_named (t ∷ types) writable = rw (type_named t writable.0, types_named types writable.1) refl
 
 words_named : (request : Request) → IsWritableRequest request → request_from (request_words request) ≡ Some request
-words_named (Call function []) writable = absurd (omega (arith, writable.2))
+words_named (Call function []) writable = absurd (omega (arith, writable.1))
 words_named (Call function (t ∷ types)) writable =
-    rw ((builtin_facts function writable.0).0, type_named t writable.1.0, types_named types writable.1.1) refl
-words_named (Rules function types) writable = rw ((builtin_facts function writable.0).0, types_named types writable.1) refl
+    rw ((builtin_facts function).0, type_named t writable.0.0, types_named types writable.0.1) refl
+words_named (Rules function types) writable = rw ((builtin_facts function).0, types_named types writable) refl
 words_named (Convert from to) writable = rw (type_named from writable.0, type_named to writable.1) refl
 
 words_cut : (request : Request) → IsWritableRequest request → slice_split is_space (request_text request) ≡ request_words request

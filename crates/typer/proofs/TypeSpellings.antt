@@ -187,10 +187,10 @@ plain_is_by word p (Some parts) cut e =
     let name = found_is shape_text all_shapes parts.0 m.0 m.1 in
     let argument = scalar_is parts.1 t found in
     let spelled : word ≡ plain_text (shape_type m.0 t) =
-        generic_is word parts.0 parts.1 cut
-        ∙ ap (λ (xs : List ℕ). generic_text xs parts.1) name
-        ∙ ap (λ (xs : List ℕ). generic_text (shape_text m.0) xs) argument.0
-        ∙ shape_type-text m.0 t in
+    generic_is word parts.0 parts.1 cut
+    ∙ ap (λ (xs : List ℕ). generic_text xs parts.1) name
+    ∙ ap (λ (xs : List ℕ). generic_text (shape_text m.0) xs) argument.0
+    ∙ shape_type-text m.0 t in
     rw (← m.2) (spelled, shape_type-named m.0 t argument.1))
 
 pub plain_is : (word : List ℕ) (p : PlainType) → plain_of word ≡ Some p → (word ≡ plain_text p) × IsNamedPlain p
@@ -288,8 +288,10 @@ array_named : (base : PlainType) (count stride : ℕ) → IsWritable (Array base
 array_named base count stride writable =
     let cut = split_joined 44 (plain_text base) (decimal count ∷ decimal stride ∷ []) refl (
       no_comma (plain_text base) (plain_quiet base writable.0),
-      (no_comma (decimal count) (decimal_quiet count (omega (arith, writable.2))),
-      (no_comma (decimal stride) (decimal_quiet stride (omega (arith, writable.3))), tt)),
+      (
+        no_comma (decimal count) (decimal_quiet count (omega (arith, writable.2))),
+        (no_comma (decimal stride) (decimal_quiet stride (omega (arith, writable.3))), tt),
+      ),
     ) in
     rw (items_named (items_text base count stride), cut, plain_named base writable.0, count_named count writable.1 writable.2, number_named stride writable.3) refl
 
@@ -309,9 +311,9 @@ array_type_is base count stride t e =
     let c = count_is count n found_count in
     let b = number_is stride m.0 m.1 in
     let spelled : type_text (Array plain n m.0) ≡ within (base ∷ count ∷ stride ∷ []) =
-        ap (λ (x : List ℕ). within (x ∷ decimal n ∷ decimal m.0 ∷ [])) (sym p.0)
-        ∙ ap (λ (x : List ℕ). within (base ∷ x ∷ decimal m.0 ∷ [])) (sym c.0)
-        ∙ ap (λ (x : List ℕ). within (base ∷ count ∷ x ∷ [])) (sym b.0) in
+    ap (λ (x : List ℕ). within (x ∷ decimal n ∷ decimal m.0 ∷ [])) (sym p.0)
+    ∙ ap (λ (x : List ℕ). within (base ∷ x ∷ decimal m.0 ∷ [])) (sym c.0)
+    ∙ ap (λ (x : List ℕ). within (base ∷ count ∷ x ∷ [])) (sym b.0) in
     subst Goal m.2 (spelled, (p.1, c.1, c.2, b.1))))
 
 array_from_is : (items : List (List ℕ)) (t : SpelledType) → array_from items ≡ Some t

@@ -85,18 +85,18 @@ builtin_text f.Unpack2x16float = codes "Unpack2x16float"
 builtin_text f.Unpack4xI8 = codes "Unpack4xI8"
 builtin_text f.Unpack4xU8 = codes "Unpack4xU8"
 
--- the builtins that a line may name
 abbrev pub named_builtins : List MathFunction
 named_builtins =
     f.Abs ∷ f.Min ∷ f.Max ∷ f.Clamp ∷ f.Saturate ∷ f.Cos ∷ f.Cosh ∷ f.Sin
     ∷ f.Sinh ∷ f.Tan ∷ f.Tanh ∷ f.Acos ∷ f.Asin ∷ f.Atan ∷ f.Atan2 ∷ f.Asinh
     ∷ f.Acosh ∷ f.Atanh ∷ f.Radians ∷ f.Degrees ∷ f.Ceil ∷ f.Floor ∷ f.Round ∷ f.Fract
-    ∷ f.Trunc ∷ f.Modf ∷ f.Frexp ∷ f.Exp ∷ f.Exp2 ∷ f.Log ∷ f.Log2 ∷ f.Pow
-    ∷ f.Dot ∷ f.Dot4I8Packed ∷ f.Dot4U8Packed ∷ f.Cross ∷ f.Distance ∷ f.Length ∷ f.Normalize ∷ f.FaceForward
-    ∷ f.Reflect ∷ f.Sign ∷ f.Fma ∷ f.Step ∷ f.SmoothStep ∷ f.Sqrt ∷ f.InverseSqrt ∷ f.Inverse
-    ∷ f.Determinant ∷ f.QuantizeToF16 ∷ f.CountTrailingZeros ∷ f.CountLeadingZeros ∷ f.CountOneBits ∷ f.ReverseBits ∷ f.FirstTrailingBit ∷ f.FirstLeadingBit
-    ∷ f.Pack4x8snorm ∷ f.Pack4x8unorm ∷ f.Pack2x16snorm ∷ f.Pack2x16unorm ∷ f.Pack2x16float ∷ f.Pack4xI8 ∷ f.Pack4xU8 ∷ f.Pack4xI8Clamp
-    ∷ f.Pack4xU8Clamp ∷ f.Unpack4x8snorm ∷ f.Unpack4x8unorm ∷ f.Unpack2x16snorm ∷ f.Unpack2x16unorm ∷ f.Unpack2x16float ∷ f.Unpack4xI8 ∷ f.Unpack4xU8 ∷ []
+    ∷ f.Trunc ∷ f.Modf ∷ f.Frexp ∷ f.Ldexp ∷ f.Exp ∷ f.Exp2 ∷ f.Log ∷ f.Log2
+    ∷ f.Pow ∷ f.Dot ∷ f.Dot4I8Packed ∷ f.Dot4U8Packed ∷ f.Outer ∷ f.Cross ∷ f.Distance ∷ f.Length
+    ∷ f.Normalize ∷ f.FaceForward ∷ f.Reflect ∷ f.Refract ∷ f.Sign ∷ f.Fma ∷ f.Mix ∷ f.Step
+    ∷ f.SmoothStep ∷ f.Sqrt ∷ f.InverseSqrt ∷ f.Inverse ∷ f.Transpose ∷ f.Determinant ∷ f.QuantizeToF16 ∷ f.CountTrailingZeros
+    ∷ f.CountLeadingZeros ∷ f.CountOneBits ∷ f.ReverseBits ∷ f.ExtractBits ∷ f.InsertBits ∷ f.FirstTrailingBit ∷ f.FirstLeadingBit ∷ f.Pack4x8snorm
+    ∷ f.Pack4x8unorm ∷ f.Pack2x16snorm ∷ f.Pack2x16unorm ∷ f.Pack2x16float ∷ f.Pack4xI8 ∷ f.Pack4xU8 ∷ f.Pack4xI8Clamp ∷ f.Pack4xU8Clamp
+    ∷ f.Unpack4x8snorm ∷ f.Unpack4x8unorm ∷ f.Unpack2x16snorm ∷ f.Unpack2x16unorm ∷ f.Unpack2x16float ∷ f.Unpack4xI8 ∷ f.Unpack4xU8 ∷ []
 
 abbrev pub builtin_of : List ℕ → Option MathFunction
 builtin_of word = find (λ function. bytes_eq (builtin_text function) word) named_builtins

@@ -1,10 +1,9 @@
 -- What lines ask for, and how it is written.
-use Rattle.std.specs.Prelude.{◌==◌, ◌<◌, ℕ, List, [], ◌∷◌, length, map, codes, Option, Some, None, IsTrue, find}
+use Rattle.std.specs.Prelude.{◌==◌, ◌<◌, ℕ, List, [], ◌∷◌, length, map, codes, Option, Some, None, find}
 use Rattle.std.specs.Option.{option_map, option_and_then}
 use Rattle.std.specs.List.{slice_split, join_with_byte}
 use Rattle.std.specs.Str.{bytes_eq}
 use Rattle.shader_ir.specs.declared.operators.MathFunction.{MathFunction}
-use Rattle.shader_overloads.specs.Builtins.{is_regular}
 use Rattle.typer.specs.declared.request.Kind.{Kind}
 use Rattle.typer.specs.declared.request.Kind.TheVariants as kinds
 use Rattle.typer.specs.declared.request.Request.{Request}
@@ -35,8 +34,8 @@ AreWritableTypes (t ∷ types) = IsWritable t × AreWritableTypes types
 
 -- a request whose types can be written; a call has an argument
 abbrev pub IsWritableRequest : Request → Type 0
-IsWritableRequest (Call function arguments) = IsTrue (is_regular function) × AreWritableTypes arguments × (0 < length arguments)
-IsWritableRequest (Rules function arguments) = IsTrue (is_regular function) × AreWritableTypes arguments
+IsWritableRequest (Call function arguments) = AreWritableTypes arguments × (0 < length arguments)
+IsWritableRequest (Rules function arguments) = AreWritableTypes arguments
 IsWritableRequest (Convert from to) = IsWritable from × IsWritable to
 
 -- ---- what a line asks for

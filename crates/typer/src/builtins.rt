@@ -5,8 +5,8 @@ ghost use Rattle.typer.specs.Builtins.{builtin_of, builtin_text};
 
 use shader_ir::MathFunction;
 
-/// The builtins that a line may name.
-const NAMED: [MathFunction; 72] = [
+/// All builtins.
+const NAMED: [MathFunction; 79] = [
     MathFunction::Abs,
     MathFunction::Min,
     MathFunction::Max,
@@ -34,6 +34,7 @@ const NAMED: [MathFunction; 72] = [
     MathFunction::Trunc,
     MathFunction::Modf,
     MathFunction::Frexp,
+    MathFunction::Ldexp,
     MathFunction::Exp,
     MathFunction::Exp2,
     MathFunction::Log,
@@ -42,25 +43,31 @@ const NAMED: [MathFunction; 72] = [
     MathFunction::Dot,
     MathFunction::Dot4I8Packed,
     MathFunction::Dot4U8Packed,
+    MathFunction::Outer,
     MathFunction::Cross,
     MathFunction::Distance,
     MathFunction::Length,
     MathFunction::Normalize,
     MathFunction::FaceForward,
     MathFunction::Reflect,
+    MathFunction::Refract,
     MathFunction::Sign,
     MathFunction::Fma,
+    MathFunction::Mix,
     MathFunction::Step,
     MathFunction::SmoothStep,
     MathFunction::Sqrt,
     MathFunction::InverseSqrt,
     MathFunction::Inverse,
+    MathFunction::Transpose,
     MathFunction::Determinant,
     MathFunction::QuantizeToF16,
     MathFunction::CountTrailingZeros,
     MathFunction::CountLeadingZeros,
     MathFunction::CountOneBits,
     MathFunction::ReverseBits,
+    MathFunction::ExtractBits,
+    MathFunction::InsertBits,
     MathFunction::FirstTrailingBit,
     MathFunction::FirstLeadingBit,
     MathFunction::Pack4x8snorm,

@@ -1,9 +1,8 @@
 //! Calls of builtins.
 
-ghost use Rattle.std.specs.Prelude.{◌≡◌, List, IfOk, IsTrue, filter};
+ghost use Rattle.std.specs.Prelude.{◌≡◌, List, IfOk, filter};
 ghost use Rattle.shader_ir.specs.declared.types.«Type».{«Type»};
 ghost use Rattle.shader_overloads.specs.AnySet.{acceptance_in, rules_in};
-ghost use Rattle.shader_overloads.specs.Builtins.{is_regular};
 ghost use Rattle.shader_overloads.specs.Remaining.{RulesFit};
 ghost use Rattle.typer.specs.Calls.{conclusion_of, own_inner, own_types, rules_left};
 
@@ -36,7 +35,6 @@ fn supply_all(
     function: MathFunction,
     arguments: &[SpelledType],
 ) -> Result<AnyOverloadSet, AllocError>
-    requires { IsTrue (is_regular function) }
     ensures { IfOk result (λ left. rules_in left ≡ rules_left function arguments.now) }
 {
     let mut left = function.overloads(alloc)?;
@@ -52,7 +50,6 @@ pub fn conclusion(
     function: MathFunction,
     arguments: &[SpelledType],
 ) -> Result<Option<Conclusion>, AllocError>
-    requires { IsTrue (is_regular function) }
     ensures { IfOk result (λ found. found ≡ conclusion_of function arguments.now) }
 {
     let left = supply_all(alloc, function, arguments)?;
@@ -69,7 +66,6 @@ pub fn remaining_rules(
     function: MathFunction,
     arguments: &[SpelledType],
 ) -> Result<Items<Rule>, AllocError>
-    requires { IsTrue (is_regular function) }
     ensures { IfOk result (λ rules. rules ≡ rules_left function arguments.now) }
 {
     let left = supply_all(alloc, function, arguments)?;

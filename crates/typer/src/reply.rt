@@ -42,8 +42,7 @@ impl fmt::Display for Reply {
 }
 
 impl Reply {
-    ghost use Rattle.std.specs.Prelude.{◌≡◌, IfOk, IsTrue, Some};
-    ghost use Rattle.shader_overloads.specs.Builtins.{is_regular};
+    ghost use Rattle.std.specs.Prelude.{◌≡◌, IfOk, Some};
     ghost use Rattle.typer.specs.Answers.{concluded, converted, listed, reply_to};
     ghost use Rattle.typer.specs.Calls.{conclusion_of, rules_left};
     ghost use Rattle.typer.specs.Conversions.{conversion_of};
@@ -80,7 +79,6 @@ impl Reply {
         function: MathFunction,
         arguments: &[SpelledType],
     ) -> Result<Option<Reply>, AllocError>
-        requires { IsTrue (is_regular function) }
         ensures { IfOk result (λ reply. reply ≡ Some (concluded (conclusion_of function arguments.now))) }
     {
         let found = conclusion(alloc, function, arguments)?;
@@ -92,7 +90,6 @@ impl Reply {
         function: MathFunction,
         arguments: &[SpelledType],
     ) -> Result<Option<Reply>, AllocError>
-        requires { IsTrue (is_regular function) }
         ensures { IfOk result (λ reply. reply ≡ Some (listed (rules_left function arguments.now))) }
     {
         let rules = remaining_rules(alloc, function, arguments)?;

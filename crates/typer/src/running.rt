@@ -4,12 +4,12 @@ ghost use Rattle.std.specs.Prelude.{◌≡◌, ◌<◌, ◌↔◌, ℕ, List, fa
 ghost use Rattle.std.specs.Io.KnownBytes.{Appends, Consumes, IsAtEnd, Keeps};
 ghost use Rattle.typer.specs.Runs.{answer, OnAnswered, OnUnanswered};
 
+use crate::answer::Answer;
 use crate::reading::{INPUT_LIMIT, read_input};
 use crate::sink::Sink;
 use crate::source::{Failed, Source};
 use crate::status::Status;
 use crate::writing::write_all;
-use crate::answer::Answer;
 use std::alloc::Global;
 
 /// Reads the whole input, makes the whole answer, and then writes it.

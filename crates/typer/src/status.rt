@@ -1,5 +1,5 @@
-use crate::reading::InputError;
 use crate::answer::Outcome;
+use crate::reading::InputError;
 
 /// How a run ended.
 #[derive(Clone, Copy, Debug, PartialEq, Eq)]

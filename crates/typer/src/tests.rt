@@ -8,7 +8,32 @@ const ROWS: &[u8] = b"call Max u32 AbstractInt\ncall Max f32 f64\ncall Abs Abstr
 const ANSWER: &[u8] = b"u32\nrefused\nAbstractInt\n";
 
 /// Lines with their answers, each an input of its own.
-const ANSWERED: [(&[u8], &[u8]); 27] = [
+const ANSWERED: [(&[u8], &[u8]); 34] = [
+    (b"call ExtractBits AbstractInt u32 u32\n", b"i32\n"),
+    (
+        b"call Refract vec3<f16> vec3<f16> AbstractFloat\n",
+        b"vec3<f16>\n",
+    ),
+    (
+        b"rules Transpose mat2x3<f16>\n",
+        b"(mat2x3<f16>) -> mat3x2<f16>\n",
+    ),
+    (
+        b"rules Mix AbstractFloat f16 AbstractInt\n",
+        b"(f16, f16, f16) -> f16; (f16, f16, f16) -> f16\n",
+    ),
+    (
+        b"rules Outer vec2<f16>\n",
+        b"(vec2<f16>, vec2<f16>) -> mat2x2<f16>; (vec2<f16>, vec3<f16>) -> mat2x3<f16>; (vec2<f16>, vec4<f16>) -> mat2x4<f16>\n",
+    ),
+    (
+        b"call Mix vec2<f32> vec2<f32> AbstractFloat\n",
+        b"vec2<f32>\n",
+    ),
+    (
+        b"call Ldexp vec2<AbstractFloat> vec2<AbstractInt>\n",
+        b"vec2<f32>\n",
+    ),
     (b"call Max u32 AbstractInt\n", b"u32\n"),
     (b"call Max f32 f64\n", b"refused\n"),
     (b"call Abs AbstractInt\n", b"AbstractInt\n"),
@@ -22,18 +47,33 @@ const ANSWERED: [(&[u8], &[u8]); 27] = [
     (b"call Distance AbstractFloat AbstractFloat\n", b"f32\n"),
     (b"call Modf vec2<f32>\n", b"modf_result<vec2<f32>>\n"),
     (b"call Modf AbstractInt\n", b"modf_result<f32>\n"),
-    (b"call Cross vec3<AbstractInt> vec3<AbstractFloat>\n", b"vec3<AbstractFloat>\n"),
+    (
+        b"call Cross vec3<AbstractInt> vec3<AbstractFloat>\n",
+        b"vec3<AbstractFloat>\n",
+    ),
     (b"call Abs array<f32,2,4>\n", b"refused\n"),
-    (b"rules Pow vec2<AbstractInt> vec2<f16>\n", b"(vec2<f16>, vec2<f16>) -> vec2<f16>\n"),
+    (
+        b"rules Pow vec2<AbstractInt> vec2<f16>\n",
+        b"(vec2<f16>, vec2<f16>) -> vec2<f16>\n",
+    ),
     (b"rules Pack4xI8\n", b"(vec4<i32>) -> u32\n"),
     (b"rules Abs bool\n", b"refused\n"),
     (b"call Abs f32", b"f32\n"),
-    (b"convert vec2<AbstractFloat> vec2<f16>\n", b"AbstractFloat to f16\n"),
+    (
+        b"convert vec2<AbstractFloat> vec2<f16>\n",
+        b"AbstractFloat to f16\n",
+    ),
     (b"convert f32 f32\n", b"f32 to f32\n"),
     (b"convert AbstractFloat u32\n", b"refused\n"),
     (b"convert vec2<AbstractInt> vec3<i32>\n", b"refused\n"),
-    (b"convert array<AbstractInt,2,8> array<u16,2,4>\n", b"AbstractInt to u16\n"),
-    (b"convert array<AbstractInt,2,8> array<u16,3,4>\n", b"refused\n"),
+    (
+        b"convert array<AbstractInt,2,8> array<u16,2,4>\n",
+        b"AbstractInt to u16\n",
+    ),
+    (
+        b"convert array<AbstractInt,2,8> array<u16,3,4>\n",
+        b"refused\n",
+    ),
     (b"convert f32 f32", b"f32 to f32\n"),
     (b"", b""),
 ];

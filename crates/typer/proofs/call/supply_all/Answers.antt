@@ -1,11 +1,9 @@
-use Rattle.std.proofs.Common.{◌≡◌, ◌∙◌, List, sym, subst, ap, arith}
+use Rattle.std.proofs.Common.{◌≡◌, ◌∙◌, List, sym, ap, arith}
 use Rattle.std.specs.List.{filter}
 use Rattle.std.proofs.lemmas.List.{drop_all}
 use Rattle.shader_overloads.specs.AnySet.{rules_in}
-use Rattle.shader_overloads.specs.Remaining.{RulesFit}
 use Rattle.typer.specs.declared.types.SpelledType.{SpelledType}
 use Rattle.typer.specs.Calls.{own_inner, own_types, rules_left, takes_all, takes_argument}
-use Rattle.typer.proofs.BuiltinFacts.{rules_fit}
 use Rattle.typer.proofs.Supplied.{fewer_fit, none_left, supplied}
 use Rattle.typer.proofs.call.supply_all.Goals as goal
 
@@ -13,7 +11,7 @@ pub loop-i-init : goal.loop-i-init
 loop-i-init c = record {
   rest = ap (filter (takes_all c.args.function 0 c.args.arguments.now)) c.in_ok-left.ensures.rules;
   kind = c.in_ok-left.ensures.kind;
-  fits = λ types. subst (RulesFit types) (sym c.in_ok-left.ensures.rules) (rules_fit types c.args.function c.requires);
+  fits = λ types. c.in_ok-left.ensures.fits types;
 }
 
 pub loop-i-preserved : goal.loop-i-preserved
@@ -21,7 +19,7 @@ loop-i-preserved c =
     let argument = c.index-arguments-i.result in
     let before = rules_in c.loop-i.left in
     let step : rules_in c.in_ok-left-2.left ≡ filter (takes_argument c.args.function c.loop-i.i argument) before =
-        c.in_ok-left-2.ensures.rules ∙ ap (λ accepting. filter (accepting (own_types argument) c.loop-i.i (own_inner argument)) before) c.loop-i.invariant.kind in
+    c.in_ok-left-2.ensures.rules ∙ ap (λ accepting. filter (accepting (own_types argument) c.loop-i.i (own_inner argument)) before) c.loop-i.invariant.kind in
     record {
       rest = supplied c.args.function c.args.arguments.now c.loop-i.i argument argument before (rules_in c.in_ok-left-2.left)
           (rules_left c.args.function c.args.arguments.now) (omega arith) (sym c.index-arguments-i.is) step c.loop-i.invariant.rest;
