@@ -12,7 +12,6 @@ use Rattle.shader_ir.specs.declared.proc.type_resolution.TypeResolution.TheVaria
 use Rattle.shader_ir.specs.Conversion.{same_size}
 use Rattle.shader_ir.specs.Key.{inner_of}
 use Rattle.shader_ir.specs.Scalars.{is_convertible, named_scalars}
-use Rattle.shader_ir.specs.TypeTree.{tree_of, tree_within}
 use Rattle.shader_overloads.specs.declared.constructor_set.ConstructorSize.{ConstructorSize}
 use Rattle.shader_overloads.specs.declared.constructor_set.ConstructorSize.TheVariants as sizes
 use Rattle.shader_overloads.specs.declared.regular.ConclusionRule.{ConclusionRule}
@@ -20,7 +19,7 @@ use Rattle.shader_overloads.specs.declared.rule.Rule.{Rule}
 use Rattle.shader_overloads.specs.Constructors.{is_made_by, to_inner}
 use Rattle.shader_overloads.specs.ScalarSets.{is_concrete_scalar}
 use Rattle.shader_overloads.specs.Rules.{regular_rules, rule_for, can_conclude}
-use Rattle.shader_overloads.specs.Remaining.{accepts, argument_at, some_takes, takes, leaf_scalar, is_concrete, is_abstract, has_concrete_arguments}
+use Rattle.shader_overloads.specs.Remaining.{accepts, argument_at, some_takes, takes, leaf_scalar, is_concrete, has_concrete_arguments}
 use Rattle.shader_overloads.proofs.ListLemmas.{filter-combinations, filter_none, filter_all, next_member}
 
 -- ---- one rule
@@ -74,7 +73,6 @@ list_all-replicate p (suc (suc n)) x h =
     ∙ elim (p x) as (λ b. (b && b) ≡ b) [ true ↦ refl | false ↦ refl ]
 
 is_concrete-to_inner : (types : List «Type») (size : ConstructorSize) (s : Scalar) → is_concrete types (Some (to_inner size s)) ≡ is_concrete_scalar s
-unfolding tree_of tree_within
 is_concrete-to_inner types sizes.Scalar s = refl
 is_concrete-to_inner types (sizes.Vector n) s = refl
 is_concrete-to_inner types (sizes.Matrix c r) s = refl

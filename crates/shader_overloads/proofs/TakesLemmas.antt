@@ -6,14 +6,10 @@ use base.Stored.{Gv, gnil, gnum, gcons}
 use Rattle.shader_ir.specs.declared.types.«Type».{«Type»}
 use Rattle.shader_ir.specs.declared.types.TypeInner.{TypeInner}
 use Rattle.shader_ir.specs.declared.proc.type_resolution.TypeResolution.{TypeResolution}
-use Rattle.shader_ir.specs.Conversion.{converts}
+use Rattle.shader_ir.specs.Conversion.{conversion}
 use Rattle.shader_ir.specs.Key.{canonical, inner_of}
-use Rattle.shader_ir.specs.TypeTree.{tree_of, tree_within}
-use Rattle.shader_ir.specs.declared.scalar.Scalar as scalars
-use Rattle.shader_ir.specs.declared.scalar.VectorSize.{VectorSize}
-use Rattle.shader_ir.specs.declared.types.ArraySize.{ArraySize}
-use Rattle.shader_ir.specs.declared.types.TypeInner.TheVariants.{Scalar, Vector, Matrix, Atomic, Array}
-use Rattle.shader_overloads.specs.Remaining.{is_abstract, list_takes, some_list_takes}
+use Rattle.shader_ir.specs.TypeTree.{tree_of}
+use Rattle.shader_overloads.specs.Remaining.{list_takes, some_list_takes}
 use Rattle.shader_overloads.specs.SameType.{inner_coded, same_code, same_type}
 
 same_code-self : (g : Gv) → same_code g g ≡ true
@@ -43,22 +39,10 @@ same_type-told a b e = inner_coded.inj a b (same_code-told (inner_coded.code a) 
 -- an equivalent type is taken
 pub takes_same : (types : List «Type») (ty : TypeInner) (argument : TypeResolution) (goal : TypeInner) → inner_of types argument ≡ Some goal → canonical types ty ≡ canonical types goal → true ≡ some_list_takes types ty (inner_of types argument)
 takes_same types ty argument goal e same =
-    sym (ap (some_list_takes types ty) e ∙ ap (λ b. b || is_some (converts (tree_of types ty) (tree_of types goal))) (same_type-from (canonical types ty) (canonical types goal) same))
+    sym (ap (some_list_takes types ty) e ∙ ap (λ b. b || is_some (conversion (tree_of types ty) (tree_of types goal))) (same_type-from (canonical types ty) (canonical types goal) same))
 
 -- another type is taken where it converts
-pub takes_converted : (types : List «Type») (ty : TypeInner) (argument : TypeResolution) (goal : TypeInner) → inner_of types argument ≡ Some goal → (canonical types ty ≡ canonical types goal → ⊥) → is_some (converts (tree_of types ty) (tree_of types goal)) ≡ some_list_takes types ty (inner_of types argument)
+pub takes_converted : (types : List «Type») (ty : TypeInner) (argument : TypeResolution) (goal : TypeInner) → inner_of types argument ≡ Some goal → (canonical types ty ≡ canonical types goal → ⊥) → is_some (conversion (tree_of types ty) (tree_of types goal)) ≡ some_list_takes types ty (inner_of types argument)
 takes_converted types ty argument goal e other =
     sym (ap (some_list_takes types ty) e
-    ∙ ap (λ b. b || is_some (converts (tree_of types ty) (tree_of types goal))) (false_from_ne_true _ (λ same. other (same_type-told (canonical types ty) (canonical types goal) same))))
-
--- ---- abstract types
-
-pub abstract_default : (types : List «Type») (inner : TypeInner) → ((s : scalars.Scalar) → inner ≡ Scalar s → ⊥) → ((size : VectorSize) (s : scalars.Scalar) → inner ≡ Vector size s → ⊥) → ((columns rows : VectorSize) (s : scalars.Scalar) → inner ≡ Matrix columns rows s → ⊥)
-    → ((s : scalars.Scalar) → inner ≡ Atomic s → ⊥) → ((base : ℕ) (size : ArraySize) (stride : ℕ) → inner ≡ Array base size stride → ⊥) → false ≡ is_abstract types inner
-unfolding tree_of tree_within
-abstract_default types (Scalar s) a b c d e = absurd (a s refl)
-abstract_default types (Vector size s) a b c d e = absurd (b size s refl)
-abstract_default types (Matrix columns rows s) a b c d e = absurd (c columns rows s refl)
-abstract_default types (Atomic s) a b c d e = absurd (d s refl)
-abstract_default types (Array base size stride) a b c d e = absurd (e base size stride refl)
-abstract_default types inner a b c d e = refl
+    ∙ ap (λ b. b || is_some (conversion (tree_of types ty) (tree_of types goal))) (false_from_ne_true _ (λ same. other (same_type-told (canonical types ty) (canonical types goal) same))))

@@ -4,38 +4,26 @@ use Rattle.std.specs.List.{list_all}
 use Rattle.shader_ir.specs.declared.scalar.Scalar as s
 use Rattle.shader_ir.specs.declared.types.«Type».{«Type»}
 use Rattle.shader_ir.specs.declared.types.TypeInner.{TypeInner}
-use Rattle.shader_ir.specs.declared.types.TypeInner.TheVariants.{Scalar, Vector, Matrix, Atomic, Array, Struct}
+use Rattle.shader_ir.specs.declared.types.TypeInner.TheVariants.{Scalar, Vector, Matrix, Struct}
 use Rattle.shader_ir.specs.declared.proc.type_resolution.TypeResolution.{TypeResolution}
 use Rattle.shader_ir.specs.declared.proc.type_resolution.TypeResolution.TheVariants as resolutions
-use Rattle.shader_ir.specs.Conversion.{converts, same_size}
+use Rattle.shader_ir.specs.Conversion.{conversion, same_size}
 use Rattle.shader_ir.specs.Key.{canonical, inner_of, FitsTypes, IsNoStruct}
 use Rattle.shader_ir.specs.Scalars.{is_convertible}
-use Rattle.shader_ir.specs.TypeTree.{PointsBelow, TypeTree, Node, NoTree, OneTree, tree_of}
+use Rattle.shader_ir.specs.TreeQueries.{is_abstract}
+use Rattle.shader_ir.specs.TypeTree.{PointsBelow, tree_of}
 use Rattle.shader_overloads.specs.declared.overload_set.SetCall.{SetCall}
 use Rattle.shader_overloads.specs.declared.overload_set.SetCall.TheVariants.{Arg, ConcreteOnly}
 use Rattle.shader_overloads.specs.declared.rule.Rule.{Rule}
 use Rattle.shader_overloads.specs.Bits.{has_bit, items_where}
 use Rattle.shader_overloads.specs.SameType.{same_type}
-use Rattle.shader_overloads.specs.ScalarSets.{is_abstract_kind}
 
 -- ---- abstract types
-
--- whether the leaf of a type's tree is abstract
-abbrev pub has_abstract_leaf : TypeTree → Bool
-has_abstract_leaf (Node (Scalar scalar) _) = is_abstract_kind scalar.kind
-has_abstract_leaf (Node (Vector size scalar) _) = is_abstract_kind scalar.kind
-has_abstract_leaf (Node (Matrix columns rows scalar) _) = is_abstract_kind scalar.kind
-has_abstract_leaf (Node (Atomic scalar) _) = is_abstract_kind scalar.kind
-has_abstract_leaf (Node (Array _ size stride) (OneTree base NoTree)) = has_abstract_leaf base
-has_abstract_leaf (Node _ _) = false
-
-abbrev pub is_abstract : List «Type» → TypeInner → Bool
-is_abstract types inner = has_abstract_leaf (tree_of types inner)
 
 -- whether a type that is told is not abstract
 abbrev pub is_concrete : List «Type» → Option TypeInner → Bool
 is_concrete types None = true
-is_concrete types (Some inner) = not (is_abstract types inner)
+is_concrete types (Some inner) = not (is_abstract (tree_of types inner))
 
 -- whether no argument of a rule is abstract
 abbrev pub has_concrete_arguments : List «Type» → Rule → Bool
@@ -72,7 +60,7 @@ accepts types i ty rule = some_takes ty (argument_at types i rule)
 -- whether an argument of the second type takes a value of the first, in a list: the same type, or one to which the first converts
 abbrev pub list_takes : List «Type» → TypeInner → TypeInner → Bool
 list_takes types ty argument =
-    same_type (canonical types ty) (canonical types argument) || is_some (converts (tree_of types ty) (tree_of types argument))
+    same_type (canonical types ty) (canonical types argument) || is_some (conversion (tree_of types ty) (tree_of types argument))
 
 abbrev pub some_list_takes : List «Type» → TypeInner → Option TypeInner → Bool
 some_list_takes types ty None = false

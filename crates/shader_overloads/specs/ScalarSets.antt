@@ -1,10 +1,8 @@
 -- Sets of scalars, as lists in the order of the named scalars.
-use Rattle.std.specs.Prelude.{Bool, true, false, not, List}
+use Rattle.std.specs.Prelude.{Bool, not, List}
 use Rattle.std.specs.List.{list_any}
 use Rattle.shader_ir.specs.declared.scalar.Scalar.{Scalar}
-use Rattle.shader_ir.specs.declared.scalar.ScalarKind.{ScalarKind}
-use Rattle.shader_ir.specs.declared.scalar.ScalarKind.TheVariants.{AbstractInt, AbstractFloat}
-use Rattle.shader_ir.specs.Scalars.{named_scalars, same_scalar}
+use Rattle.shader_ir.specs.Scalars.{is_abstract_scalar, named_scalars, same_scalar}
 use Rattle.shader_overloads.specs.declared.scalar_set.ScalarSet.{ScalarSet}
 use Rattle.shader_overloads.specs.Bits.{has_bit, items_where}
 
@@ -16,10 +14,5 @@ scalars_in set = items_where (has_bit set.0) named_scalars
 abbrev pub has_scalar : ScalarSet → Scalar → Bool
 has_scalar set scalar = list_any (same_scalar scalar) (scalars_in set)
 
-abbrev pub is_abstract_kind : ScalarKind → Bool
-is_abstract_kind AbstractInt = true
-is_abstract_kind AbstractFloat = true
-is_abstract_kind _ = false
-
 abbrev pub is_concrete_scalar : Scalar → Bool
-is_concrete_scalar scalar = not (is_abstract_kind scalar.kind)
+is_concrete_scalar scalar = not (is_abstract_scalar scalar)

@@ -5,12 +5,11 @@ ghost use Rattle.shader_overloads.specs.declared.rule.Rule.{Rule};
 ghost use Rattle.shader_ir.specs.Key.{inner_of};
 ghost use Rattle.shader_ir.specs.TypeTree.{IsBackward, PointsBelow};
 ghost use Rattle.shader_overloads.specs.Bits.{IsWithin, has_bit, items_where};
-ghost use Rattle.shader_overloads.specs.ScalarSets.{is_abstract_kind};
-ghost use Rattle.shader_overloads.specs.Remaining.{ArgumentFits, MembersFit, RuleFits, has_concrete_arguments, has_no_struct, is_abstract, is_concrete, is_free_struct, list_accepts, some_list_takes};
+ghost use Rattle.shader_overloads.specs.Remaining.{ArgumentFits, MembersFit, RuleFits, has_concrete_arguments, has_no_struct, is_concrete, is_free_struct, list_accepts, some_list_takes};
 
 use crate::{OverloadSet, Rule};
 use shader_arena::UniqueArena;
-use shader_ir::{GlobalCtx, ScalarKind, Type, TypeInner, TypeResolution, mark};
+use shader_ir::{GlobalCtx, Type, TypeInner, TypeResolution, mark};
 use std::alloc::{AllocError, Global};
 use std::marker::Model;
 use std::rc::RcSlice;
@@ -86,7 +85,7 @@ fn is_free_struct(argument: &TypeResolution) -> bool
 {
     match argument {
         TypeResolution::Handle(_) => false,
-        TypeResolution::Value(inner) => inner.is_struct(),
+        TypeResolution::Value(inner) => matches!(inner, TypeInner::Struct { .. }),
     }
 }
 
@@ -289,33 +288,7 @@ fn is_concrete_argument(argument: &TypeResolution, types: &UniqueArena<Type, mar
     requires fits { ArgumentFits types.now argument.now }
     ensures { result ≡ is_concrete types.now (inner_of types.now argument.now) }
 {
-    !is_abstract(argument.inner_with(types), types)
-}
-
-/// Whether the leaf of the type is an abstract scalar.
-#[tactic(auto, unfolding(shader_ir::specs::TypeTree::tree_of, shader_ir::specs::TypeTree::tree_within))]
-fn is_abstract(inner: &TypeInner, types: &UniqueArena<Type, mark::Type>) -> bool
-    requires backward { IsBackward types.now }
-    requires inner_in { PointsBelow (length types.now) inner.now }
-    ensures { result ≡ is_abstract types.now inner.now }
-{
-    match inner {
-        TypeInner::Scalar(scalar) => is_abstract_kind(scalar.kind),
-        TypeInner::Vector { scalar, .. } => is_abstract_kind(scalar.kind),
-        TypeInner::Matrix { scalar, .. } => is_abstract_kind(scalar.kind),
-        TypeInner::Atomic(scalar) => is_abstract_kind(scalar.kind),
-        TypeInner::Array { base, .. } => is_abstract(&types[*base].inner, types),
-        _ => false,
-    }
-}
-
-fn is_abstract_kind(kind: ScalarKind) -> bool
-    ensures { result ≡ is_abstract_kind kind }
-{
-    match kind {
-        ScalarKind::AbstractInt | ScalarKind::AbstractFloat => true,
-        ScalarKind::Sint | ScalarKind::Uint | ScalarKind::Float | ScalarKind::Bool => false,
-    }
+    !argument.inner_with(types).is_abstract(types)
 }
 
 fn has_place(members: u64, place: usize) -> bool

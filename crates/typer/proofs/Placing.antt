@@ -1,7 +1,7 @@
 -- Spelled types in an arena, and their trees there.
 use Rattle.std.proofs.Common.{rules, ◌≡◌, ℕ, zero, suc, ◌+◌, ◌<◌, ◌≤◌, Bool, true, false, cond, ◌∙◌, List, [], ◌∷◌, ◌++◌, Option, Some, None, length, refl, sym, ap, subst, arith}
 use Rattle.std.specs.Prelude.{All, slice_get}
-use Rattle.std.specs.List.{enumerate_from, list_any, position_or_len}
+use Rattle.std.specs.List.{list_any, position_or_len}
 use Rattle.std.specs.Option.{option_eq}
 use Rattle.std.proofs.lemmas.Bool.{and_parts}
 use Rattle.indexmap.specs.IndexSet.{insert_key}
@@ -16,8 +16,8 @@ use Rattle.shader_ir.specs.declared.types.ArraySize.TheVariants.{Constant}
 use Rattle.shader_ir.specs.declared.types.«Type».{«Type»}
 use Rattle.shader_ir.specs.declared.types.TypeInner.{TypeInner}
 use Rattle.shader_ir.specs.declared.types.TypeInner.TheVariants as inners
-use Rattle.shader_ir.specs.Conversion.{converts}
-use Rattle.shader_ir.specs.TypeTree.{AreBackward, IsBackward, Node, NoTree, OneTree, PointsBelow, TypeTree, tree_of, tree_within, trees_at, type_handles}
+use Rattle.shader_ir.specs.Conversion.{conversion}
+use Rattle.shader_ir.specs.TypeTree.{IsBackward, Node, NoTree, OneTree, PointsBelow, TypeTree, tree_of, tree_within, trees_at, type_handles}
 use Rattle.typer.specs.declared.types.PlainType.{PlainType}
 use Rattle.typer.specs.declared.types.PlainType.TheVariants.{Scalar, Vector, Matrix}
 use Rattle.typer.specs.declared.types.SpelledType.{SpelledType}
@@ -77,15 +77,21 @@ base_placed old new p i handle is at inserted =
 
 -- ---- flat types
 
-flat_backward : (first : ℕ) (types : List «Type») → All (λ (t : «Type»). type_handles t.inner ≡ []) types → AreBackward (enumerate_from first types)
-flat_backward first [] flat = tt
-flat_backward first (t ∷ types) flat =
-    let none : type_handles t.inner ≡ [] = flat 0 t (omega arith) in
-    let below : PointsBelow first t.inner = rw none (λ k d within. absurd (omega arith)) in
-    (below, flat_backward (first + 1) types (λ k d within. flat (suc k) d (omega arith)))
+found_flat : (types : List «Type») → All (λ (t : «Type»). type_handles t.inner ≡ []) types → (place : ℕ) (type : «Type») → slice_get types place ≡ Some type → type_handles type.inner ≡ []
+found_flat [] flat place type at = absurd (cc)
+found_flat (t ∷ types) flat zero type at = let same : t ≡ type = cc in subst (λ (u : «Type»). type_handles u.inner ≡ []) same (flat 0 t (omega arith))
+found_flat (t ∷ types) flat (suc place) type at = found_flat types (λ k d within. flat (suc k) d (omega arith)) place type at
+
+-- a type without handles names no type past a place
+flat_below : (bound : ℕ) (i : TypeInner) → type_handles i ≡ [] → PointsBelow bound i
+flat_below bound i none = rw none (λ k d within. absurd (omega arith))
 
 pub are_backward : (types : List «Type») → AreFlat types → IsBackward types
-are_backward types flat = flat_backward 0 types flat.flat
+are_backward types flat =
+    record {
+    in_range = λ place type at. flat_below (length types) type.inner (found_flat types flat.flat place type at);
+    earlier = λ place type at. flat_below place type.inner (found_flat types flat.flat place type at)
+    }
 
 -- ---- trees
 
@@ -97,8 +103,9 @@ no_trees (suc depth) types (Vector n t) = refl
 no_trees (suc depth) types (Matrix c r t) = refl
 
 plain_is : (types : List «Type») (p : PlainType) → tree_of types (inner_of p) ≡ plain_tree p
-unfolding tree_of
-plain_is types p = no_trees (suc (length types)) types p
+plain_is types (Scalar t) = refl
+plain_is types (Vector n t) = refl
+plain_is types (Matrix c r t) = refl
 
 -- the tree of an array over a base that stands at a place
 abbrev array_tree : ℕ → PlainType → ℕ → ℕ → TypeTree
@@ -106,7 +113,7 @@ array_tree place base count stride = Node (inners.Array place (Constant count) s
 
 array_is : (types : List «Type») (place : ℕ) (base : PlainType) (count stride : ℕ) → slice_get types place ≡ Some (unnamed (inner_of base))
     → tree_of types (inners.Array place (Constant count) stride) ≡ array_tree place base count stride
-unfolding tree_of tree_within
+unfolding tree_within
 array_is types place base count stride at = rw (at, no_trees (length types) types base) refl
 
 -- the trees of a placed type and of the spelled one, but for the place of an array's base
@@ -120,7 +127,7 @@ tree_is types (Plain p) i placed = ap (tree_of types) placed ∙ plain_is types 
 tree_is types (Array base count stride) i placed = ap (tree_of types) placed.2 ∙ array_is types placed.0 base count stride placed.1
 
 same_conversion : (types : List «Type») (from to : SpelledType) (a b : TypeInner) (p : IsPlaced types from a) (q : IsPlaced types to b)
-    → converts (placed_tree types from a p) (placed_tree types to b q) ≡ conversion_of from to
+    → conversion (placed_tree types from a p) (placed_tree types to b q) ≡ conversion_of from to
 unfolding placed_tree
 same_conversion types (Plain p) (Plain q) a b _ _ = refl
 same_conversion types (Plain (Scalar t)) (Array base count stride) a b _ _ = refl
@@ -137,7 +144,9 @@ stays_placed old new (Array base count stride) i keeps placed = (placed.0, keeps
 
 -- the conversion of two placed types is that of the spelled ones
 pub conversion_is : (old new : List «Type») (from to : SpelledType) (a b : TypeInner) → IsPlaced old from a → KeepsTypes old new → IsPlaced new to b
-    → converts (tree_of new a) (tree_of new b) ≡ conversion_of from to
+    → conversion (tree_of new a) (tree_of new b) ≡ conversion_of from to
 conversion_is old new from to a b p keeps q =
     let p' = stays_placed old new from a keeps p in
-    rw (tree_is new from a p', tree_is new to b q) (same_conversion new from to a b p' q)
+    ap (λ t. conversion t (tree_of new b)) (tree_is new from a p')
+    ∙ ap (conversion (placed_tree new from a p')) (tree_is new to b q)
+    ∙ same_conversion new from to a b p' q

@@ -5,7 +5,7 @@ use Rattle.shader_ir.specs.declared.types.«Type».{«Type»}
 use Rattle.shader_ir.specs.declared.types.ArraySize.TheVariants.{Constant}
 use Rattle.shader_ir.specs.declared.types.TypeInner.{TypeInner}
 use Rattle.shader_ir.specs.declared.types.TypeInner.TheVariants as inner
-use Rattle.shader_ir.specs.Conversion.{converts}
+use Rattle.shader_ir.specs.Conversion.{conversion}
 use Rattle.shader_ir.specs.TypeTree.{TypeTree, Node, NoTree, OneTree, type_handles}
 use Rattle.typer.specs.declared.types.SpelledType.{SpelledType}
 use Rattle.typer.specs.declared.types.SpelledType.TheVariants.{Plain, Array}
@@ -22,7 +22,7 @@ tree_of_spelled (Array base count stride) = Node (inner.Array 0 (Constant count)
 
 -- the leaf scalars, where the first type converts to the second
 abbrev pub conversion_of : SpelledType → SpelledType → Option (Scalar × Scalar)
-conversion_of from to = converts (tree_of_spelled from) (tree_of_spelled to)
+conversion_of from to = conversion (tree_of_spelled from) (tree_of_spelled to)
 
 -- ---- spelled types in an arena
 

@@ -3,8 +3,8 @@ use Rattle.shader_overloads.specs.Remaining.{is_concrete}
 use Rattle.shader_overloads.proofs.TreeLemmas.{inner_fits}
 use Rattle.shader_overloads.proofs.list.is_concrete_argument.Goals as goal
 
-pub is_abstract-requires-clause-inner_in : goal.is_abstract-requires-clause-inner_in
-is_abstract-requires-clause-inner_in c = inner_fits c.args.types.now c.requires.backward c.args.argument.now c.inner_with.result.now c.inner_with.ensures c.requires.fits.0
+pub is_abstract-requires-clause-self_in : goal.is_abstract-requires-clause-self_in
+is_abstract-requires-clause-self_in c = inner_fits c.args.types.now c.requires.backward c.args.argument.now c.inner_with.result.now c.inner_with.ensures c.requires.fits.0
 
 pub returns : goal.returns
 returns c = ap not c.is_abstract.ensures ∙ sym (ap (is_concrete c.args.types.now) c.inner_with.ensures)
