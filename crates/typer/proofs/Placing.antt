@@ -89,8 +89,8 @@ flat_below bound i none = rw none (λ k d within. absurd (omega arith))
 pub are_backward : (types : List «Type») → AreFlat types → IsBackward types
 are_backward types flat =
     record {
-    in_range = λ place type at. flat_below (length types) type.inner (found_flat types flat.flat place type at);
-    earlier = λ place type at. flat_below place type.inner (found_flat types flat.flat place type at)
+      in_range = λ place type at. flat_below (length types) type.inner (found_flat types flat.flat place type at);
+      earlier = λ place type at. flat_below place type.inner (found_flat types flat.flat place type at);
     }
 
 -- ---- trees
