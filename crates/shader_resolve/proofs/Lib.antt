@@ -1,6 +1,0 @@
-pub mod FitsLemmas
-pub mod FollowLemmas
-pub mod KeyLemmas
-pub mod RowLemmas
-pub mod Tests
-pub mod TypingLemmas
