@@ -33,7 +33,7 @@ use Rattle.shader_ir.specs.declared.types.StructMember.{StructMember}
 use Rattle.shader_ir.specs.declared.types.TypeInner.{TypeInner}
 use Rattle.shader_ir.specs.declared.types.TypeInner.TheVariants as type
 use Rattle.shader_ir.specs.declared.proc.type_resolution.TypeResolution.{TypeResolution}
-use Rattle.shader_ir.specs.declared.proc.type_resolution.TypeResolution.TheVariants.{Handle, Value}
+use Rattle.shader_ir.specs.declared.proc.type_resolution.TypeResolution.TheVariants.{Value}
 use Rattle.shader_ir.specs.Alignments.{vector_count}
 use Rattle.shader_ir.specs.Key.{found_inner, inner_of, FitsTypes}
 use Rattle.shader_ir.specs.TypeTree.{IsBackward, PointsBelow}
@@ -46,7 +46,7 @@ use Rattle.shader_resolve.specs.Context.{Context, IsInRange, IsResultType, IsTyp
 use Rattle.shader_resolve.specs.Follows.{Told, Follows, FitsTold}
 use Rattle.shader_resolve.specs.Images.{bool_scalar, texel, extent, gather_type, sample_type, extent_type}
 use Rattle.shader_resolve.specs.Operations.{test_type, logical_type, Product, AsLeft, AsRight, Made, NoProduct, product_of, product_type, cast_type, product, left_type}
-use Rattle.shader_resolve.specs.Outcome.{Refusal, IncompatibleOperands, InvalidAccess, InvalidSubAccess, Outcome, Given, Refused, Meets, at_inner, at_shape}
+use Rattle.shader_resolve.specs.Outcome.{Refusal, IncompatibleOperands, InvalidAccess, InvalidSubAccess, Outcome, Given, Refused, Meets, at_inner}
 use Rattle.shader_resolve.specs.Part.{checked, member_part, indexed_member, part, part_value, part_pointer, part_outcome, pointed_outcome, lifted}
 use Rattle.shader_resolve.specs.Rows.{Row, Plain, One, Two, constant_type, override_type, argument_type, variable_type, global_type, local_type, result_type, call_type, special_type, splat_type, swizzle_type, pointed_type, load_type, matrix_type, tile_type, pointed_scalar, on_shape, binary_row, relational_row, sample_row, query_row, row}
 use Rattle.shader_resolve.proofs.KeyLemmas.{at_place, found_below, inner_fits, member_below}

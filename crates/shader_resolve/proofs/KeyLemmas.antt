@@ -9,7 +9,7 @@ use Rattle.shader_ir.specs.declared.types.TypeInner.{TypeInner}
 use Rattle.shader_ir.specs.declared.types.TypeInner.TheVariants.{Struct}
 use Rattle.shader_ir.specs.declared.proc.type_resolution.TypeResolution.{TypeResolution}
 use Rattle.shader_ir.specs.declared.proc.type_resolution.TypeResolution.TheVariants.{Handle, Value}
-use Rattle.shader_ir.specs.Key.{StructKey, InnerKey, canonical, shape_key, found_key, key_of, found_inner, inner_of, FitsTypes}
+use Rattle.shader_ir.specs.Key.{StructKey, shape_key, found_key, key_of, found_inner, inner_of, FitsTypes}
 use Rattle.shader_ir.specs.TypeTree.{type_handles, PointsBelow, AreBackward, IsBackward}
 
 -- what holds of each item holds of the one at a place

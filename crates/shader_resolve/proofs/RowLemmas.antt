@@ -28,7 +28,7 @@ use Rattle.shader_resolve.specs.Context.{Context}
 use Rattle.shader_resolve.specs.Outcome.{Refusal, Outcome, Given, at_inner, at_shape}
 use Rattle.shader_resolve.specs.Part.{part, part_outcome, part_pointer, pointed_outcome, lifted}
 use Rattle.shader_resolve.specs.Images.{gather_type, sample_type, extent_type}
-use Rattle.shader_resolve.specs.Operations.{test_type, logical_type, cast_type, Product, AsLeft, AsRight, Made, NoProduct, product_of, product_type, product, left_type}
+use Rattle.shader_resolve.specs.Operations.{test_type, logical_type, cast_type, Product, AsLeft, AsRight, Made, NoProduct, product_of, product_type, product}
 use Rattle.shader_resolve.specs.Rows.{Row, Plain, One, Two, splat_type, swizzle_type, pointed_type, load_type, found_scalar, matrix_type, tile_type, on_shape, binary_row, relational_row, sample_row, query_row, row}
 use Rattle.shader_resolve.specs.Typing.{outcome_key}
 use Rattle.shader_resolve.proofs.TypingLemmas.{ReadsCanonical, canonical_cases, refuses_pointers, reads_pointers, at_same_keys}

@@ -7,7 +7,7 @@ use Rattle.shader_ir.specs.declared.types.«Type».{«Type»}
 use Rattle.shader_ir.specs.declared.proc.type_resolution.TypeResolution.{TypeResolution}
 use Rattle.shader_ir.specs.Key.{FitsTypes}
 use Rattle.shader_resolve.specs.declared.error.ResolveError.{ResolveError}
-use Rattle.shader_resolve.specs.Outcome.{Outcome, Meets}
+use Rattle.shader_resolve.specs.Outcome.{Meets}
 use Rattle.shader_resolve.specs.Rows.{Row, Plain, One, Two}
 
 -- what a closure answers of an operand

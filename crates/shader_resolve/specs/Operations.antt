@@ -1,5 +1,5 @@
 -- The types of tests, products and conversions.
-use Rattle.std.specs.Prelude.{ℕ, Bool, true, false, ◌&&◌, ◌==◌, List, Option, Some, None, if◌then◌else◌}
+use Rattle.std.specs.Prelude.{ℕ, Bool, true, false, ◌&&◌, ◌==◌, List, Option, if◌then◌else◌}
 use Rattle.std.specs.Option.{unwrap_or}
 use Rattle.shader_ir.specs.declared.operators.BinaryOperator.{BinaryOperator}
 use Rattle.shader_ir.specs.declared.operators.BinaryOperator.TheVariants as operator

@@ -1,5 +1,4 @@
 //! The types of tests, products and conversions.
-ghost use Rattle.std.specs.Prelude.{◌≡◌};
 ghost use Rattle.shader_resolve.specs.Operations.{cast_type, logical_type, product_of, product_type, test_type};
 ghost use Rattle.shader_resolve.specs.Outcome.{IncompatibleOperands, IsRefusal, Meets};
 

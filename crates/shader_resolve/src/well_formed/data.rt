@@ -40,7 +40,7 @@ fn type_in_range(module: &Module, inner: &TypeInner) -> bool
 }
 
 /// Whether the types that a type names are below a bound.
-#[tactic(auto, using(crate::proofs::Tests::mapped))]
+#[tactic(auto, using(crate::proofs::Joined::mapped))]
 fn bases_below(inner: &TypeInner, bound: usize) -> bool
     ensures { result ≡ list_all (λ base. nat_lt base bound) (type_handles inner.now) }
 {

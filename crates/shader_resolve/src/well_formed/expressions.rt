@@ -1,6 +1,5 @@
 //! Tests of expressions.
 ghost use Rattle.std.specs.Prelude.{◌≡◌, nat_lt};
-ghost use Rattle.std.specs.List.{list_all};
 ghost use Rattle.shader_resolve.specs.WellFormed.{expression_callee, expressions_in_range, is_below, names_in_range, operands_below, operands_earlier, results_earlier};
 
 use shader_arena::{Arena, Handle};

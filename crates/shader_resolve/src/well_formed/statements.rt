@@ -22,7 +22,7 @@ pub fn body_lacks(module: &Module, fault: ModuleFault, earlier: usize, function:
 }
 
 #[cycle(blocks)]
-#[tactic(auto, using(crate::proofs::Tests::joined))]
+#[tactic(auto, using(crate::proofs::Joined::joined))]
 fn block_lacks(
     block: &Block,
     module: &Module,
@@ -44,7 +44,7 @@ fn block_lacks(
 
 /// Whether no statement in the blocks of a statement has the fault.
 #[cycle(blocks)]
-#[tactic(auto, using(crate::proofs::Tests::joined))]
+#[tactic(auto, using(crate::proofs::Joined::joined))]
 fn blocks_lack(
     statement: &Statement,
     module: &Module,
