@@ -2,7 +2,6 @@
 use Rattle.std.proofs.Common.{◌≡◌, ap, sym, refl, subst, ℕ, zero, suc, ◌+◌, ◌<◌, ◌≤◌, List, [], ◌∷◌, Option, Some, None, All, length, slice_get, zero-add, get_or, arith}
 use Rattle.std.proofs.lemmas.List.{get_or-map, length-map}
 use Rattle.std.proofs.lemmas.Option.{slice_get_within, get_or_from_slice_get}
-use Rattle.std.specs.List.{enumerate_from}
 use Rattle.shader_ir.specs.declared.types.«Type».{«Type»}
 use Rattle.shader_ir.specs.declared.types.StructMember.{StructMember}
 use Rattle.shader_ir.specs.declared.types.TypeInner.{TypeInner}
@@ -10,7 +9,7 @@ use Rattle.shader_ir.specs.declared.types.TypeInner.TheVariants.{Struct}
 use Rattle.shader_ir.specs.declared.proc.type_resolution.TypeResolution.{TypeResolution}
 use Rattle.shader_ir.specs.declared.proc.type_resolution.TypeResolution.TheVariants.{Handle, Value}
 use Rattle.shader_ir.specs.Key.{StructKey, shape_key, found_key, key_of, found_inner, inner_of, FitsTypes}
-use Rattle.shader_ir.specs.TypeTree.{type_handles, PointsBelow, AreBackward, IsBackward}
+use Rattle.shader_ir.specs.TypeTree.{PointsBelow, IsBackward}
 
 -- what holds of each item holds of the one at a place
 pub at_place : {T : Type 0} (P : T → Type 0) (xs : List T) (i : ℕ) (x : T) → All P xs → slice_get xs i ≡ Some x → P x
@@ -26,26 +25,10 @@ member_below place members span index member h is =
         (h k d.ty (subst (λ n. k < n) (sym (length-map members (λ (member : StructMember). member.ty))) lt)))
     is
 
-below_from : (first : ℕ) (types : List «Type») (place : ℕ) (type : «Type») → AreBackward (enumerate_from first types) → slice_get types place ≡ Some type → PointsBelow (first + place) type.inner
-below_from first [] place type backward at = absurd (cc)
-below_from first (t ∷ types) zero type backward at =
-    let same : t ≡ type = cc in
-    let sum : first ≡ first + 0 = omega arith in
-    subst (λ n. PointsBelow n type.inner) sum (subst (λ (u : «Type»). PointsBelow first u.inner) same backward.0)
-below_from first (t ∷ types) (suc place) type backward at =
-    let sum : first + 1 + place ≡ first + suc place = omega arith in
-    subst (λ n. PointsBelow n type.inner) sum (below_from (first + 1) types place type backward.1 at)
-
-weaker : (place more : ℕ) (inner : TypeInner) → place ≤ more → PointsBelow place inner → PointsBelow more inner
-weaker place more inner le h k d lt = let below : get_or (type_handles inner) k d < place = h k d lt in omega arith
-
 module _ (types : List «Type») where
   -- the types that a type of the arena names are in the arena
   pub found_below : IsBackward types → (place : ℕ) (type : «Type») → slice_get types place ≡ Some type → PointsBelow (length types) type.inner
-  found_below backward place type at =
-      let lt = slice_get_within types place type at in
-      weaker place (length types) type.inner (omega arith)
-      (subst (λ n. PointsBelow n type.inner) (zero-add place) (below_from 0 types place type backward at))
+  found_below backward place type at = backward.in_range place type at
 
   -- the types that a resolution's shape names are in the arena
   pub inner_fits : IsBackward types → (resolution : TypeResolution) (inner : TypeInner) → inner_of types resolution ≡ Some inner → FitsTypes types resolution → PointsBelow (length types) inner
