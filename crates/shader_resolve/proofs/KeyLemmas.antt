@@ -21,8 +21,8 @@ pub member_below : (place : ℕ) (members : List StructMember) (span index : ℕ
 member_below place members span index member h is =
     at_place (λ (member : StructMember). member.ty < place) members index member
     (λ k d lt.
-        subst (λ n. n < place) (get_or-map (λ (member : StructMember). member.ty) members k d d.ty lt)
-        (h k d.ty (subst (λ n. k < n) (sym (length-map members (λ (member : StructMember). member.ty))) lt)))
+    subst (λ n. n < place) (get_or-map (λ (member : StructMember). member.ty) members k d d.ty lt)
+    (h k d.ty (subst (λ n. k < n) (sym (length-map members (λ (member : StructMember). member.ty))) lt)))
     is
 
 module _ (types : List «Type») where

@@ -96,11 +96,12 @@ fn functions_lack(module: &Module, fault: ModuleFault) -> bool
 fn entry_points_lack(module: &Module, fault: ModuleFault) -> bool
     ensures { result ≡ list_all (λ entry. function_lacks «module».now fault (length «module».now.functions) entry.function) «module».now.entry_points }
 {
-    module
-        .entry_points
-        .as_slice()
-        .iter()
-        .all(|entry| function_lacks(module, fault, module.functions.len(), &entry.function))
+    module.entry_points.as_slice().iter().all(|entry| function_lacks(
+        module,
+        fault,
+        module.functions.len(),
+        &entry.function,
+    ))
 }
 
 /// Whether a function that has so many earlier ones lacks the fault.

@@ -31,7 +31,12 @@ impl<'a> ResolveContext<'a> {
     }
 
     /// The type of a binary operation that asks its left side alone.
-    pub(super) fn left_type(&self, alloc: Global, op: BinaryOperator, left: &'a TypeResolution) -> Resolved
+    pub(super) fn left_type(
+        &self,
+        alloc: Global,
+        op: BinaryOperator,
+        left: &'a TypeResolution,
+    ) -> Resolved
         requires backward { IsBackward self.now.types }
         requires fits { FitsTypes self.now.types left.now }
         ensures { Meets result (left_type self.now.types op left.now) }

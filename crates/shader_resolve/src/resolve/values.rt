@@ -2,7 +2,9 @@
 ghost use Rattle.std.specs.Prelude.{◌≡◌};
 ghost use Rattle.shader_resolve.specs.Images.{scalar};
 
-use shader_ir::{CooperativeRole, CooperativeSize, Scalar, ScalarKind, TypeInner, TypeResolution, VectorSize};
+use shader_ir::{
+    CooperativeRole, CooperativeSize, Scalar, ScalarKind, TypeInner, TypeResolution, VectorSize,
+};
 
 pub fn scalar_type(scalar: Scalar) -> TypeResolution
     ensures { result ≡ TypeResolution.Value (TypeInner.Scalar scalar) }

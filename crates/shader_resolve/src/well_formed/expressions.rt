@@ -117,10 +117,7 @@ fn expression_callee(expression: &Expression) -> Option<Handle<mark::Function>>
 }
 
 /// Whether the functions whose results are named are among the first ones.
-pub fn results_earlier(
-    expressions: &Arena<Expression, mark::Expression>,
-    earlier: usize,
-) -> bool
+pub fn results_earlier(expressions: &Arena<Expression, mark::Expression>, earlier: usize) -> bool
     ensures { result ≡ results_earlier earlier expressions.now }
 {
     for (_, expression) in expressions.iter() {

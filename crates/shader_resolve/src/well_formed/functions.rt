@@ -14,7 +14,11 @@ pub fn function_in_range(module: &Module, function: &Function) -> bool
     arguments_in_range(module, function)
         && result_in_range(module, function.result)
         && locals_in_range(module, function)
-        && expressions_in_range(module, function.local_variables.len(), &function.expressions)
+        && expressions_in_range(
+            module,
+            function.local_variables.len(),
+            &function.expressions,
+        )
         && named_in_range(function)
         && is_optional_below(
             function.diagnostic_filter_leaf,

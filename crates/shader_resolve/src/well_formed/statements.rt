@@ -10,9 +10,7 @@ ghost use Rattle.shader_resolve.specs.WellFormed.{body_lacks, counts_match, is_e
 use super::ModuleFault;
 use super::expressions::{is_below, is_optional_below, operands_below};
 use shader_arena::{Handle, Range};
-use shader_ir::{
-    Block, Function, Module, RayQueryFunction, Statement, mark, statement_operands,
-};
+use shader_ir::{Block, Function, Module, RayQueryFunction, Statement, mark, statement_operands};
 
 /// Whether no statement of a function that has so many earlier ones has the fault.
 pub fn body_lacks(module: &Module, fault: ModuleFault, earlier: usize, function: &Function) -> bool
