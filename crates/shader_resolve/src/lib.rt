@@ -4,6 +4,8 @@
 mod context;
 mod error;
 mod resolve;
+#[cfg(test)]
+mod tests;
 mod well_formed;
 
 pub use context::ResolveContext;
