@@ -50,10 +50,10 @@ module _ {T : Type 0} (items : List T) (place : ℕ) (item : T) (at : slice_get 
             let inside = slice_get_within items place item at in
             let long : length (take place items) ≡ place = length-take-le place items (omega (arith, inside)) in
             let any = Any-from_list_any (eq item) (take place items) is in
-            let low : any.0 < place = omega (arith, long, any.1.1.0) in
-            let same : get_or items any.0 any.1.0 ≡ any.1.0 = sym (get_or-take place items any.0 any.1.0 low) ∙ any.1.1.1.0 in
-            let held : slice_get items any.0 ≡ Some any.1.0 = slice_get-get_or items any.0 any.1.0 (omega (arith, low, inside)) ∙ ap Some same in
-            absurd (omega (arith, low, distinct.same_place place any.0 item any.1.0 at held any.1.1.1.1))
+            let low : any.0 < place = omega (arith, long, any.2) in
+            let same : get_or items any.0 any.1 ≡ any.1 = sym (get_or-take place items any.0 any.1 low) ∙ any.3 in
+            let held : slice_get items any.0 ≡ Some any.1 = slice_get-get_or items any.0 any.1 (omega (arith, low, inside)) ∙ ap Some same in
+            absurd (omega (arith, low, distinct.same_place place any.0 item any.1 at held any.4))
 
     -- one more item in a list without equal items
     pub next_unique : with_item eq (take place items) item ≡ take (place + 1) items
