@@ -27,10 +27,15 @@ new_entry eq laws (entry ∷ done) key value rest distinct =
     ∙ ap (λ entries. entry ∷ entries) (new_entry eq laws done key value rest distinct.1)
 
 -- an entry moves from those left to those copied
-pub next_entry : {K V : Type 0} (eq : K → K → Bool) → IsEquivalence eq → (all done : List (K × V)) (key : K) (value : V) (rest : List (K × V))
-    → IsDistinct eq (keys_of all) → done ++ (key, value) ∷ rest ≡ all → insert_entry eq done key value ++ rest ≡ all
-next_entry eq laws all done key value rest distinct whole =
-    new_entry eq laws done key value rest (subst (λ entries. IsDistinct eq (keys_of entries)) (sym whole) distinct) ∙ whole
+pub next_entry : {K V : Type 0} (eq : K → K → Bool) → IsEquivalence eq → (all done left rest after : List (K × V)) {key copied_key : K} {value copied_value : V}
+    → IsDistinct eq (keys_of all) → done ++ left ≡ all → left ≡ (key, value) ∷ rest
+    → copied_key ≡ key → copied_value ≡ value → after ≡ insert_entry eq done copied_key copied_value
+    → after ++ rest ≡ all
+next_entry eq laws all done left rest after {key} {copied_key} {value} {copied_value} distinct split first same_key same_value put =
+    let whole : done ++ (key, value) ∷ rest ≡ all = ap (λ entries. done ++ entries) (sym first) ∙ split in
+    let told_apart = subst (λ entries. IsDistinct eq (keys_of entries)) (sym whole) distinct in
+    let moved : after ≡ insert_entry eq done key value = put ∙ (λ i. insert_entry eq done (same_key i) (same_value i)) in
+    ap (λ entries. entries ++ rest) moved ∙ new_entry eq laws done key value rest told_apart ∙ whole
 
 module _ {T : Type 0} (items : List T) (place : ℕ) (item : T) (at : slice_get items place ≡ Some item) where
   -- one more item

@@ -10,9 +10,12 @@ Block::copy-loop-statement-preserved t c =
     let items = c.deref-statement-items.result.now in
     let index = c.loop-statement.statement-index in
     let statement = c.statement-item.result in
+    let done = c.loop-statement.statements.items in
+    let copy = c.in_ok-copy.field-0 in
     let inside : index < length items = omega arith in
     let more : take (index + 1) items ≡ take index items ++ statement ∷ [] =
     take_more items index statement inside ∙ ap (λ last. take index items ++ last ∷ []) (sym c.statement-item.is) in
-    ap body_of c.in_ok-push.ensures.items
-    ∙ next_statement c.loop-statement.statements.items (take index items) c.in_ok-copy.field-0 statement c.loop-statement.invariant c.in_ok-copy.ensures
-    ∙ sym (ap body_of more)
+    let pushed : body_of c.push.new.self.items ≡ body_of (done ++ copy ∷ []) = ap body_of c.in_ok-push.ensures.items in
+    let next : body_of (done ++ copy ∷ []) ≡ body_of (take index items ++ statement ∷ []) =
+    next_statement done (take index items) copy statement c.loop-statement.invariant c.in_ok-copy.ensures in
+    pushed ∙ next ∙ sym (ap body_of more)
