@@ -1,4 +1,5 @@
 pub mod ConversionLemmas
+pub mod CopyLemmas
 pub mod KeyLemmas
 pub mod LayoutLawLemmas
 pub mod LayoutLemmas

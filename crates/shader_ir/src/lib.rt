@@ -2,6 +2,7 @@
 #![tactic(auto)]
 
 mod binding;
+mod copies;
 mod count;
 mod expression;
 mod flags;
@@ -24,6 +25,7 @@ mod tests;
 mod types;
 
 pub use binding::{Binding, BuiltIn};
+pub use copies::TryCopy;
 pub use count::Count;
 pub use expression::{CooperativeData, Expression, ImageQuery, SampleLevel};
 pub use flags::{Barrier, ShaderStages, StorageAccess};

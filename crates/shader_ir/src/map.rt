@@ -5,9 +5,10 @@ ghost use Rattle.std.specs.Map.{keys_of, lookup};
 ghost use Rattle.std.specs.Option.{option_copied};
 ghost use Rattle.indexmap.specs.IndexMap.{insert_entry};
 
+use crate::TryCopy;
 use indexmap::IndexMap;
 use indexmap::map::Iter;
-use std::alloc::{AllocFailed, Global};
+use std::alloc::{AllocError, AllocFailed, Global};
 use std::hash::Hash;
 use std::marker::Model;
 
@@ -86,6 +87,23 @@ impl<K: Eq + Hash, V> Map<K, V> {
     {
         let Map { entries } = self;
         entries
+    }
+}
+
+impl<K: Eq + Hash + TryCopy, V: TryCopy> Map<K, V> {
+    /// The same map again.
+    ///
+    /// # Errors
+    ///
+    /// Want of memory for the map, or for a key or value.
+    pub fn copy(&self, alloc: Global) -> Result<Map<K, V>, AllocError>
+        ensures { IfOk result (λ copy. copy ≡ self.now) }
+    {
+        let mut entries = IndexMap::with_capacity(alloc, self.len())?;
+        for (key, value) in self.iter() {
+            entries.insert(key.try_copy(alloc)?, value.try_copy(alloc)?)?;
+        }
+        Ok(Map { entries })
     }
 }
 

@@ -4,7 +4,7 @@ ghost use Rattle.shader_ir.specs.Shapes.{IsOfScalars, IsResource};
 
 use crate::{
     Binding, CooperativeRole, CooperativeSize, Count, ImageClass, ImageDimension, Items, Name,
-    Scalar, StorageAccess, VectorSize, mark,
+    Scalar, StorageAccess, TryCopy, VectorSize, mark,
 };
 use shader_arena::Handle;
 use std::alloc::{AllocError, Global};
@@ -121,7 +121,7 @@ impl Type {
         ensures { IfOk result (λ copy. copy ≡ self.now) }
     {
         Ok(Type {
-            name: copy_name(alloc, &self.name)?,
+            name: self.name.try_copy(alloc)?,
             inner: self.inner.copy(alloc)?,
         })
     }
@@ -138,7 +138,7 @@ impl TypeInner {
     {
         match self {
             TypeInner::Struct { members, span } => Ok(TypeInner::Struct {
-                members: copy_members(alloc, members.as_slice())?,
+                members: members.copy(alloc)?,
                 span: *span,
             }),
             TypeInner::Pointer { base, space } => Ok(TypeInner::Pointer {
@@ -237,27 +237,6 @@ impl TypeInner {
     }
 }
 
-/// The same members again.
-fn copy_members(alloc: Global, members: &[StructMember]) -> Result<Items<StructMember>, AllocError>
-    ensures { IfOk result (λ copies. copies ≡ members.now) }
-{
-    let mut copies = Vec::new(alloc);
-    for member in members {
-        copies.push(member.copy(alloc)?)?;
-    }
-    Ok(Items::from(copies))
-}
-
-/// The same name again, where there is one.
-fn copy_name(alloc: Global, name: &Option<Name>) -> Result<Option<Name>, AllocError>
-    ensures { IfOk result (λ copy. copy ≡ name.now) }
-{
-    match name {
-        Some(name) => Ok(Some(name.copy(alloc)?)),
-        None => Ok(None),
-    }
-}
-
 impl StructMember {
     /// The same member again.
     ///
@@ -268,10 +247,16 @@ impl StructMember {
         ensures { IfOk result (λ member. member ≡ self.now) }
     {
         Ok(StructMember {
-            name: copy_name(alloc, &self.name)?,
+            name: self.name.try_copy(alloc)?,
             ty: self.ty,
             binding: self.binding,
             offset: self.offset,
         })
+    }
+}
+
+impl TryCopy for StructMember {
+    fn try_copy(&self, alloc: Global) -> Result<StructMember, AllocError> {
+        self.copy(alloc)
     }
 }

@@ -1,4 +1,4 @@
-use Rattle.std.proofs.Common.{rules, ◌≡◌, refl}
+use Rattle.std.proofs.Common.{rules, refl}
 use Rattle.shader_ir.proofs.PowerLemmas.{power_test, test_alignment, test_power}
 use Rattle.shader_ir.proofs.proc.alignment.Alignment.new.Goals as goal
 

@@ -1,0 +1,103 @@
+-- Groups of the forms of expressions and statements.
+use Rattle.shader_ir.specs.Body.{Step, Leaf}
+use Rattle.shader_ir.specs.Body as data'
+use Rattle.shader_ir.specs.declared.expression.Expression.{Expression}
+use Rattle.shader_ir.specs.declared.expression.Expression.TheVariants.{Literal, Constant, Override, ZeroValue, FunctionArgument, GlobalVariable, LocalVariable, Access, AccessIndex, Splat, Swizzle, Load, ArrayLength, ImageSample, ImageLoad, ImageQuery, Unary, Binary, Derivative, Relational, As, Select, Math, CallResult, AtomicResult, WorkGroupUniformLoadResult, RayQueryVertexPositions, RayQueryProceedResult, RayQueryGetIntersection, SubgroupBallotResult, SubgroupOperationResult, CooperativeLoad, CooperativeMultiplyAdd}
+
+-- the expression is a literal or names what is declared
+abbrev pub NamesDeclared : Expression → Type 0
+NamesDeclared (Literal literal) = Unit {0}
+NamesDeclared (Constant constant) = Unit {0}
+NamesDeclared (Override declared) = Unit {0}
+NamesDeclared (ZeroValue ty) = Unit {0}
+NamesDeclared (FunctionArgument index) = Unit {0}
+NamesDeclared (GlobalVariable variable) = Unit {0}
+NamesDeclared (LocalVariable variable) = Unit {0}
+NamesDeclared _ = ⊥
+
+-- the expression takes or spreads parts of a value
+abbrev pub TakesPart : Expression → Type 0
+TakesPart (Access base index) = Unit {0}
+TakesPart (AccessIndex base index) = Unit {0}
+TakesPart (Splat size value) = Unit {0}
+TakesPart (Swizzle size vector pattern) = Unit {0}
+TakesPart (Load pointer) = Unit {0}
+TakesPart (ArrayLength array) = Unit {0}
+TakesPart _ = ⊥
+
+-- the expression samples an image
+abbrev pub SamplesImage : Expression → Type 0
+SamplesImage (ImageSample image sampler gather coordinate array_index offset level depth_ref clamp_to_edge) = Unit {0}
+SamplesImage _ = ⊥
+
+-- the expression reads an image without a sampler
+abbrev pub ReadsImage : Expression → Type 0
+ReadsImage (ImageLoad image coordinate array_index sample level) = Unit {0}
+ReadsImage (ImageQuery image query) = Unit {0}
+ReadsImage _ = ⊥
+
+-- the expression applies an operator
+abbrev pub AppliesOperator : Expression → Type 0
+AppliesOperator (Unary op expr) = Unit {0}
+AppliesOperator (Binary op left right) = Unit {0}
+AppliesOperator (Derivative axis ctrl expr) = Unit {0}
+AppliesOperator (Relational fun argument) = Unit {0}
+AppliesOperator (As expr kind convert) = Unit {0}
+AppliesOperator _ = ⊥
+
+-- the expression selects or calls a builtin function
+abbrev pub SelectsOrCalls : Expression → Type 0
+SelectsOrCalls (Select condition accept reject) = Unit {0}
+SelectsOrCalls (Math fun arg arg1 arg2 arg3) = Unit {0}
+SelectsOrCalls _ = ⊥
+
+-- the expression stands for what a statement answers or a ray query holds
+abbrev pub IsResult : Expression → Type 0
+IsResult (CallResult function) = Unit {0}
+IsResult (AtomicResult ty comparison) = Unit {0}
+IsResult (WorkGroupUniformLoadResult ty) = Unit {0}
+IsResult (RayQueryVertexPositions query committed) = Unit {0}
+IsResult RayQueryProceedResult = Unit {0}
+IsResult (RayQueryGetIntersection query committed) = Unit {0}
+IsResult SubgroupBallotResult = Unit {0}
+IsResult (SubgroupOperationResult ty) = Unit {0}
+IsResult _ = ⊥
+
+-- the expression is a cooperative matrix
+abbrev pub IsCooperative : Expression → Type 0
+IsCooperative (CooperativeLoad columns rows role tile) = Unit {0}
+IsCooperative (CooperativeMultiplyAdd a b c) = Unit {0}
+IsCooperative _ = ⊥
+
+-- the statement steers the flow or emits expressions
+abbrev pub SteersFlow : Step → Type 0
+SteersFlow (Leaf (data'.Emit start end)) = Unit {0}
+SteersFlow (Leaf data'.Break) = Unit {0}
+SteersFlow (Leaf data'.Continue) = Unit {0}
+SteersFlow (Leaf (data'.Return value)) = Unit {0}
+SteersFlow (Leaf data'.Kill) = Unit {0}
+SteersFlow (Leaf (data'.ControlBarrier flags)) = Unit {0}
+SteersFlow (Leaf (data'.MemoryBarrier flags)) = Unit {0}
+SteersFlow _ = ⊥
+
+-- the statement reads or writes memory or works on a ray
+abbrev pub AccessesMemory : Step → Type 0
+AccessesMemory (Leaf (data'.Store pointer value)) = Unit {0}
+AccessesMemory (Leaf (data'.Atomic pointer fun value result)) = Unit {0}
+AccessesMemory (Leaf (data'.WorkGroupUniformLoad pointer result)) = Unit {0}
+AccessesMemory (Leaf (data'.CooperativeStore target tile)) = Unit {0}
+AccessesMemory (Leaf (data'.RayQuery query fun)) = Unit {0}
+AccessesMemory (Leaf (data'.RayPipeline fun)) = Unit {0}
+AccessesMemory _ = ⊥
+
+-- a subgroup shares values in the statement
+abbrev pub SharesInSubgroup : Step → Type 0
+SharesInSubgroup (Leaf (data'.SubgroupBallot result predicate)) = Unit {0}
+SharesInSubgroup (Leaf (data'.SubgroupGather mode argument result)) = Unit {0}
+SharesInSubgroup (Leaf (data'.SubgroupCollectiveOperation op collective_op argument result)) = Unit {0}
+SharesInSubgroup _ = ⊥
+
+-- the statement holds no block
+abbrev pub HoldsNoBlock : Step → Type 0
+HoldsNoBlock (Leaf simple) = Unit {0}
+HoldsNoBlock _ = ⊥
