@@ -1,17 +1,13 @@
-//! Tests of the IR data, of equality and keys of types, and of operands.
-use crate::{
-    AddressSpace, ArraySize, AtomicFunction, Barrier, BinaryOperator, Block, CollectiveOperation,
-    CooperativeData, CooperativeRole, CooperativeSize, Count, DerivativeAxis, DerivativeControl,
-    Direction, Expression, ExpressionOperands, GatherMode, ImageQuery, Items, Label, Literal, Map,
-    MathFunction, Module, Name, PredeclaredType, RayPipelineFunction, RayQueryFunction,
-    RelationalFunction, Same, SampleLevel, Scalar, ScalarKind, ShaderStages, SpecialTypes,
-    Statement, StorageAccess, StructMember, SubgroupOperation, SwizzleComponent, Type, TypeInner,
-    TypeResolution, UnaryOperator, VectorSize, compare_types, expression_operands, mark,
-    statement_operands, types_backward,
+//! The operands of each form of expression and statement, in the order of the table, with their labels.
+use shader_arena::{Handle, Range};
+use shader_ir::{
+    AtomicFunction, Barrier, BinaryOperator, Block, CollectiveOperation, CooperativeData,
+    CooperativeRole, CooperativeSize, DerivativeAxis, DerivativeControl, Direction, Expression,
+    ExpressionOperands, GatherMode, ImageQuery, Items, Label, Literal, MathFunction,
+    RayPipelineFunction, RayQueryFunction, RelationalFunction, SampleLevel, ScalarKind, Statement,
+    SubgroupOperation, SwizzleComponent, UnaryOperator, VectorSize, expression_operands, mark,
+    statement_operands,
 };
-use bitflags::Flags;
-use shader_arena::{Arena, Handle, Range, UniqueArena};
-use std::alloc::{AllocError, AllocFailed, Global};
 use std::process::Abort;
 use std::test::Fail;
 
@@ -69,7 +65,7 @@ fn sample(optional: bool, level: SampleLevel) -> Expression {
 }
 
 #[test]
-fn operands_of_parts_and_images(rt: HostRuntime) -> Result<(), Fail> {
+fn operands_of_parts_and_images(rt: HostRuntime) {
     let access = Expression::Access {
         base: at(1),
         index: at(1),
@@ -98,11 +94,10 @@ fn operands_of_parts_and_images(rt: HostRuntime) -> Result<(), Fail> {
     let leveled = [(9, READ), (8, READ), (7, READ), (1, READ)];
     expects(&rt, &sample(false, SampleLevel::Exact(at(1))), &leveled);
     expects(&rt, &sample(false, SampleLevel::Bias(at(1))), &leveled);
-    Ok(())
 }
 
 #[test]
-fn operands_of_other_images(rt: HostRuntime) -> Result<(), Fail> {
+fn operands_of_other_images(rt: HostRuntime) {
     let load = Expression::ImageLoad {
         image: at(5),
         coordinate: at(4),
@@ -112,22 +107,37 @@ fn operands_of_other_images(rt: HostRuntime) -> Result<(), Fail> {
     };
     let loaded = [(5, READ), (4, READ), (3, READ), (2, READ), (1, READ)];
     expects(&rt, &load, &loaded);
-    let size = Expression::ImageQuery {
-        image: at(2),
-        query: ImageQuery::Size { level: Some(at(1)) },
+    let least = Expression::ImageLoad {
+        image: at(5),
+        coordinate: at(4),
+        array_index: None,
+        sample: None,
+        level: None,
     };
-    expects(&rt, &size, &[(2, Label::Query), (1, READ)]);
-    let layers = Expression::ImageQuery {
+    expects(&rt, &least, &[(5, READ), (4, READ)]);
+}
+
+fn of_image(query: ImageQuery) -> Expression {
+    Expression::ImageQuery {
         image: at(2),
-        query: ImageQuery::NumLayers,
-    };
-    expects(&rt, &layers, &[(2, Label::Query)]);
-    expects(&rt, &Expression::ArrayLength(at(3)), &[(3, Label::Query)]);
-    Ok(())
+        query,
+    }
 }
 
 #[test]
-fn operands_of_values(rt: HostRuntime) -> Result<(), Fail> {
+fn operands_of_queries(rt: HostRuntime) {
+    let size = of_image(ImageQuery::Size { level: Some(at(1)) });
+    expects(&rt, &size, &[(2, Label::Query), (1, READ)]);
+    let alone = [(2, Label::Query)];
+    expects(&rt, &of_image(ImageQuery::Size { level: None }), &alone);
+    expects(&rt, &of_image(ImageQuery::NumLayers), &alone);
+    expects(&rt, &of_image(ImageQuery::NumLevels), &alone);
+    expects(&rt, &of_image(ImageQuery::NumSamples), &alone);
+    expects(&rt, &Expression::ArrayLength(at(3)), &[(3, Label::Query)]);
+}
+
+#[test]
+fn operands_of_values(rt: HostRuntime) {
     let one = [(3, READ)];
     let splat = Expression::Splat {
         size: VectorSize::Bi,
@@ -156,11 +166,10 @@ fn operands_of_values(rt: HostRuntime) -> Result<(), Fail> {
         argument: at(3),
     };
     expects(&rt, &relational, &one);
-    Ok(())
 }
 
 #[test]
-fn operands_of_calls(rt: HostRuntime) -> Result<(), Fail> {
+fn operands_of_calls(rt: HostRuntime) {
     let one = [(3, READ)];
     let cast = Expression::As {
         expr: at(3),
@@ -172,7 +181,6 @@ fn operands_of_calls(rt: HostRuntime) -> Result<(), Fail> {
     expects(&rt, &of_math(MathFunction::Abs, None), &one);
     let four = [(3, READ), (2, READ), (2, READ), (2, READ)];
     expects(&rt, &of_math(MathFunction::Mix, Some(2)), &four);
-    Ok(())
 }
 
 #[test]
@@ -206,7 +214,7 @@ fn operands_of_several_values(rt: HostRuntime) -> Result<(), Fail> {
 }
 
 #[test]
-fn operands_of_rays_and_tiles(rt: HostRuntime) -> Result<(), Fail> {
+fn operands_of_rays_and_tiles(rt: HostRuntime) {
     let positions = Expression::RayQueryVertexPositions {
         query: at(3),
         committed: true,
@@ -228,11 +236,10 @@ fn operands_of_rays_and_tiles(rt: HostRuntime) -> Result<(), Fail> {
         },
     };
     expects(&rt, &load, &[(3, READ), (1, READ)]);
-    Ok(())
 }
 
 #[test]
-fn other_expressions_have_no_operands(rt: HostRuntime) -> Result<(), Fail> {
+fn other_expressions_have_no_operands(rt: HostRuntime) {
     expects(&rt, &Expression::Literal(Literal::Bool(true)), &[]);
     expects(&rt, &Expression::Constant(Handle::from_index(1)), &[]);
     expects(&rt, &Expression::Override(Handle::from_index(1)), &[]);
@@ -251,7 +258,6 @@ fn other_expressions_have_no_operands(rt: HostRuntime) -> Result<(), Fail> {
     expects(&rt, &Expression::SubgroupOperationResult { ty }, &[]);
     expects(&rt, &Expression::RayQueryProceedResult, &[]);
     expects(&rt, &Expression::SubgroupBallotResult, &[]);
-    Ok(())
 }
 
 #[test]
@@ -317,7 +323,7 @@ fn exchange() -> AtomicFunction {
 }
 
 #[test]
-fn operands_of_memory(rt: HostRuntime) -> Result<(), Fail> {
+fn operands_of_memory(rt: HostRuntime) {
     let store = Statement::Store {
         pointer: at(3),
         value: at(1),
@@ -346,11 +352,10 @@ fn operands_of_memory(rt: HostRuntime) -> Result<(), Fail> {
         result: at(7),
     };
     expects_of(&rt, &added, &[(3, Label::ReadWrite), (2, READ)]);
-    Ok(())
 }
 
 #[test]
-fn operands_of_texels_and_tiles(rt: HostRuntime) -> Result<(), Fail> {
+fn operands_of_texels_and_tiles(rt: HostRuntime) {
     let image_atomic = Statement::ImageAtomic {
         image: at(5),
         coordinate: at(4),
@@ -380,7 +385,6 @@ fn operands_of_texels_and_tiles(rt: HostRuntime) -> Result<(), Fail> {
         },
     };
     expects_of(&rt, &tile, &[(3, READ), (2, Label::Write), (1, READ)]);
-    Ok(())
 }
 
 fn of_query(fun: RayQueryFunction) -> Statement {
@@ -396,7 +400,7 @@ fn of_gather(mode: GatherMode) -> Statement {
 }
 
 #[test]
-fn operands_of_rays_and_subgroups(rt: HostRuntime) -> Result<(), Fail> {
+fn operands_of_rays_and_subgroups(rt: HostRuntime) {
     let begun = of_query(RayQueryFunction::Initialize {
         acceleration_structure: at(3),
         descriptor: at(2),
@@ -413,11 +417,10 @@ fn operands_of_rays_and_subgroups(rt: HostRuntime) -> Result<(), Fail> {
         &alone,
     );
     expects_of(&rt, &of_query(RayQueryFunction::Terminate), &alone);
-    Ok(())
 }
 
 #[test]
-fn operands_of_subgroups(rt: HostRuntime) -> Result<(), Fail> {
+fn operands_of_subgroups(rt: HostRuntime) {
     let alone = [(9, READ)];
     let trace = Statement::RayPipelineFunction(RayPipelineFunction::TraceRay {
         acceleration_structure: at(3),
@@ -425,11 +428,12 @@ fn operands_of_subgroups(rt: HostRuntime) -> Result<(), Fail> {
         payload: at(1),
     });
     expects_of(&rt, &trace, &[(3, READ), (2, READ), (1, READ)]);
-    let ballot = Statement::SubgroupBallot {
+    let ballot = |predicate| Statement::SubgroupBallot {
         result: at(7),
-        predicate: Some(at(3)),
+        predicate,
     };
-    expects_of(&rt, &ballot, &[(3, READ)]);
+    expects_of(&rt, &ballot(Some(at(3))), &[(3, READ)]);
+    expects_of(&rt, &ballot(None), &[]);
     let collective = Statement::SubgroupCollectiveOperation {
         op: SubgroupOperation::Add,
         collective_op: CollectiveOperation::Reduce,
@@ -451,221 +455,4 @@ fn operands_of_subgroups(rt: HostRuntime) -> Result<(), Fail> {
     expects_of(&rt, &of_gather(GatherMode::BroadcastFirst), &alone);
     let swapped = of_gather(GatherMode::QuadSwap(Direction::Diagonal));
     expects_of(&rt, &swapped, &alone);
-    Ok(())
-}
-
-fn named(inner: TypeInner, name: Option<Name>) -> Type {
-    Type { name, inner }
-}
-
-fn name(alloc: Global, text: &str) -> Result<Name, Fail> {
-    Ok(Name::from(text.to_string(alloc)?))
-}
-
-fn pair_of_floats() -> TypeInner {
-    TypeInner::Vector {
-        size: VectorSize::Bi,
-        scalar: Scalar::F32,
-    }
-}
-
-fn structure(alloc: Global, ty: Handle<mark::Type>) -> Result<TypeInner, Fail> {
-    let mut members = Vec::new(alloc);
-    members.push(StructMember {
-        name: Some(name(alloc, "x")?),
-        ty,
-        binding: None,
-        offset: 0,
-    })?;
-    Ok(TypeInner::Struct {
-        members: Items::from(members),
-        span: 8,
-    })
-}
-
-#[test]
-fn equal_types_have_one_handle(rt: HostRuntime) -> Result<(), Fail> {
-    let mut types: UniqueArena<Type, mark::Type> = UniqueArena::new(rt.alloc());
-    assert!(rt; !types.is_full());
-    let first = types.insert(named(pair_of_floats(), None))?;
-    assert!(rt; !types.is_full());
-    let pair = Some(name(rt.alloc(), "Pair")?);
-    let other = types.insert(named(pair_of_floats(), pair))?;
-    assert!(rt; !types.is_full());
-    let again = types.insert(named(pair_of_floats(), None))?;
-    assert_eq!(rt; (first, other == first, types.len()), (again, false, 2));
-    assert!(rt; types.contains_handle(first) && types.contains_handle(other));
-    assert!(rt; types[first].inner.is_same(&types[other].inner));
-    assert!(rt; !types[first].is_same(&types[other]));
-    Ok(())
-}
-
-#[test]
-fn keys_are_handles_of_structs_and_canonical_forms(rt: HostRuntime) -> Result<(), Fail> {
-    let mut types: UniqueArena<Type, mark::Type> = UniqueArena::new(rt.alloc());
-    assert!(rt; !types.is_full());
-    let pair = types.insert(named(pair_of_floats(), None))?;
-    let inner = structure(rt.alloc(), pair)?;
-    let copy = inner.copy(rt.alloc())?;
-    assert!(rt; inner == copy);
-    assert!(rt; !types.is_full());
-    let left = types.insert(named(inner, Some(name(rt.alloc(), "L")?)))?;
-    assert!(rt; !types.is_full());
-    let right = types.insert(named(copy, Some(name(rt.alloc(), "R")?)))?;
-    assert!(rt; types_backward(&types) && types.contains_handle(pair));
-    assert!(rt; types.contains_handle(left) && types.contains_handle(right));
-    let left = TypeResolution::Handle(left);
-    let right = TypeResolution::Handle(right);
-    assert!(rt; !compare_types(&left, &right, &types));
-    assert!(rt; compare_types(&left, &left.copy(rt.alloc())?, &types));
-    let pointer = TypeInner::Pointer {
-        base: pair,
-        space: AddressSpace::Private,
-    };
-    let form = TypeInner::ValuePointer {
-        size: Some(VectorSize::Bi),
-        scalar: Scalar::F32,
-        space: AddressSpace::Private,
-    };
-    assert!(rt;
-        pointer
-            .canonical_form(&types)
-            .is_some_and(|told| told == form)
-    );
-    assert!(rt; form.canonical_form(&types).is_none());
-    assert!(rt; pointer.non_struct_equivalent(&form, &types));
-    let pointer = TypeResolution::Value(pointer);
-    let form = TypeResolution::Value(form);
-    assert!(rt; compare_types(&pointer, &form, &types) && pointer != form);
-    assert!(rt; left.handle().is_some() && form.handle().is_none());
-    assert!(rt; *right.inner_with(&types) == *left.inner_with(&types));
-    Ok(())
-}
-
-#[test]
-fn lists_maps_and_names_give_back_what_they_were_made_of(rt: HostRuntime) -> Result<(), Fail> {
-    let pair = name(rt.alloc(), "Pair")?;
-    assert_eq!(rt; pair.copy(rt.alloc())?.as_str(), "Pair");
-    assert_eq!(rt; pair.into_string().as_str(), "Pair");
-    let items = Items::from([1u8, 2].to_vec(rt.alloc())?);
-    assert_eq!(rt; (items.len(), items.is_empty()), (2, false));
-    assert_eq!(rt; items.into_vec().as_slice(), [1, 2].as_slice());
-    let mut map: Map<PredeclaredType, Handle<mark::Type>> = Map::new(rt.alloc());
-    assert!(rt; map.is_empty());
-    let key = PredeclaredType::ModfResult {
-        size: None,
-        scalar: Scalar::F32,
-    };
-    let other = PredeclaredType::FrexpResult {
-        size: None,
-        scalar: Scalar::F32,
-    };
-    assert!(rt; map.insert(key, Handle::from_index(4))?.is_none());
-    assert!(rt; map.insert(key, Handle::from_index(5))?.is_some());
-    assert!(rt; map.get(&other).is_none());
-    let map = Map::from(map.into_index_map());
-    assert_eq!(rt; map.len(), 1);
-    assert!(rt; map.get(&key).is_some_and(|handle| handle.index() == 5));
-    for (told, handle) in map.iter() {
-        assert!(rt; told.is_same(&key) && handle.index() == 5);
-    }
-    assert!(rt; Count::new(0).is_none());
-    assert!(rt; Count::new(u32::MAX).is_some_and(|count| count.get() == u32::MAX));
-    Ok(())
-}
-
-#[test]
-fn sets_have_their_named_bits(rt: HostRuntime) -> Result<(), Fail> {
-    let both = StorageAccess::LOAD | StorageAccess::STORE;
-    assert!(rt; both.contains(StorageAccess::STORE) && !both.contains(StorageAccess::ATOMIC));
-    assert_eq!(rt; (both & StorageAccess::STORE).bits(), 2);
-    let barrier = Barrier::WORK_GROUP | Barrier::SUB_GROUP | Barrier::TEXTURE;
-    assert_eq!(rt;
-        (barrier.bits(), (barrier & Barrier::TEXTURE).bits()),
-        (14, 8)
-    );
-    assert_eq!(rt; ShaderStages::all().bits(), 31);
-    let stages = ShaderStages::FRAGMENT | ShaderStages::TASK;
-    assert_eq!(rt;
-        (stages.bits(), (stages & ShaderStages::VERTEX).bits()),
-        (18, 0)
-    );
-    assert!(rt; StorageAccess::from_name("ATOMIC").is_some_and(|access| access.bits() == 4));
-    Ok(())
-}
-
-#[test]
-fn a_module_lends_its_arenas(rt: HostRuntime) -> Result<(), Fail> {
-    let mut types: UniqueArena<Type, mark::Type> = UniqueArena::new(rt.alloc());
-    assert!(rt; !types.is_full());
-    types.insert(named(pair_of_floats(), None))?;
-    let module = Module {
-        types,
-        special_types: SpecialTypes {
-            ray_intersection: None,
-            ray_vertex_return: None,
-            predeclared_types: Map::new(rt.alloc()),
-        },
-        constants: Arena::new(rt.alloc()),
-        overrides: Arena::new(rt.alloc()),
-        global_variables: Arena::new(rt.alloc()),
-        global_expressions: Arena::new(rt.alloc()),
-        functions: Arena::new(rt.alloc()),
-        entry_points: Items::from(Vec::new(rt.alloc())),
-        diagnostic_filters: Arena::new(rt.alloc()),
-    };
-    let ctx = module.to_ctx();
-    assert_eq!(rt;
-        (ctx.types.len(), ctx.constants.len(), ctx.overrides.len()),
-        (1, 0, 0)
-    );
-    assert!(rt; ArraySize::Dynamic.is_same(&ArraySize::Dynamic));
-    Ok(())
-}
-
-#[test]
-fn a_refused_copy_is_made_when_asked_again(rt: HostRuntime) -> Result<(), Fail> {
-    let inner = structure(rt.alloc(), Handle::from_index(3))?;
-    let ty = named(inner, Some(name(rt.alloc(), "S")?));
-    let copy = match ty.copy(rt.alloc()) {
-        Ok(copy) => copy,
-        Err(AllocError) => {
-            println!(rt; "a copy of a type was refused")?;
-            ty.copy(rt.alloc())?
-        }
-    };
-    assert!(rt; copy == ty);
-    let resolution = TypeResolution::Value(copy.inner);
-    let again = match resolution.copy(rt.alloc()) {
-        Ok(again) => again,
-        Err(AllocError) => {
-            println!(rt; "a copy of a resolution was refused")?;
-            resolution.copy(rt.alloc())?
-        }
-    };
-    assert!(rt; again == resolution);
-    Ok(())
-}
-
-#[test]
-fn a_refused_insert_leaves_the_map(rt: HostRuntime) -> Result<(), Fail> {
-    let mut map: Map<u32, u32> = Map::new(rt.alloc());
-    for number in 0..20 {
-        if let Err(
-            AllocFailed {
-                value: (key, value),
-            },
-        ) = map.insert(number, number / 2)
-        {
-            println!(rt; "insert in a map was refused at length {}", map.len())?;
-            assert_eq!(rt; (key, value), (number, number / 2));
-            assert_eq!(rt; map.len(), number as usize);
-            map.insert(key, value)?;
-        }
-    }
-    assert_eq!(rt; map.len(), 20);
-    for (key, value) in map.iter() {
-        assert_eq!(rt; *value, *key / 2);
-    }
-    Ok(())
 }
