@@ -1,5 +1,5 @@
 //! Which types are the same, in an arena and as what expressions resolve to.
-use crate::tests::samples::{Types, add, member, structure, vector};
+use crate::tests::samples::{Types, WANT, add, member, pair, vector};
 use shader_arena::{Handle, UniqueArena};
 use shader_ir::{
     AddressSpace, ArraySize, Name, PredeclaredType, Same, Scalar, Type, TypeInner, TypeResolution,
@@ -7,7 +7,6 @@ use shader_ir::{
 };
 use std::alloc::Global;
 use std::process::Abort;
-use std::test::Fail;
 
 /// Adds a type with a name.
 fn add_named(
@@ -16,10 +15,10 @@ fn add_named(
     types: &mut Types,
     name: &str,
     inner: TypeInner,
-) -> Result<Handle<mark::Type>, Fail> {
-    let name = Some(Name::from(name.to_string(alloc)?));
+) -> Handle<mark::Type> {
+    let name = Some(Name::from(name.to_string(alloc).expect(rt, WANT)));
     assert!(rt; types.len() < 100);
-    Ok(types.insert(Type { name, inner })?)
+    types.insert(Type { name, inner }).expect(rt, WANT)
 }
 
 fn pair_of_floats() -> TypeInner {
@@ -27,16 +26,21 @@ fn pair_of_floats() -> TypeInner {
 }
 
 #[test]
-fn equal_types_have_one_handle(rt: HostRuntime) -> Result<(), Fail> {
+fn equal_types_have_one_handle(rt: HostRuntime) {
     let mut types: UniqueArena<Type, mark::Type> = UniqueArena::new(rt.alloc());
-    let first = add(&rt, &mut types, pair_of_floats())?;
-    let other = add_named(&rt, rt.alloc(), &mut types, "Pair", pair_of_floats())?;
-    let again = add(&rt, &mut types, pair_of_floats())?;
-    assert_eq!(rt; (first, other == first, types.len()), (again, false, 2));
+    let first = add(&rt, &mut types, pair_of_floats());
+    let again = add(&rt, &mut types, pair_of_floats());
+    assert!(rt; again == first && types.len() == 1);
+}
+
+#[test]
+fn types_of_other_names_have_other_handles(rt: HostRuntime) {
+    let mut types: Types = UniqueArena::new(rt.alloc());
+    let first = add(&rt, &mut types, pair_of_floats());
+    let other = add_named(&rt, rt.alloc(), &mut types, "Pair", pair_of_floats());
     assert!(rt; types.contains_handle(first) && types.contains_handle(other));
     assert!(rt; types[first].inner.is_same(&types[other].inner));
     assert!(rt; !types[first].is_same(&types[other]));
-    Ok(())
 }
 
 fn are_one(
@@ -53,20 +57,16 @@ fn are_one(
 }
 
 #[test]
-fn structs_are_told_apart_by_their_handles(rt: HostRuntime) -> Result<(), Fail> {
-    let mut types: Types = UniqueArena::new(rt.alloc());
-    let pair = add(&rt, &mut types, pair_of_floats())?;
-    let members = vec![in rt.alloc(); member(pair, 0)]?;
-    let inner = structure(members, 8);
-    let left = add_named(&rt, rt.alloc(), &mut types, "L", inner)?;
-    let members = vec![in rt.alloc(); member(pair, 0)]?;
-    let inner = structure(members, 8);
-    let right = add_named(&rt, rt.alloc(), &mut types, "R", inner)?;
-    assert!(rt; types.contains_handle(left) && types.contains_handle(right));
-    assert!(rt; types[left].inner == types[right].inner);
-    assert!(rt; are_one(&rt, &types, left, left) && are_one(&rt, &types, pair, pair));
+fn structs_are_told_apart_by_their_handles(rt: HostRuntime) {
+    let alloc = rt.alloc();
+    let mut types: Types = UniqueArena::new(alloc);
+    let float = add(&rt, &mut types, TypeInner::Scalar(Scalar::F32));
+    let left = pair(&rt, alloc, float, float);
+    let left = add_named(&rt, alloc, &mut types, "L", left);
+    let right = pair(&rt, alloc, float, float);
+    let right = add_named(&rt, alloc, &mut types, "R", right);
+    assert!(rt; are_one(&rt, &types, left, left));
     assert!(rt; !are_one(&rt, &types, left, right));
-    Ok(())
 }
 
 fn pointer_to(base: Handle<mark::Type>) -> TypeInner {
@@ -85,56 +85,64 @@ fn pointer_to_pair() -> TypeInner {
 }
 
 #[test]
-fn a_pointer_to_a_vector_is_its_value_pointer(rt: HostRuntime) -> Result<(), Fail> {
+fn a_pointer_to_a_vector_is_its_value_pointer(rt: HostRuntime) {
     let mut types: Types = UniqueArena::new(rt.alloc());
-    let pair = add(&rt, &mut types, pair_of_floats())?;
+    let pair = add(&rt, &mut types, pair_of_floats());
     assert!(rt; types_backward(&types) && types.contains_handle(pair));
     let pointer = TypeResolution::Value(pointer_to(pair));
     let form = TypeResolution::Value(pointer_to_pair());
-    assert!(rt; compare_types(&pointer, &form, &types));
-    assert!(rt; pointer != form);
-    Ok(())
+    assert!(rt; compare_types(&pointer, &form, &types) && pointer != form);
 }
 
 #[test]
-fn a_canonical_form_has_none(rt: HostRuntime) -> Result<(), Fail> {
+fn a_pointer_to_a_vector_has_a_canonical_form(rt: HostRuntime) {
     let mut types: Types = UniqueArena::new(rt.alloc());
-    let pair = add(&rt, &mut types, pair_of_floats())?;
+    let pair = add(&rt, &mut types, pair_of_floats());
     assert!(rt; types.contains_handle(pair));
-    let pointer = pointer_to(pair);
-    let form = pointer_to_pair();
-    assert!(rt; pointer.canonical_form(&types) == Some(pointer_to_pair()));
-    assert!(rt; form.canonical_form(&types) == None);
-    assert!(rt; pointer.non_struct_equivalent(&form, &types));
-    Ok(())
+    let form = pointer_to(pair).canonical_form(&types);
+    assert!(rt; form == Some(pointer_to_pair()));
+    assert!(rt; pointer_to(pair).non_struct_equivalent(&pointer_to_pair(), &types));
 }
 
 #[test]
-fn a_resolution_lends_its_type(rt: HostRuntime) -> Result<(), Fail> {
+fn a_canonical_form_has_none(rt: HostRuntime) {
+    let types: Types = UniqueArena::new(rt.alloc());
+    assert!(rt; pointer_to_pair().canonical_form(&types).is_none());
+}
+
+#[test]
+fn a_handle_lends_its_type(rt: HostRuntime) {
     let mut types: Types = UniqueArena::new(rt.alloc());
-    let pair = add(&rt, &mut types, pair_of_floats())?;
+    let pair = add(&rt, &mut types, pair_of_floats());
     assert!(rt; types.contains_handle(pair));
-    let by_handle = TypeResolution::Handle(pair);
-    assert_eq!(rt; by_handle.handle(), Some(pair));
-    assert!(rt; *by_handle.inner_with(&types) == pair_of_floats());
-    let value = TypeResolution::Value(TypeInner::Scalar(Scalar::F32));
-    assert_eq!(rt; value.handle(), None);
-    assert!(rt; *value.inner_with(&types) == TypeInner::Scalar(Scalar::F32));
-    Ok(())
+    let resolution = TypeResolution::Handle(pair);
+    assert!(rt; resolution.handle() == Some(pair));
+    assert!(rt; *resolution.inner_with(&types) == pair_of_floats());
 }
 
 #[test]
-fn sameness_is_of_all_parts(rt: HostRuntime) {
+fn a_value_lends_itself(rt: HostRuntime) {
+    let types: Types = UniqueArena::new(rt.alloc());
+    let resolution = TypeResolution::Value(pair_of_floats());
+    assert!(rt; resolution.handle() == None);
+    assert!(rt; *resolution.inner_with(&types) == pair_of_floats());
+}
+
+#[test]
+fn sameness_is_of_all_fields(rt: HostRuntime) {
     assert!(rt; Scalar::F32.is_same(&Scalar::F32));
     assert!(rt; !Scalar::F32.is_same(&Scalar::F64));
-    assert!(rt; VectorSize::Bi.is_same(&VectorSize::Bi));
-    assert!(rt; !VectorSize::Bi.is_same(&VectorSize::Tri));
-    assert!(rt; ArraySize::Dynamic.is_same(&ArraySize::Dynamic));
     let ty = Handle::from_index(1);
     assert!(rt; member(ty, 4).is_same(&member(ty, 4)));
     assert!(rt; !member(ty, 4).is_same(&member(ty, 8)));
+}
+
+#[test]
+fn sameness_is_of_variants(rt: HostRuntime) {
+    assert!(rt; !VectorSize::Bi.is_same(&VectorSize::Tri));
+    assert!(rt; ArraySize::Dynamic.is_same(&ArraySize::Dynamic));
     let scalar = Scalar::F32;
     let frexp = PredeclaredType::FrexpResult { size: None, scalar };
     let modf = PredeclaredType::ModfResult { size: None, scalar };
-    assert!(rt; frexp.is_same(&frexp) && !frexp.is_same(&modf));
+    assert!(rt; !frexp.is_same(&modf));
 }

@@ -3,22 +3,23 @@ use crate::tests::samples::Arenas;
 use shader_arena::Handle;
 use shader_ir::{KnownIndex, Literal, ResolveArraySizeError, mark};
 use std::process::Abort;
-use std::test::Fail;
+
+const LITERALS: [(Literal, KnownIndex); 9] = [
+    (Literal::U16(65535), KnownIndex::Known(65535)),
+    (Literal::I16(-1), KnownIndex::OutOfRange),
+    (Literal::U32(4294967295), KnownIndex::Known(4294967295)),
+    (Literal::I32(0), KnownIndex::Known(0)),
+    (Literal::U64(4294967296), KnownIndex::OutOfRange),
+    (Literal::I64(7), KnownIndex::Known(7)),
+    (Literal::AbstractInt(-1), KnownIndex::OutOfRange),
+    (Literal::F32(0), KnownIndex::NotInteger),
+    (Literal::Bool(true), KnownIndex::NotInteger),
+];
 
 #[test]
 fn integers_are_indices_where_they_fit(rt: HostRuntime) {
-    for (literal, wanted) in [
-        (Literal::U16(65535), KnownIndex::Known(65535)),
-        (Literal::I16(-1), KnownIndex::OutOfRange),
-        (Literal::U32(4294967295), KnownIndex::Known(4294967295)),
-        (Literal::I32(0), KnownIndex::Known(0)),
-        (Literal::U64(4294967296), KnownIndex::OutOfRange),
-        (Literal::I64(7), KnownIndex::Known(7)),
-        (Literal::AbstractInt(-1), KnownIndex::OutOfRange),
-        (Literal::F32(0), KnownIndex::NotInteger),
-        (Literal::Bool(true), KnownIndex::NotInteger),
-    ] {
-        assert_eq!(rt; literal.index(), wanted);
+    for (literal, wanted) in LITERALS {
+        assert!(rt; literal.index() == wanted);
     }
 }
 
@@ -34,15 +35,14 @@ fn expects(
 }
 
 #[test]
-fn an_index_is_known_by_one_step(rt: HostRuntime) -> Result<(), Fail> {
+fn an_index_is_known_by_one_step(rt: HostRuntime) {
     let mut arenas = Arenas::new(rt.alloc());
-    let two = arenas.add_literal(&rt, Literal::I32(2))?;
-    let step = arenas.add_constant(&rt, two)?;
-    let two_steps = arenas.add_constant(&rt, step)?;
+    let two = arenas.add_literal(&rt, Literal::I32(2));
+    let step = arenas.add_constant(&rt, two);
+    let two_steps = arenas.add_constant(&rt, step);
     expects(&rt, &arenas, two, KnownIndex::Known(2));
     expects(&rt, &arenas, step, KnownIndex::Known(2));
     expects(&rt, &arenas, two_steps, KnownIndex::NotInteger);
-    Ok(())
 }
 
 /// Looks for the size that an override of the initial expression gives.
@@ -51,36 +51,31 @@ fn expects_size(
     arenas: &mut Arenas,
     init: Option<Handle<mark::Expression>>,
     wanted: Result<u32, ResolveArraySizeError>,
-) -> Result<(), Fail> {
-    let sizer = arenas.add_override(rt, init)?;
+) {
+    let sizer = arenas.add_override(rt, init);
     let ctx = arenas.ctx();
     assert!(rt; ctx.is_size_in_range(sizer));
     assert_eq!(rt; ctx.override_size(sizer), wanted);
-    Ok(())
 }
 
 #[test]
-fn a_size_is_a_known_number_from_1(rt: HostRuntime) -> Result<(), Fail> {
+fn a_size_is_a_known_number(rt: HostRuntime) {
     let mut arenas = Arenas::new(rt.alloc());
-    let two = arenas.add_literal(&rt, Literal::I32(2))?;
-    let step = arenas.add_constant(&rt, two)?;
-    let none = arenas.add_literal(&rt, Literal::U32(0))?;
-    let negative = arenas.add_literal(&rt, Literal::I32(-1))?;
+    let two = arenas.add_literal(&rt, Literal::I32(2));
+    let step = arenas.add_constant(&rt, two);
+    let two_steps = arenas.add_constant(&rt, step);
+    let unknown = Err(ResolveArraySizeError::NonConstArrayLength);
+    expects_size(&rt, &mut arenas, Some(step), Ok(2));
+    expects_size(&rt, &mut arenas, Some(two_steps), unknown);
+    expects_size(&rt, &mut arenas, None, unknown);
+}
+
+#[test]
+fn a_size_is_positive(rt: HostRuntime) {
+    let mut arenas = Arenas::new(rt.alloc());
+    let none = arenas.add_literal(&rt, Literal::U32(0));
+    let negative = arenas.add_literal(&rt, Literal::I32(-1));
     let refused = Err(ResolveArraySizeError::ExpectedPositiveArrayLength);
-    expects_size(&rt, &mut arenas, Some(step), Ok(2))?;
-    expects_size(&rt, &mut arenas, Some(none), refused)?;
-    expects_size(&rt, &mut arenas, Some(negative), refused)?;
-    Ok(())
-}
-
-#[test]
-fn a_size_of_two_steps_or_none_is_unknown(rt: HostRuntime) -> Result<(), Fail> {
-    let mut arenas = Arenas::new(rt.alloc());
-    let two = arenas.add_literal(&rt, Literal::I32(2))?;
-    let step = arenas.add_constant(&rt, two)?;
-    let two_steps = arenas.add_constant(&rt, step)?;
-    let refused = Err(ResolveArraySizeError::NonConstArrayLength);
-    expects_size(&rt, &mut arenas, Some(two_steps), refused)?;
-    expects_size(&rt, &mut arenas, None, refused)?;
-    Ok(())
+    expects_size(&rt, &mut arenas, Some(none), refused);
+    expects_size(&rt, &mut arenas, Some(negative), refused);
 }

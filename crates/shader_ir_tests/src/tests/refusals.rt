@@ -4,207 +4,219 @@
 //! With ample memory nothing is refused. Where the allocator refuses the Nth request of a test's
 //! process, the test passes still, and prints a line with `was refused`. The first N at which no
 //! test prints one is past all requests.
-use crate::tests::samples::{Arenas, Types, array, counted};
+use crate::tests::samples::{Arenas, Types, WANT, array, counted};
 use shader_arena::{Handle, UniqueArena};
 use shader_ir::{
-    ArraySize, Items, Layouter, Map, Name, Scalar, StructMember, Type, TypeInner, TypeResolution,
+    GlobalCtx, Items, Layouter, Map, Name, Scalar, StructMember, Type, TypeInner, TypeResolution,
     UpdateError, mark, sizes_in_range,
 };
 use std::alloc::{AllocError, AllocFailed, Global};
 use std::io::Print;
 use std::process::Abort;
-use std::test::Fail;
+
+fn tell<R: Abort + Print>(rt: &R, what: &str) {
+    println!(rt; "{what} was refused").expect(rt, "standard output");
+}
 
 fn insert_again_if_refused<R: Abort + Print>(
     rt: &R,
     types: &mut Types,
     ty: Type,
-) -> Result<Handle<mark::Type>, Fail> {
+) -> Handle<mark::Type> {
     assert!(rt; types.len() < 100);
     let len = types.len();
-    let refused = match types.insert(ty) {
-        Ok(handle) => return Ok(handle),
-        Err(AllocFailed { value }) => value,
-    };
-    println!(rt; "insert of a type was refused at length {len}")?;
-    assert_eq!(rt; types.len(), len);
-    Ok(types.insert(refused)?)
+    match types.insert(ty) {
+        Ok(handle) => handle,
+        Err(AllocFailed { value }) => {
+            tell(rt, "insert of a type");
+            assert!(rt; types.len() == len);
+            types.insert(value).expect(rt, WANT)
+        }
+    }
 }
 
-fn add<R: Abort + Print>(rt: &R, types: &mut Types, inner: TypeInner) -> Result<(), Fail> {
+fn add<R: Abort + Print>(rt: &R, types: &mut Types, inner: TypeInner) {
     let len = types.len();
-    let handle = insert_again_if_refused(rt, types, Type { name: None, inner })?;
-    assert_eq!(rt; (handle.index(), types.len()), (len, len + 1));
-    Ok(())
+    let handle = insert_again_if_refused(rt, types, Type { name: None, inner });
+    assert!(rt; handle.index() == len && types.contains_handle(handle));
+}
+
+/// A scalar, and then arrays of one item whose stride is their place.
+fn strided<R: Abort + Print>(rt: &R, alloc: Global) -> Arenas {
+    let mut arenas = Arenas::new(alloc);
+    add(rt, &mut arenas.types, TypeInner::Scalar(Scalar::F32));
+    for stride in 1..10 {
+        let next = array(Handle::from_index(0), counted(rt, 1), stride);
+        add(rt, &mut arenas.types, next);
+    }
+    arenas
 }
 
 /// The layouts held are those of arrays of one item, whose stride is their place.
 fn check_held(rt: &impl Abort, layouter: &Layouter) {
     for place in 1..10 {
         if (place as usize) < layouter.len() {
-            assert_eq!(rt; layouter[Handle::from_index(place)].size, place);
+            assert!(rt; layouter[Handle::from_index(place)].size == place);
         }
     }
 }
 
-#[test]
-fn of_update(rt: HostRuntime) -> Result<(), Fail> {
-    let mut arenas = Arenas::new(rt.alloc());
-    add(&rt, &mut arenas.types, TypeInner::Scalar(Scalar::F32))?;
-    let base = Handle::from_index(0);
-    for stride in 1..10 {
-        let next = array(base, counted(&rt, 1), stride);
-        add(&rt, &mut arenas.types, next)?;
-    }
-    let ctx = arenas.ctx();
+fn update_again_if_refused<R: Abort + Print>(rt: &R, layouter: &mut Layouter, ctx: GlobalCtx<'_>) {
     assert!(rt; sizes_in_range(ctx));
-    let mut layouter = Layouter::new(rt.alloc());
     if layouter.update(ctx) == Err(UpdateError::OutOfMemory) {
-        println!(rt; "update was refused at length {}", layouter.len())?;
-        assert!(rt; layouter.len() < 10);
-        check_held(&rt, &layouter);
+        tell(rt, "update");
+        assert!(rt; layouter.len() < ctx.types.len());
+        check_held(rt, layouter);
         assert!(rt; layouter.update(ctx) == Ok(()));
     }
-    assert_eq!(rt; layouter.len(), 10);
-    check_held(&rt, &layouter);
-    Ok(())
 }
 
 #[test]
-fn of_insert_in_a_map(rt: HostRuntime) -> Result<(), Fail> {
-    let mut map: Map<u32, u32> = Map::new(rt.alloc());
-    for number in 0..20 {
-        if let Err(AllocFailed { value }) = map.insert(number, number / 2) {
-            println!(rt; "insert in a map was refused at length {}", map.len())?;
-            assert_eq!(rt; value, (number, number / 2));
-            assert_eq!(rt; map.len(), number as usize);
-            map.insert(number, number / 2)?;
-        }
-    }
-    assert_eq!(rt; map.len(), 20);
-    for (key, value) in map.iter() {
-        assert_eq!(rt; *value, *key / 2);
-    }
-    Ok(())
+fn of_update(rt: HostRuntime) {
+    let arenas = strided(&rt, rt.alloc());
+    let mut layouter = Layouter::new(rt.alloc());
+    update_again_if_refused(&rt, &mut layouter, arenas.ctx());
+    assert!(rt; layouter.len() == 10);
+    check_held(&rt, &layouter);
 }
 
-fn name<R: Abort + Print>(rt: &R, alloc: Global, text: &str) -> Result<Name, Fail> {
+fn set_again_if_refused<R: Abort + Print>(rt: &R, map: &mut Map<u32, u32>, number: u32) {
+    let len = map.len();
+    if let Err(AllocFailed { value }) = map.insert(number, number / 2) {
+        tell(rt, "insert in a map");
+        assert!(rt; value == (number, number / 2) && map.len() == len);
+        let old = map.insert(number, number / 2).expect(rt, WANT);
+        assert!(rt; old.is_none());
+    }
+}
+
+#[test]
+fn of_insert_in_a_map(rt: HostRuntime) {
+    let mut map: Map<u32, u32> = Map::new(rt.alloc());
+    for number in 0..20 {
+        set_again_if_refused(&rt, &mut map, number);
+    }
+    assert!(rt; map.len() == 20);
+    for (key, value) in map.iter() {
+        assert!(rt; *value == *key / 2);
+    }
+}
+
+fn name<R: Abort + Print>(rt: &R, alloc: Global, text: &str) -> Name {
     let text = match text.to_string(alloc) {
         Ok(text) => text,
         Err(AllocError) => {
-            println!(rt; "a text was refused")?;
-            text.to_string(alloc)?
+            tell(rt, "a text");
+            text.to_string(alloc).expect(rt, WANT)
         }
     };
-    Ok(Name::from(text))
+    Name::from(text)
 }
 
-fn named_member<R: Abort + Print>(rt: &R, alloc: Global) -> Result<StructMember, Fail> {
-    Ok(StructMember {
-        name: Some(name(rt, alloc, "x")?),
+fn named_member<R: Abort + Print>(rt: &R, alloc: Global) -> StructMember {
+    StructMember {
+        name: Some(name(rt, alloc, "x")),
         ty: Handle::from_index(3),
         binding: None,
         offset: 4,
-    })
+    }
+}
+
+/// A list of one member.
+fn named_members<R: Abort + Print>(rt: &R, alloc: Global) -> Items<StructMember> {
+    let mut members = Vec::new(alloc);
+    if let Err(AllocFailed { value }) = members.push(named_member(rt, alloc)) {
+        tell(rt, "a list of members");
+        members.push(value).expect(rt, WANT);
+    }
+    Items::from(members)
 }
 
 /// A struct of one member.
-fn named_struct<R: Abort + Print>(rt: &R, alloc: Global) -> Result<Type, Fail> {
-    let member = named_member(rt, alloc)?;
-    let mut members = Vec::new(alloc);
-    if let Err(AllocFailed { value }) = members.push(member) {
-        println!(rt; "a list of members was refused")?;
-        members.push(value)?;
-    }
-    Ok(Type {
-        name: Some(name(rt, alloc, "S")?),
+fn named_struct<R: Abort + Print>(rt: &R, alloc: Global) -> Type {
+    Type {
+        name: Some(name(rt, alloc, "S")),
         inner: TypeInner::Struct {
-            members: Items::from(members),
+            members: named_members(rt, alloc),
             span: 8,
         },
-    })
+    }
 }
 
 #[test]
-fn of_a_copy_of_a_name(rt: HostRuntime) -> Result<(), Fail> {
-    let name = name(&rt, rt.alloc(), "Pair")?;
+fn of_a_copy_of_a_name(rt: HostRuntime) {
+    let name = name(&rt, rt.alloc(), "Pair");
     let copy = match name.copy(rt.alloc()) {
         Ok(copy) => copy,
         Err(AllocError) => {
-            println!(rt; "a copy of a name was refused")?;
-            name.copy(rt.alloc())?
+            tell(&rt, "a copy of a name");
+            name.copy(rt.alloc()).expect(&rt, WANT)
         }
     };
-    assert_eq!(rt; copy.as_str(), "Pair");
-    Ok(())
+    assert!(rt; copy.as_str() == "Pair");
 }
 
 #[test]
-fn of_a_copy_of_a_member(rt: HostRuntime) -> Result<(), Fail> {
-    let member = named_member(&rt, rt.alloc())?;
+fn of_a_copy_of_a_member(rt: HostRuntime) {
+    let member = named_member(&rt, rt.alloc());
     let copy = match member.copy(rt.alloc()) {
         Ok(copy) => copy,
         Err(AllocError) => {
-            println!(rt; "a copy of a member was refused")?;
-            member.copy(rt.alloc())?
+            tell(&rt, "a copy of a member");
+            member.copy(rt.alloc()).expect(&rt, WANT)
         }
     };
     assert!(rt; copy == member);
-    Ok(())
 }
 
 #[test]
-fn of_a_copy_of_a_type(rt: HostRuntime) -> Result<(), Fail> {
-    let ty = named_struct(&rt, rt.alloc())?;
+fn of_a_copy_of_a_type(rt: HostRuntime) {
+    let ty = named_struct(&rt, rt.alloc());
     let copy = match ty.copy(rt.alloc()) {
         Ok(copy) => copy,
         Err(AllocError) => {
-            println!(rt; "a copy of a type was refused")?;
-            ty.copy(rt.alloc())?
+            tell(&rt, "a copy of a type");
+            ty.copy(rt.alloc()).expect(&rt, WANT)
         }
     };
     assert!(rt; copy == ty);
-    Ok(())
 }
 
 #[test]
-fn of_a_copy_of_a_type_without_its_name(rt: HostRuntime) -> Result<(), Fail> {
-    let ty = named_struct(&rt, rt.alloc())?;
-    let copy = match ty.inner.copy(rt.alloc()) {
+fn of_a_copy_of_a_type_without_its_name(rt: HostRuntime) {
+    let inner = named_struct(&rt, rt.alloc()).inner;
+    let copy = match inner.copy(rt.alloc()) {
         Ok(copy) => copy,
         Err(AllocError) => {
-            println!(rt; "a copy of a struct was refused")?;
-            ty.inner.copy(rt.alloc())?
+            tell(&rt, "a copy of a struct");
+            inner.copy(rt.alloc()).expect(&rt, WANT)
         }
     };
-    assert!(rt; copy == ty.inner);
-    Ok(())
+    assert!(rt; copy == inner);
 }
 
 #[test]
-fn of_a_copy_of_a_resolution(rt: HostRuntime) -> Result<(), Fail> {
-    let Type { inner, .. } = named_struct(&rt, rt.alloc())?;
+fn of_a_copy_of_a_resolution(rt: HostRuntime) {
+    let inner = named_struct(&rt, rt.alloc()).inner;
     let resolution = TypeResolution::Value(inner);
     let copy = match resolution.copy(rt.alloc()) {
         Ok(copy) => copy,
         Err(AllocError) => {
-            println!(rt; "a copy of a resolution was refused")?;
-            resolution.copy(rt.alloc())?
+            tell(&rt, "a copy of a resolution");
+            resolution.copy(rt.alloc()).expect(&rt, WANT)
         }
     };
     assert!(rt; copy == resolution);
-    Ok(())
 }
 
 #[test]
-fn of_insert_of_a_struct(rt: HostRuntime) -> Result<(), Fail> {
+fn of_insert_of_a_struct(rt: HostRuntime) {
     let mut types: Types = UniqueArena::new(rt.alloc());
-    let ty = named_struct(&rt, rt.alloc())?;
-    let first = insert_again_if_refused(&rt, &mut types, ty)?;
-    let ty = named_struct(&rt, rt.alloc())?;
-    assert!(rt; types.len() < 100);
+    let ty = named_struct(&rt, rt.alloc());
+    let first = insert_again_if_refused(&rt, &mut types, ty);
+    let ty = named_struct(&rt, rt.alloc());
+    assert!(rt; types.len() == 1);
     // An equal type needs no memory, so this is never refused.
-    let again = types.insert(ty)?;
-    assert_eq!(rt; (again, types.len()), (first, 1));
-    Ok(())
+    let again = types.insert(ty).expect(&rt, WANT);
+    assert!(rt; again == first && types.len() == 1);
 }

@@ -9,18 +9,17 @@ use shader_ir::{
 };
 use std::alloc::Global;
 use std::process::Abort;
-use std::test::Fail;
+
+/// What a test says that fails for want of memory alone.
+pub const WANT: &str = "want of memory";
 
 pub type Types = UniqueArena<Type, mark::Type>;
 
 /// Adds a type without a name.
-pub fn add(
-    rt: &impl Abort,
-    types: &mut Types,
-    inner: TypeInner,
-) -> Result<Handle<mark::Type>, Fail> {
+pub fn add(rt: &impl Abort, types: &mut Types, inner: TypeInner) -> Handle<mark::Type> {
     assert!(rt; types.len() < 100);
-    Ok(types.insert(Type { name: None, inner })?)
+    let added = types.insert(Type { name: None, inner });
+    added.expect(rt, WANT)
 }
 
 pub fn vector(size: VectorSize, scalar: Scalar) -> TypeInner {
@@ -59,6 +58,17 @@ pub fn structure(members: Vec<StructMember>, span: u32) -> TypeInner {
         members: Items::from(members),
         span,
     }
+}
+
+/// A struct of two members, four bytes apart.
+pub fn pair(
+    rt: &impl Abort,
+    alloc: Global,
+    first: Handle<mark::Type>,
+    second: Handle<mark::Type>,
+) -> TypeInner {
+    let members = vec![in alloc; member(first, 0), member(second, 4)];
+    structure(members.expect(rt, WANT), 8)
 }
 
 /// The type at a handle of an arena in which queries may follow handles.
@@ -104,16 +114,12 @@ impl Arenas {
         &mut self,
         rt: &impl Abort,
         expression: Expression,
-    ) -> Result<Handle<mark::Expression>, Fail> {
+    ) -> Handle<mark::Expression> {
         assert!(rt; self.expressions.len() < 100);
-        Ok(self.expressions.append(expression)?)
+        self.expressions.append(expression).expect(rt, WANT)
     }
 
-    pub fn add_literal(
-        &mut self,
-        rt: &impl Abort,
-        literal: Literal,
-    ) -> Result<Handle<mark::Expression>, Fail> {
+    pub fn add_literal(&mut self, rt: &impl Abort, literal: Literal) -> Handle<mark::Expression> {
         self.add_expression(rt, Expression::Literal(literal))
     }
 
@@ -122,28 +128,27 @@ impl Arenas {
         &mut self,
         rt: &impl Abort,
         init: Handle<mark::Expression>,
-    ) -> Result<Handle<mark::Expression>, Fail> {
+    ) -> Handle<mark::Expression> {
         assert!(rt; self.constants.len() < 100);
         let constant = self.constants.append(Constant {
             name: None,
             ty: Handle::from_index(0),
             init,
-        })?;
-        self.add_expression(rt, Expression::Constant(constant))
+        });
+        self.add_expression(rt, Expression::Constant(constant.expect(rt, WANT)))
     }
 
     pub fn add_override(
         &mut self,
         rt: &impl Abort,
         init: Option<Handle<mark::Expression>>,
-    ) -> Result<Handle<mark::Override>, Fail> {
+    ) -> Handle<mark::Override> {
         assert!(rt; self.overrides.len() < 100);
-        Ok(
-            self.overrides.append(Override {
-                name: None,
-                ty: Handle::from_index(0),
-                init,
-            })?,
-        )
+        let sizer = self.overrides.append(Override {
+            name: None,
+            ty: Handle::from_index(0),
+            init,
+        });
+        sizer.expect(rt, WANT)
     }
 }
