@@ -20,8 +20,6 @@ pub mod proc;
 mod same;
 mod scalar;
 mod statement;
-#[cfg(test)]
-mod tests;
 mod types;
 
 pub use binding::{Binding, BuiltIn};

@@ -1,10 +1,10 @@
 //! Tests of copies, with ample memory.
-use crate::{
+use shader_arena::{Arena, Handle, UniqueArena};
+use shader_ir::{
     AddressSpace, BinaryOperator, Block, Constant, EntryPoint, Expression, Function,
     FunctionArgument, GlobalVariable, Items, LocalVariable, Map, Module, Name, Override, Scalar,
     ShaderStage, SpecialTypes, Statement, SwitchCase, SwitchValue, Type, TypeInner, mark,
 };
-use shader_arena::{Arena, Handle, UniqueArena};
 use std::alloc::{AllocError, Global};
 use std::test::Fail;
 

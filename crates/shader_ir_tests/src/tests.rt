@@ -1,0 +1,14 @@
+//! Tests of what no clause says, a file for each part of the library.
+mod alignments;
+mod conversion;
+mod copies;
+mod data;
+mod keys;
+mod known_numbers;
+mod layouts;
+mod operands;
+mod queries;
+mod refusals;
+mod samples;
+mod sizes;
+mod texts;

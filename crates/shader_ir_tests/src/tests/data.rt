@@ -1,0 +1,124 @@
+//! Names, lists, maps, counts and sets of bits, and what a module lends.
+use crate::tests::samples::{WANT, add};
+use bitflags::Flags;
+use shader_arena::{Arena, Handle, UniqueArena};
+use shader_ir::{
+    Barrier, Count, Items, Map, Module, Name, PredeclaredType, Scalar, ShaderStages, SpecialTypes,
+    StorageAccess, TypeInner, mark,
+};
+use std::alloc::Global;
+use std::process::Abort;
+
+#[test]
+fn a_name_gives_back_its_text(rt: HostRuntime) {
+    let text = "Pair".to_string(rt.alloc()).expect(&rt, WANT);
+    let name = Name::from(text);
+    assert!(rt; name.as_str() == "Pair");
+    assert!(rt; name.into_string().as_str() == "Pair");
+}
+
+#[test]
+fn items_give_back_what_they_were_made_of(rt: HostRuntime) {
+    let items = [1u8, 2].to_vec(rt.alloc()).expect(&rt, WANT);
+    let items = Items::from(items);
+    assert!(rt; items.len() == 2 && !items.is_empty());
+    assert!(rt; items.as_slice() == [1, 2].as_slice());
+    assert!(rt; items.into_vec().as_slice() == [1, 2].as_slice());
+}
+
+fn modf(scalar: Scalar) -> PredeclaredType {
+    PredeclaredType::ModfResult { size: None, scalar }
+}
+
+type Predeclared = Map<PredeclaredType, Handle<mark::Type>>;
+
+fn set(rt: &impl Abort, map: &mut Predeclared, place: u32) -> Option<Handle<mark::Type>> {
+    let set = map.insert(modf(Scalar::F32), Handle::from_index(place));
+    set.expect(rt, WANT)
+}
+
+#[test]
+fn a_map_keeps_the_last_value_of_a_key(rt: HostRuntime) {
+    let mut map: Predeclared = Map::new(rt.alloc());
+    assert!(rt; map.is_empty());
+    assert!(rt; set(&rt, &mut map, 4).is_none());
+    assert!(rt; set(&rt, &mut map, 5) == Some(Handle::from_index(4)));
+    assert!(rt; map.len() == 1);
+}
+
+#[test]
+fn a_map_has_the_values_of_its_keys(rt: HostRuntime) {
+    let mut map: Predeclared = Map::new(rt.alloc());
+    assert!(rt; set(&rt, &mut map, 5).is_none());
+    assert!(rt; map.get(&modf(Scalar::F16)).is_none());
+    assert!(rt; map.get(&modf(Scalar::F32)) == Some(&Handle::from_index(5)));
+}
+
+#[test]
+fn a_map_gives_back_its_entries(rt: HostRuntime) {
+    let mut map: Predeclared = Map::new(rt.alloc());
+    assert!(rt; set(&rt, &mut map, 5).is_none());
+    let map = Map::from(map.into_index_map());
+    let mut entries = map.iter();
+    assert!(rt; entries.next() == Some((&modf(Scalar::F32), &Handle::from_index(5))));
+    assert!(rt; entries.next().is_none());
+}
+
+#[test]
+fn a_count_is_not_0(rt: HostRuntime) {
+    assert!(rt; Count::new(0).is_none());
+    let most = Count::new(u32::MAX).expect(&rt, "a count");
+    assert!(rt; most.get() == u32::MAX);
+}
+
+#[test]
+fn accesses_have_their_bits(rt: HostRuntime) {
+    let both = StorageAccess::LOAD | StorageAccess::STORE;
+    assert!(rt; both.contains(StorageAccess::STORE));
+    assert!(rt; !both.contains(StorageAccess::ATOMIC));
+    assert!(rt; (both & StorageAccess::STORE).bits() == 2);
+    assert!(rt; StorageAccess::from_name("ATOMIC") == Some(StorageAccess(4)));
+}
+
+#[test]
+fn barriers_have_their_bits(rt: HostRuntime) {
+    let barrier = Barrier::WORK_GROUP | Barrier::SUB_GROUP | Barrier::TEXTURE;
+    assert!(rt; barrier.bits() == 14);
+    assert!(rt; (barrier & Barrier::TEXTURE).bits() == 8);
+}
+
+#[test]
+fn stages_have_their_bits(rt: HostRuntime) {
+    assert!(rt; ShaderStages::all().bits() == 31);
+    let stages = ShaderStages::FRAGMENT | ShaderStages::TASK;
+    assert!(rt; stages.bits() == 18);
+    assert!(rt; (stages & ShaderStages::VERTEX).bits() == 0);
+}
+
+/// A module with nothing in it.
+fn empty_module(alloc: Global) -> Module {
+    Module {
+        types: UniqueArena::new(alloc),
+        special_types: SpecialTypes {
+            ray_intersection: None,
+            ray_vertex_return: None,
+            predeclared_types: Map::new(alloc),
+        },
+        constants: Arena::new(alloc),
+        overrides: Arena::new(alloc),
+        global_variables: Arena::new(alloc),
+        global_expressions: Arena::new(alloc),
+        functions: Arena::new(alloc),
+        entry_points: Items::from(Vec::new(alloc)),
+        diagnostic_filters: Arena::new(alloc),
+    }
+}
+
+#[test]
+fn a_module_lends_its_arenas(rt: HostRuntime) {
+    let mut module = empty_module(rt.alloc());
+    add(&rt, &mut module.types, TypeInner::Scalar(Scalar::F32));
+    let ctx = module.to_ctx();
+    assert!(rt; ctx.types.len() == 1 && ctx.constants.len() == 0);
+    assert!(rt; ctx.overrides.len() == 0 && ctx.global_expressions.len() == 0);
+}

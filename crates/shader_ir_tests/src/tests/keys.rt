@@ -1,0 +1,148 @@
+//! Which types are the same, in an arena and as what expressions resolve to.
+use crate::tests::samples::{Types, WANT, add, member, pair, vector};
+use shader_arena::{Handle, UniqueArena};
+use shader_ir::{
+    AddressSpace, ArraySize, Name, PredeclaredType, Same, Scalar, Type, TypeInner, TypeResolution,
+    VectorSize, compare_types, mark, types_backward,
+};
+use std::alloc::Global;
+use std::process::Abort;
+
+/// Adds a type with a name.
+fn add_named(
+    rt: &impl Abort,
+    alloc: Global,
+    types: &mut Types,
+    name: &str,
+    inner: TypeInner,
+) -> Handle<mark::Type> {
+    let name = Some(Name::from(name.to_string(alloc).expect(rt, WANT)));
+    assert!(rt; types.len() < 100);
+    types.insert(Type { name, inner }).expect(rt, WANT)
+}
+
+fn pair_of_floats() -> TypeInner {
+    vector(VectorSize::Bi, Scalar::F32)
+}
+
+#[test]
+fn equal_types_have_one_handle(rt: HostRuntime) {
+    let mut types: UniqueArena<Type, mark::Type> = UniqueArena::new(rt.alloc());
+    let first = add(&rt, &mut types, pair_of_floats());
+    let again = add(&rt, &mut types, pair_of_floats());
+    assert!(rt; again == first && types.len() == 1);
+}
+
+#[test]
+fn types_of_other_names_have_other_handles(rt: HostRuntime) {
+    let mut types: Types = UniqueArena::new(rt.alloc());
+    let first = add(&rt, &mut types, pair_of_floats());
+    let other = add_named(&rt, rt.alloc(), &mut types, "Pair", pair_of_floats());
+    assert!(rt; types.contains_handle(first) && types.contains_handle(other));
+    assert!(rt; types[first].inner.is_same(&types[other].inner));
+    assert!(rt; !types[first].is_same(&types[other]));
+}
+
+fn are_one(
+    rt: &impl Abort,
+    types: &Types,
+    left: Handle<mark::Type>,
+    right: Handle<mark::Type>,
+) -> bool {
+    assert!(rt; types_backward(types));
+    assert!(rt; types.contains_handle(left) && types.contains_handle(right));
+    let left = TypeResolution::Handle(left);
+    let right = TypeResolution::Handle(right);
+    compare_types(&left, &right, types)
+}
+
+#[test]
+fn structs_are_told_apart_by_their_handles(rt: HostRuntime) {
+    let alloc = rt.alloc();
+    let mut types: Types = UniqueArena::new(alloc);
+    let float = add(&rt, &mut types, TypeInner::Scalar(Scalar::F32));
+    let left = pair(&rt, alloc, float, float);
+    let left = add_named(&rt, alloc, &mut types, "L", left);
+    let right = pair(&rt, alloc, float, float);
+    let right = add_named(&rt, alloc, &mut types, "R", right);
+    assert!(rt; are_one(&rt, &types, left, left));
+    assert!(rt; !are_one(&rt, &types, left, right));
+}
+
+fn pointer_to(base: Handle<mark::Type>) -> TypeInner {
+    TypeInner::Pointer {
+        base,
+        space: AddressSpace::Private,
+    }
+}
+
+fn pointer_to_pair() -> TypeInner {
+    TypeInner::ValuePointer {
+        size: Some(VectorSize::Bi),
+        scalar: Scalar::F32,
+        space: AddressSpace::Private,
+    }
+}
+
+#[test]
+fn a_pointer_to_a_vector_is_its_value_pointer(rt: HostRuntime) {
+    let mut types: Types = UniqueArena::new(rt.alloc());
+    let pair = add(&rt, &mut types, pair_of_floats());
+    assert!(rt; types_backward(&types) && types.contains_handle(pair));
+    let pointer = TypeResolution::Value(pointer_to(pair));
+    let form = TypeResolution::Value(pointer_to_pair());
+    assert!(rt; compare_types(&pointer, &form, &types) && pointer != form);
+}
+
+#[test]
+fn a_pointer_to_a_vector_has_a_canonical_form(rt: HostRuntime) {
+    let mut types: Types = UniqueArena::new(rt.alloc());
+    let pair = add(&rt, &mut types, pair_of_floats());
+    assert!(rt; types.contains_handle(pair));
+    let form = pointer_to(pair).canonical_form(&types);
+    assert!(rt; form == Some(pointer_to_pair()));
+    assert!(rt; pointer_to(pair).non_struct_equivalent(&pointer_to_pair(), &types));
+}
+
+#[test]
+fn a_canonical_form_has_none(rt: HostRuntime) {
+    let types: Types = UniqueArena::new(rt.alloc());
+    assert!(rt; pointer_to_pair().canonical_form(&types).is_none());
+}
+
+#[test]
+fn a_handle_lends_its_type(rt: HostRuntime) {
+    let mut types: Types = UniqueArena::new(rt.alloc());
+    let pair = add(&rt, &mut types, pair_of_floats());
+    assert!(rt; types.contains_handle(pair));
+    let resolution = TypeResolution::Handle(pair);
+    assert!(rt; resolution.handle() == Some(pair));
+    assert!(rt; *resolution.inner_with(&types) == pair_of_floats());
+}
+
+#[test]
+fn a_value_lends_itself(rt: HostRuntime) {
+    let types: Types = UniqueArena::new(rt.alloc());
+    let resolution = TypeResolution::Value(pair_of_floats());
+    assert!(rt; resolution.handle() == None);
+    assert!(rt; *resolution.inner_with(&types) == pair_of_floats());
+}
+
+#[test]
+fn sameness_is_of_all_fields(rt: HostRuntime) {
+    assert!(rt; Scalar::F32.is_same(&Scalar::F32));
+    assert!(rt; !Scalar::F32.is_same(&Scalar::F64));
+    let ty = Handle::from_index(1);
+    assert!(rt; member(ty, 4).is_same(&member(ty, 4)));
+    assert!(rt; !member(ty, 4).is_same(&member(ty, 8)));
+}
+
+#[test]
+fn sameness_is_of_variants(rt: HostRuntime) {
+    assert!(rt; !VectorSize::Bi.is_same(&VectorSize::Tri));
+    assert!(rt; ArraySize::Dynamic.is_same(&ArraySize::Dynamic));
+    let scalar = Scalar::F32;
+    let frexp = PredeclaredType::FrexpResult { size: None, scalar };
+    let modf = PredeclaredType::ModfResult { size: None, scalar };
+    assert!(rt; !frexp.is_same(&modf));
+}

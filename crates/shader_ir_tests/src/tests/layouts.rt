@@ -1,0 +1,219 @@
+//! Rows of layouts, and of types that have none.
+use crate::tests::samples::{Arenas, WANT, add, array, counted, matrix, pair, structure, vector};
+use shader_arena::Handle;
+use shader_ir::{
+    AddressSpace, ArraySize, CooperativeRole, CooperativeSize, GlobalCtx, LayoutError,
+    LayoutErrorInner, Layouter, Scalar, ScalarKind, TypeInner, UpdateError, VectorSize, mark,
+    sizes_in_range,
+};
+use std::alloc::Global;
+use std::process::Abort;
+
+/// The type that `update` refuses, if it does.
+fn refusal(rt: &impl Abort, layouter: &mut Layouter, ctx: GlobalCtx<'_>) -> Option<LayoutError> {
+    assert!(rt; sizes_in_range(ctx));
+    match layouter.update(ctx) {
+        Ok(()) => None,
+        Err(UpdateError::Layout(refused)) => Some(refused),
+        Err(UpdateError::OutOfMemory) => panic!(rt; "{WANT}"),
+    }
+}
+
+/// The layout of a type.
+#[derive(Clone, Copy, Debug, PartialEq)]
+struct Row {
+    size: u32,
+    align: u32,
+    stride: u32,
+}
+
+const fn row(size: u32, align: u32, stride: u32) -> Option<Row> {
+    Some(Row {
+        size,
+        align,
+        stride,
+    })
+}
+
+/// The layout that is held of a type.
+fn held(rt: &impl Abort, layouter: &Layouter, ty: Handle<mark::Type>) -> Row {
+    assert!(rt; ty.index() < layouter.len());
+    let layout = layouter[ty];
+    Row {
+        size: layout.size,
+        align: layout.alignment.get(),
+        stride: layout.to_stride(),
+    }
+}
+
+/// Lays out a type behind f32, whose place is 0. No row is wanted of a type that is too large.
+fn expects(rt: &impl Abort, alloc: Global, inner: TypeInner, wanted: Option<Row>) {
+    let mut arenas = Arenas::new(alloc);
+    add(rt, &mut arenas.types, TypeInner::Scalar(Scalar::F32));
+    let ty = add(rt, &mut arenas.types, inner);
+    let mut layouter = Layouter::new(alloc);
+    match refusal(rt, &mut layouter, arenas.ctx()) {
+        None => assert_eq!(rt; Some(held(rt, &layouter, ty)), wanted),
+        Some(refused) => {
+            let inner = LayoutErrorInner::TooLarge;
+            assert!(rt; refused == LayoutError { ty, inner } && wanted.is_none());
+        }
+    }
+}
+
+#[test]
+fn of_scalars(rt: HostRuntime) {
+    let int = TypeInner::Scalar(Scalar::ABSTRACT_INT);
+    expects(&rt, rt.alloc(), int, row(8, 8, 8));
+    let atomic = Scalar::U32.to_inner_atomic();
+    expects(&rt, rt.alloc(), atomic, row(4, 4, 4));
+}
+
+#[test]
+fn of_vectors(rt: HostRuntime) {
+    let floats = vector(VectorSize::Tri, Scalar::F32);
+    expects(&rt, rt.alloc(), floats, row(12, 16, 16));
+    let doubles = vector(VectorSize::Tri, Scalar::F64);
+    expects(&rt, rt.alloc(), doubles, row(24, 32, 32));
+}
+
+#[test]
+fn of_matrices(rt: HostRuntime) {
+    let two = matrix(VectorSize::Bi, VectorSize::Tri, Scalar::F32);
+    expects(&rt, rt.alloc(), two, row(32, 16, 32));
+    let three = matrix(VectorSize::Tri, VectorSize::Bi, Scalar::F32);
+    expects(&rt, rt.alloc(), three, row(24, 8, 24));
+}
+
+#[test]
+fn of_cooperative_matrices(rt: HostRuntime) {
+    let matrix = TypeInner::CooperativeMatrix {
+        columns: CooperativeSize::Sixteen,
+        rows: CooperativeSize::Eight,
+        scalar: Scalar::F16,
+        role: CooperativeRole::A,
+    };
+    expects(&rt, rt.alloc(), matrix, row(256, 16, 256));
+}
+
+#[test]
+fn of_pointers_and_resources(rt: HostRuntime) {
+    let pointer = TypeInner::Pointer {
+        base: Handle::from_index(0),
+        space: AddressSpace::Private,
+    };
+    expects(&rt, rt.alloc(), pointer, row(4, 1, 4));
+    let sampler = TypeInner::Sampler { comparison: false };
+    expects(&rt, rt.alloc(), sampler, row(0, 1, 0));
+}
+
+/// An array of f32.
+fn floats(size: ArraySize, stride: u32) -> TypeInner {
+    array(Handle::from_index(0), size, stride)
+}
+
+fn expects_array(rt: &impl Abort, alloc: Global, count: u32, stride: u32, wanted: Option<Row>) {
+    expects(rt, alloc, floats(counted(rt, count), stride), wanted);
+}
+
+#[test]
+fn of_arrays_up_to_the_limit(rt: HostRuntime) {
+    let most = 1073741824;
+    expects_array(&rt, rt.alloc(), 268435456, 4, row(most, 4, most));
+    expects_array(&rt, rt.alloc(), 268435457, 4, None);
+    expects_array(&rt, rt.alloc(), most, 0, row(0, 4, 0));
+    expects_array(&rt, rt.alloc(), 1073741825, 0, None);
+    expects_array(&rt, rt.alloc(), 1, 4294967295, None);
+}
+
+#[test]
+fn of_an_array_of_unknown_size(rt: HostRuntime) {
+    let one = floats(ArraySize::Dynamic, 8);
+    expects(&rt, rt.alloc(), one, row(8, 4, 8));
+}
+
+#[test]
+fn of_structs_up_to_the_limit(rt: HostRuntime) {
+    let large = structure(Vec::new(rt.alloc()), 1073741825);
+    expects(&rt, rt.alloc(), large, None);
+    let most = 1073741824;
+    let largest = structure(Vec::new(rt.alloc()), most);
+    expects(&rt, rt.alloc(), largest, row(most, 1, most));
+}
+
+#[test]
+fn of_a_struct_by_its_members(rt: HostRuntime) {
+    let float = Handle::from_index(0);
+    let two = pair(&rt, rt.alloc(), float, float);
+    expects(&rt, rt.alloc(), two, row(8, 4, 8));
+}
+
+/// Two good types, and then a scalar whose width is 3.
+fn with_odd_width(rt: &impl Abort, alloc: Global) -> Arenas {
+    let mut arenas = Arenas::new(alloc);
+    add(rt, &mut arenas.types, TypeInner::Scalar(Scalar::F32));
+    let triple = vector(VectorSize::Tri, Scalar::F32);
+    add(rt, &mut arenas.types, triple);
+    let kind = ScalarKind::Float;
+    let odd = TypeInner::Scalar(Scalar { kind, width: 3 });
+    add(rt, &mut arenas.types, odd);
+    arenas
+}
+
+/// Refuses the type whose width is 3, and holds the layouts before it.
+fn refuses_width(rt: &impl Abort, layouter: &mut Layouter, ctx: GlobalCtx<'_>) {
+    let refused = LayoutError {
+        ty: Handle::from_index(2),
+        inner: LayoutErrorInner::NonPowerOfTwoWidth,
+    };
+    assert!(rt; refusal(rt, layouter, ctx) == Some(refused));
+    assert!(rt; layouter.len() == 2);
+    let float = held(rt, layouter, Handle::from_index(0));
+    assert!(rt; Some(float) == row(4, 4, 4));
+    let triple = held(rt, layouter, Handle::from_index(1));
+    assert!(rt; Some(triple) == row(12, 16, 16));
+}
+
+#[test]
+fn a_width_is_refused_again_and_again(rt: HostRuntime) {
+    let arenas = with_odd_width(&rt, rt.alloc());
+    let mut layouter = Layouter::new(rt.alloc());
+    refuses_width(&rt, &mut layouter, arenas.ctx());
+    refuses_width(&rt, &mut layouter, arenas.ctx());
+}
+
+#[test]
+fn a_cleared_layouter_begins_again(rt: HostRuntime) {
+    let arenas = with_odd_width(&rt, rt.alloc());
+    let mut layouter = Layouter::new(rt.alloc());
+    refuses_width(&rt, &mut layouter, arenas.ctx());
+    layouter.clear();
+    assert!(rt; layouter.len() == 0);
+    refuses_width(&rt, &mut layouter, arenas.ctx());
+}
+
+/// Refuses a type of the arenas, where none before it is refused.
+fn refuses(rt: &impl Abort, alloc: Global, ctx: GlobalCtx<'_>, wanted: LayoutError) {
+    let mut layouter = Layouter::new(alloc);
+    assert!(rt; refusal(rt, &mut layouter, ctx) == Some(wanted));
+    assert!(rt; layouter.len() == wanted.ty.index());
+}
+
+#[test]
+fn an_array_of_itself_is_refused(rt: HostRuntime) {
+    let mut arenas = Arenas::new(rt.alloc());
+    let ty = add(&rt, &mut arenas.types, floats(ArraySize::Dynamic, 4));
+    let inner = LayoutErrorInner::InvalidArrayElementType(ty);
+    refuses(&rt, rt.alloc(), arenas.ctx(), LayoutError { ty, inner });
+}
+
+#[test]
+fn a_struct_of_a_later_type_is_refused(rt: HostRuntime) {
+    let mut arenas = Arenas::new(rt.alloc());
+    let float = add(&rt, &mut arenas.types, TypeInner::Scalar(Scalar::F32));
+    let later = Handle::from_index(2);
+    let two = pair(&rt, rt.alloc(), float, later);
+    let ty = add(&rt, &mut arenas.types, two);
+    let inner = LayoutErrorInner::InvalidStructMemberType(1, later);
+    refuses(&rt, rt.alloc(), arenas.ctx(), LayoutError { ty, inner });
+}

@@ -1,0 +1,222 @@
+//! Each growth refused once: what was given comes back, nothing else changes, and the call made again
+//! goes on as with memory.
+//!
+//! With ample memory nothing is refused. Where the allocator refuses the Nth request of a test's
+//! process, the test passes still, and prints a line with `was refused`. The first N at which no
+//! test prints one is past all requests.
+use crate::tests::samples::{Arenas, Types, WANT, array, counted};
+use shader_arena::{Handle, UniqueArena};
+use shader_ir::{
+    GlobalCtx, Items, Layouter, Map, Name, Scalar, StructMember, Type, TypeInner, TypeResolution,
+    UpdateError, mark, sizes_in_range,
+};
+use std::alloc::{AllocError, AllocFailed, Global};
+use std::io::Print;
+use std::process::Abort;
+
+fn tell<R: Abort + Print>(rt: &R, what: &str) {
+    println!(rt; "{what} was refused").expect(rt, "standard output");
+}
+
+fn insert_again_if_refused<R: Abort + Print>(
+    rt: &R,
+    types: &mut Types,
+    ty: Type,
+) -> Handle<mark::Type> {
+    assert!(rt; types.len() < 100);
+    let len = types.len();
+    match types.insert(ty) {
+        Ok(handle) => handle,
+        Err(AllocFailed { value }) => {
+            tell(rt, "insert of a type");
+            assert!(rt; types.len() == len);
+            types.insert(value).expect(rt, WANT)
+        }
+    }
+}
+
+fn add<R: Abort + Print>(rt: &R, types: &mut Types, inner: TypeInner) {
+    let len = types.len();
+    let handle = insert_again_if_refused(rt, types, Type { name: None, inner });
+    assert!(rt; handle.index() == len && types.contains_handle(handle));
+}
+
+/// A scalar, and then arrays of one item whose stride is their place.
+fn strided<R: Abort + Print>(rt: &R, alloc: Global) -> Arenas {
+    let mut arenas = Arenas::new(alloc);
+    add(rt, &mut arenas.types, TypeInner::Scalar(Scalar::F32));
+    for stride in 1..10 {
+        let next = array(Handle::from_index(0), counted(rt, 1), stride);
+        add(rt, &mut arenas.types, next);
+    }
+    arenas
+}
+
+/// The layouts held are those of arrays of one item, whose stride is their place.
+fn check_held(rt: &impl Abort, layouter: &Layouter) {
+    for place in 1..10 {
+        if (place as usize) < layouter.len() {
+            assert!(rt; layouter[Handle::from_index(place)].size == place);
+        }
+    }
+}
+
+fn update_again_if_refused<R: Abort + Print>(rt: &R, layouter: &mut Layouter, ctx: GlobalCtx<'_>) {
+    assert!(rt; sizes_in_range(ctx));
+    if layouter.update(ctx) == Err(UpdateError::OutOfMemory) {
+        tell(rt, "update");
+        assert!(rt; layouter.len() < ctx.types.len());
+        check_held(rt, layouter);
+        assert!(rt; layouter.update(ctx) == Ok(()));
+    }
+}
+
+#[test]
+fn of_update(rt: HostRuntime) {
+    let arenas = strided(&rt, rt.alloc());
+    let mut layouter = Layouter::new(rt.alloc());
+    update_again_if_refused(&rt, &mut layouter, arenas.ctx());
+    assert!(rt; layouter.len() == 10);
+    check_held(&rt, &layouter);
+}
+
+fn set_again_if_refused<R: Abort + Print>(rt: &R, map: &mut Map<u32, u32>, number: u32) {
+    let len = map.len();
+    if let Err(AllocFailed { value }) = map.insert(number, number / 2) {
+        tell(rt, "insert in a map");
+        assert!(rt; value == (number, number / 2) && map.len() == len);
+        let old = map.insert(number, number / 2).expect(rt, WANT);
+        assert!(rt; old.is_none());
+    }
+}
+
+#[test]
+fn of_insert_in_a_map(rt: HostRuntime) {
+    let mut map: Map<u32, u32> = Map::new(rt.alloc());
+    for number in 0..20 {
+        set_again_if_refused(&rt, &mut map, number);
+    }
+    assert!(rt; map.len() == 20);
+    for (key, value) in map.iter() {
+        assert!(rt; *value == *key / 2);
+    }
+}
+
+fn name<R: Abort + Print>(rt: &R, alloc: Global, text: &str) -> Name {
+    let text = match text.to_string(alloc) {
+        Ok(text) => text,
+        Err(AllocError) => {
+            tell(rt, "a text");
+            text.to_string(alloc).expect(rt, WANT)
+        }
+    };
+    Name::from(text)
+}
+
+fn named_member<R: Abort + Print>(rt: &R, alloc: Global) -> StructMember {
+    StructMember {
+        name: Some(name(rt, alloc, "x")),
+        ty: Handle::from_index(3),
+        binding: None,
+        offset: 4,
+    }
+}
+
+/// A list of one member.
+fn named_members<R: Abort + Print>(rt: &R, alloc: Global) -> Items<StructMember> {
+    let mut members = Vec::new(alloc);
+    if let Err(AllocFailed { value }) = members.push(named_member(rt, alloc)) {
+        tell(rt, "a list of members");
+        members.push(value).expect(rt, WANT);
+    }
+    Items::from(members)
+}
+
+/// A struct of one member.
+fn named_struct<R: Abort + Print>(rt: &R, alloc: Global) -> Type {
+    Type {
+        name: Some(name(rt, alloc, "S")),
+        inner: TypeInner::Struct {
+            members: named_members(rt, alloc),
+            span: 8,
+        },
+    }
+}
+
+#[test]
+fn of_a_copy_of_a_name(rt: HostRuntime) {
+    let name = name(&rt, rt.alloc(), "Pair");
+    let copy = match name.copy(rt.alloc()) {
+        Ok(copy) => copy,
+        Err(AllocError) => {
+            tell(&rt, "a copy of a name");
+            name.copy(rt.alloc()).expect(&rt, WANT)
+        }
+    };
+    assert!(rt; copy.as_str() == "Pair");
+}
+
+#[test]
+fn of_a_copy_of_a_member(rt: HostRuntime) {
+    let member = named_member(&rt, rt.alloc());
+    let copy = match member.copy(rt.alloc()) {
+        Ok(copy) => copy,
+        Err(AllocError) => {
+            tell(&rt, "a copy of a member");
+            member.copy(rt.alloc()).expect(&rt, WANT)
+        }
+    };
+    assert!(rt; copy == member);
+}
+
+#[test]
+fn of_a_copy_of_a_type(rt: HostRuntime) {
+    let ty = named_struct(&rt, rt.alloc());
+    let copy = match ty.copy(rt.alloc()) {
+        Ok(copy) => copy,
+        Err(AllocError) => {
+            tell(&rt, "a copy of a type");
+            ty.copy(rt.alloc()).expect(&rt, WANT)
+        }
+    };
+    assert!(rt; copy == ty);
+}
+
+#[test]
+fn of_a_copy_of_a_type_without_its_name(rt: HostRuntime) {
+    let inner = named_struct(&rt, rt.alloc()).inner;
+    let copy = match inner.copy(rt.alloc()) {
+        Ok(copy) => copy,
+        Err(AllocError) => {
+            tell(&rt, "a copy of a struct");
+            inner.copy(rt.alloc()).expect(&rt, WANT)
+        }
+    };
+    assert!(rt; copy == inner);
+}
+
+#[test]
+fn of_a_copy_of_a_resolution(rt: HostRuntime) {
+    let inner = named_struct(&rt, rt.alloc()).inner;
+    let resolution = TypeResolution::Value(inner);
+    let copy = match resolution.copy(rt.alloc()) {
+        Ok(copy) => copy,
+        Err(AllocError) => {
+            tell(&rt, "a copy of a resolution");
+            resolution.copy(rt.alloc()).expect(&rt, WANT)
+        }
+    };
+    assert!(rt; copy == resolution);
+}
+
+#[test]
+fn of_insert_of_a_struct(rt: HostRuntime) {
+    let mut types: Types = UniqueArena::new(rt.alloc());
+    let ty = named_struct(&rt, rt.alloc());
+    let first = insert_again_if_refused(&rt, &mut types, ty);
+    let ty = named_struct(&rt, rt.alloc());
+    assert!(rt; types.len() == 1);
+    // An equal type needs no memory, so this is never refused.
+    let again = types.insert(ty).expect(&rt, WANT);
+    assert!(rt; again == first && types.len() == 1);
+}
