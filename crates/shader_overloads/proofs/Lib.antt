@@ -9,3 +9,5 @@ pub mod TakesLemmas
 pub mod FormLemmas
 pub mod CountLemmas
 pub mod AcceptanceLemmas
+pub mod ListCountLemmas
+pub mod ArgumentLemmas
