@@ -8,3 +8,6 @@ pub mod TreeLemmas
 pub mod TakesLemmas
 pub mod FormLemmas
 pub mod CountLemmas
+pub mod AcceptanceLemmas
+pub mod ListCountLemmas
+pub mod ArgumentLemmas

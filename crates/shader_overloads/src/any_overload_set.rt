@@ -60,6 +60,20 @@ impl OverloadSet for AnyOverloadSet {
         }
     }
 
+    fn min_arguments(&self) -> usize {
+        match self {
+            AnyOverloadSet::List(list) => list.min_arguments(),
+            AnyOverloadSet::Regular(regular) => regular.min_arguments(),
+        }
+    }
+
+    fn max_arguments(&self) -> usize {
+        match self {
+            AnyOverloadSet::List(list) => list.max_arguments(),
+            AnyOverloadSet::Regular(regular) => regular.max_arguments(),
+        }
+    }
+
     fn arg(
         &self,
         alloc: Global,

@@ -5,6 +5,7 @@ ghost use Rattle.shader_overloads.specs.declared.rule.Rule.{Rule};
 ghost use Rattle.shader_ir.specs.Key.{inner_of};
 ghost use Rattle.shader_ir.specs.TypeTree.{IsBackward, PointsBelow};
 ghost use Rattle.shader_overloads.specs.Bits.{IsWithin, has_bit, items_where};
+ghost use Rattle.shader_overloads.specs.Counts.{IsGreatestCount, IsLeastCount};
 ghost use Rattle.shader_overloads.specs.Remaining.{ArgumentFits, MembersFit, RuleFits, has_concrete_arguments, has_no_struct, is_concrete, is_free_struct, list_accepts, some_list_takes};
 
 use crate::{OverloadSet, Rule};
@@ -108,6 +109,14 @@ impl OverloadSet for List {
         self.members == 0
     }
 
+    fn min_arguments(&self) -> usize {
+        least_count(self.rules.as_slice(), self.members)
+    }
+
+    fn max_arguments(&self) -> usize {
+        greatest_count(self.rules.as_slice(), self.members)
+    }
+
     fn arg(
         &self,
         _alloc: Global,
@@ -127,13 +136,49 @@ impl OverloadSet for List {
     }
 
     fn most_preferred(&self, alloc: Global) -> Result<Rule, AllocError> {
-        let first = self.members.trailing_zeros() as usize;
-        self.rules.as_slice()[first].copy(alloc)
+        first_member(self.rules.as_slice(), self.members).copy(alloc)
     }
 
     fn overload_list(&self, alloc: Global, _gctx: GlobalCtx<'_>) -> Result<Vec<Rule>, AllocError> {
         copy_members(alloc, self.rules.as_slice(), self.members)
     }
+}
+
+/// The least number of arguments of a member.
+fn least_count(rules: &[Rule], members: u64) -> usize
+    requires count { length rules.now ≤ 63 }
+    requires some { items_where (has_bit members) rules.now ≢ [] }
+    ensures { IsLeastCount result (items_where (has_bit members) rules.now) }
+{
+    let mut least = first_member(rules, members).arguments.len();
+    for place in 0..rules.len() {
+        if has_place(members, place) {
+            least = least.min(rule_at(rules, place).arguments.len());
+        }
+    }
+    least
+}
+
+/// The greatest number of arguments of a member.
+fn greatest_count(rules: &[Rule], members: u64) -> usize
+    requires count { length rules.now ≤ 63 }
+    requires some { items_where (has_bit members) rules.now ≢ [] }
+    ensures { IsGreatestCount result (items_where (has_bit members) rules.now) }
+{
+    let mut greatest = first_member(rules, members).arguments.len();
+    for place in 0..rules.len() {
+        if has_place(members, place) {
+            greatest = greatest.max(rule_at(rules, place).arguments.len());
+        }
+    }
+    greatest
+}
+
+fn first_member(rules: &[Rule], members: u64) -> &Rule
+    requires { items_where (has_bit members) rules.now ≢ [] }
+    ensures { slice_get (items_where (has_bit members) rules.now) 0 ≡ Some result.now }
+{
+    rule_at(rules, members.trailing_zeros() as usize)
 }
 
 /// The places of the members that take a value of the type as argument `i`.

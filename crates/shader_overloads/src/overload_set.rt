@@ -1,13 +1,15 @@
 //! What every overload set offers, said of its list of rules alone.
-ghost use Rattle.std.specs.Prelude.{◌≡◌, ◌≢◌, ◌↔◌, ℕ, Bool, [], List, All, IsTrue, IsOk, IfOk, Some, filter, length, slice_get};
+ghost use Rattle.std.specs.Prelude.{◌≡◌, ◌≢◌, ◌↔◌, ◌++◌, ℕ, Bool, [], List, All, IsTrue, IsOk, IfOk, OnOk, Some, filter, length, slice_get};
+ghost use Rattle.std.specs.Option.{option_to_list};
 ghost use Rattle.shader_ir.specs.declared.types.«Type».{«Type»};
 ghost use Rattle.shader_ir.specs.declared.types.TypeInner.{TypeInner};
 ghost use Rattle.shader_ir.specs.TypeTree.{IsBackward, PointsBelow};
 ghost use Rattle.shader_overloads.specs.declared.rule.Rule.{Rule};
+ghost use Rattle.shader_overloads.specs.Counts.{arguments_at, IsGreatestCount, IsLeastCount};
 
 use crate::{Regular, Rule};
 use shader_arena::UniqueArena;
-use shader_ir::{GlobalCtx, Type, TypeInner, mark};
+use shader_ir::{GlobalCtx, Type, TypeInner, TypeResolution, mark};
 use std::alloc::{AllocError, Global};
 
 /// The rules of a builtin function that a call may still mean, the preferred one first.
@@ -28,6 +30,16 @@ pub trait OverloadSet: Sized + Drop {
     /// Whether there is no rule.
     fn is_empty(&self) -> bool
         ensures { IsTrue result ↔ (rules self.now ≡ []) };
+
+    /// The least number of arguments of a rule.
+    fn min_arguments(&self) -> usize
+        requires { rules self.now ≢ [] }
+        ensures { IsLeastCount result (rules self.now) };
+
+    /// The greatest number of arguments of a rule.
+    fn max_arguments(&self) -> usize
+        requires { rules self.now ≢ [] }
+        ensures { IsGreatestCount result (rules self.now) };
 
     /// The rules that take a value of the type as argument `i`, converted by itself where that is needed.
     fn arg(
@@ -58,6 +70,52 @@ pub trait OverloadSet: Sized + Drop {
     /// All rules, in order.
     fn overload_list(&self, alloc: Global, gctx: GlobalCtx<'_>) -> Result<Vec<Rule>, AllocError>
         ensures { IfOk result (λ list. list.items ≡ rules self.now) };
+
+    /// The types of argument `i`, of the rules that have one, in their order.
+    fn allowed_args(
+        &self,
+        alloc: Global,
+        i: usize,
+        gctx: GlobalCtx<'_>,
+    ) -> Result<Vec<TypeResolution>, AllocError>
+        ensures { IfOk result (λ allowed. allowed.items ≡ arguments_at i (rules self.now)) }
+    {
+        let rules = self.overload_list(alloc, gctx)?;
+        copy_arguments_at(alloc, rules.as_slice(), i)
+    }
+}
+
+/// The arguments of a place, of the rules that have one.
+fn copy_arguments_at(
+    alloc: Global,
+    rules: &[Rule],
+    i: usize,
+) -> Result<Vec<TypeResolution>, AllocError>
+    ensures { IfOk result (λ arguments. arguments.items ≡ arguments_at i rules.now) }
+{
+    let mut arguments = Vec::new(alloc);
+    for rule in rules {
+        push_argument(alloc, &mut arguments, rule, i)?;
+    }
+    Ok(arguments)
+}
+
+/// Appends argument `i` of the rule, where it has one.
+fn push_argument(
+    alloc: Global,
+    arguments: &mut Vec<TypeResolution>,
+    rule: &Rule,
+    i: usize,
+) -> Result<(), AllocError>
+    ensures { OnOk result (arguments.new.items ≡ arguments.old.items ++ option_to_list (slice_get rule.now.arguments i)) }
+{
+    match rule.arguments.as_slice().get(i) {
+        Some(argument) => {
+            arguments.push(argument.copy(alloc)?)?;
+            Ok(())
+        }
+        None => Ok(()),
+    }
 }
 
 impl OverloadSet for Regular {
@@ -78,6 +136,14 @@ impl OverloadSet for Regular {
 
     fn is_empty(&self) -> bool {
         self.is_empty()
+    }
+
+    fn min_arguments(&self) -> usize {
+        self.min_arguments()
+    }
+
+    fn max_arguments(&self) -> usize {
+        self.max_arguments()
     }
 
     /// Takes no memory.

@@ -1,0 +1,6 @@
+use Rattle.shader_overloads.specs.Bits.{has_bit}
+use Rattle.shader_overloads.proofs.ListCountLemmas.{AtLeast, BestSoFar}
+use Rattle.shader_overloads.proofs.list.greatest_count.Given as goal
+
+abbrev pub invariant-loop-place : goal.invariant-loop-place
+invariant-loop-place l = BestSoFar AtLeast (has_bit l.members) l.rules l.place l.greatest
