@@ -4,6 +4,7 @@ mod BuiltinFacts
 mod Decimals
 mod Found
 mod InputSpellings
+mod Laying
 mod LineSteps
 mod Placing
 mod RequestSpellings

@@ -1,11 +1,9 @@
 -- Spelled types in an arena, and their trees there.
-use Rattle.std.proofs.Common.{rules, ◌≡◌, ℕ, zero, suc, ◌+◌, ◌<◌, ◌≤◌, Bool, true, false, cond, ◌∙◌, List, [], ◌∷◌, ◌++◌, Option, Some, None, length, refl, sym, ap, subst, arith}
+use Rattle.std.proofs.Common.{rules, ◌≡◌, ℕ, zero, suc, ◌+◌, Bool, true, false, cond, ◌∙◌, List, [], ◌∷◌, ◌++◌, Some, length, refl, ap, subst, arith}
 use Rattle.std.specs.Prelude.{All, slice_get}
 use Rattle.std.specs.List.{list_any, position_or_len}
-use Rattle.std.specs.Option.{option_eq}
 use Rattle.std.proofs.lemmas.Bool.{and_parts}
 use Rattle.indexmap.specs.IndexSet.{insert_key}
-use Rattle.shader_ir.specs.contracts.name.NamePartialEq.TheImpl as name
 use Rattle.shader_ir.specs.contracts.scalar.ScalarPartialEq.TheImpl as scalar
 use Rattle.shader_ir.specs.contracts.scalar.VectorSizePartialEq.TheImpl as size
 use Rattle.shader_ir.specs.contracts.types.TypeInnerPartialEq.TheImpl as inner
@@ -17,12 +15,12 @@ use Rattle.shader_ir.specs.declared.types.«Type».{«Type»}
 use Rattle.shader_ir.specs.declared.types.TypeInner.{TypeInner}
 use Rattle.shader_ir.specs.declared.types.TypeInner.TheVariants as inners
 use Rattle.shader_ir.specs.Conversion.{conversion}
-use Rattle.shader_ir.specs.TypeTree.{IsBackward, Node, NoTree, OneTree, PointsBelow, TypeTree, tree_of, tree_within, trees_at, type_handles}
+use Rattle.shader_ir.specs.TypeTree.{IsBackward, Node, NoTree, OneTree, PointsBelow, TypeTree, tree_of, tree_within, type_handles}
 use Rattle.typer.specs.declared.types.PlainType.{PlainType}
 use Rattle.typer.specs.declared.types.PlainType.TheVariants.{Scalar, Vector, Matrix}
 use Rattle.typer.specs.declared.types.SpelledType.{SpelledType}
 use Rattle.typer.specs.declared.types.SpelledType.TheVariants.{Plain, Array}
-use Rattle.typer.specs.Conversions.{AreFlat, IsPlaced, KeepsTypes, conversion_of, plain_tree, tree_of_spelled, unnamed}
+use Rattle.typer.specs.Conversions.{AreFlat, IsPlaced, KeepsTypes, conversion_of, plain_tree, unnamed}
 use Rattle.typer.specs.Types.{inner_of}
 
 -- ---- an unnamed plain type equals itself alone
@@ -102,16 +100,16 @@ no_trees (suc depth) types (Scalar t) = refl
 no_trees (suc depth) types (Vector n t) = refl
 no_trees (suc depth) types (Matrix c r t) = refl
 
-plain_is : (types : List «Type») (p : PlainType) → tree_of types (inner_of p) ≡ plain_tree p
+pub plain_is : (types : List «Type») (p : PlainType) → tree_of types (inner_of p) ≡ plain_tree p
 plain_is types (Scalar t) = refl
 plain_is types (Vector n t) = refl
 plain_is types (Matrix c r t) = refl
 
 -- the tree of an array over a base that stands at a place
-abbrev array_tree : ℕ → PlainType → ℕ → ℕ → TypeTree
+abbrev pub array_tree : ℕ → PlainType → ℕ → ℕ → TypeTree
 array_tree place base count stride = Node (inners.Array place (Constant count) stride) (OneTree (plain_tree base) NoTree)
 
-array_is : (types : List «Type») (place : ℕ) (base : PlainType) (count stride : ℕ) → slice_get types place ≡ Some (unnamed (inner_of base))
+pub array_is : (types : List «Type») (place : ℕ) (base : PlainType) (count stride : ℕ) → slice_get types place ≡ Some (unnamed (inner_of base))
     → tree_of types (inners.Array place (Constant count) stride) ≡ array_tree place base count stride
 unfolding tree_within
 array_is types place base count stride at = rw (at, no_trees (length types) types base) refl

@@ -1,18 +1,18 @@
 -- Lines and the requests that they make, in both directions.
-use Rattle.std.proofs.Common.{◌≡◌, ℕ, ◌<◌, length, map, arith, Bool, true, false, eqb, Option, Some, None, List, [], ◌∷◌, ◌++◌, refl, sym, subst, ap, ◌∙◌}
+use Rattle.std.proofs.Common.{◌≡◌, ℕ, map, arith, false, Some, List, [], ◌∷◌, refl, sym, subst, ap, ◌∙◌}
 use Rattle.std.specs.List.{slice_split, list_any, join_with_byte}
-use Rattle.std.specs.Option.{option_map, option_and_then}
+use Rattle.std.specs.Option.{option_map}
 use Rattle.std.proofs.lemmas.Option.{option_and_then_some, same_Some}
 use Rattle.std.proofs.lemmas.List.Splits.{join_with_byte-slice_split}
 use Rattle.shader_ir.specs.declared.operators.MathFunction.{MathFunction}
 use Rattle.typer.specs.declared.request.Kind.{Kind}
 use Rattle.typer.specs.declared.request.Kind.TheVariants as kinds
 use Rattle.typer.specs.declared.request.Request.{Request}
-use Rattle.typer.specs.declared.request.Request.TheVariants.{Call, Rules, Convert}
+use Rattle.typer.specs.declared.request.Request.TheVariants.{Call, Rules, Layout, Convert}
 use Rattle.typer.specs.declared.types.SpelledType.{SpelledType}
 use Rattle.typer.specs.Builtins.{builtin_of, builtin_text}
 use Rattle.typer.specs.Laws.{RequestsAreSpelled}
-use Rattle.typer.specs.Requests.{AreWritableTypes, IsWritableRequest, all_kinds, call_from, call_with, convert_from, kind_of, kind_text, named_from, request_from, request_of, request_text, request_with, request_words, rules_from, types_of}
+use Rattle.typer.specs.Requests.{AreWritableTypes, IsWritableRequest, all_kinds, call_from, call_with, convert_from, kind_of, kind_text, layout_from, named_from, request_from, request_of, request_text, request_with, request_words, rules_from, types_of}
 use Rattle.typer.specs.Builtins.{named_builtins}
 use Rattle.typer.specs.Types.{type_of, type_text}
 use Rattle.typer.proofs.BuiltinFacts.{builtin_facts}
@@ -42,6 +42,14 @@ unbroken_line (word ∷ next ∷ words) unbroken =
 -- the words behind the kind are the request's
 abbrev AreWordsOf : Kind → List (List ℕ) → Request → Type 0
 AreWordsOf kind words request = (request_words request ≡ kind_text kind ∷ words) × IsWritableRequest request
+
+layout_is : (words : List (List ℕ)) (request : Request) → layout_from words ≡ Some request → AreWordsOf kinds.Layout words request
+layout_is [] request e = cc
+layout_is (word ∷ []) request e =
+    let m = mapped Layout (type_of word) request e in
+    let h = type_is word m.0 m.1 in
+    subst (AreWordsOf kinds.Layout (word ∷ [])) m.2 (ap (λ (x : List ℕ). kind_text kinds.Layout ∷ x ∷ []) (sym h.0), h.1)
+layout_is (word ∷ other ∷ words) request e = cc
 
 convert_is : (words : List (List ℕ)) (request : Request) → convert_from words ≡ Some request → AreWordsOf kinds.Convert words request
 convert_is [] request e = cc
@@ -111,6 +119,7 @@ rules_are words request e =
 with_is : (kind : Kind) (words : List (List ℕ)) (request : Request) → request_with kind words ≡ Some request → AreWordsOf kind words request
 with_is kinds.Call words request e = call_is words request e
 with_is kinds.Rules words request e = rules_are words request e
+with_is kinds.Layout words request e = layout_is words request e
 with_is kinds.Convert words request e = convert_is words request e
 
 words_are : (words : List (List ℕ)) (request : Request) → request_from words ≡ Some request → (words ≡ request_words request) × IsWritableRequest request
@@ -136,6 +145,7 @@ types_unbroken (t ∷ types) writable = (type_quiet t writable.0, types_unbroken
 request_unbroken : (request : Request) → IsWritableRequest request → AreUnbroken (request_words request)
 request_unbroken (Call function types) writable = (refl, ((builtin_facts function).1, types_unbroken types writable.0))
 request_unbroken (Rules function types) writable = (refl, ((builtin_facts function).1, types_unbroken types writable))
+request_unbroken (Layout t) writable = (refl, (type_quiet t writable, tt))
 request_unbroken (Convert from to) writable = (refl, (type_quiet from writable.0, (type_quiet to writable.1, tt)))
 
 -- the text of a request has no end of line
@@ -151,6 +161,7 @@ words_named (Call function []) writable = absurd (omega (arith, writable.1))
 words_named (Call function (t ∷ types)) writable =
     rw ((builtin_facts function).0, type_named t writable.0.0, types_named types writable.0.1) refl
 words_named (Rules function types) writable = rw ((builtin_facts function).0, types_named types writable) refl
+words_named (Layout t) writable = rw (type_named t writable) refl
 words_named (Convert from to) writable = rw (type_named from writable.0, type_named to writable.1) refl
 
 words_cut : (request : Request) → IsWritableRequest request → slice_split is_space (request_text request) ≡ request_words request
@@ -160,6 +171,9 @@ words_cut (Call function types) writable =
 words_cut (Rules function types) writable =
     split_joined 32 (kind_text kinds.Rules) (builtin_text function ∷ map type_text types) refl
     (unbroken_solid (request_words (Rules function types)) (request_unbroken (Rules function types) writable))
+words_cut (Layout t) writable =
+    split_joined 32 (kind_text kinds.Layout) (type_text t ∷ []) refl
+    (unbroken_solid (request_words (Layout t)) (request_unbroken (Layout t) writable))
 words_cut (Convert from to) writable =
     split_joined 32 (kind_text kinds.Convert) (type_text from ∷ type_text to ∷ []) refl
     (unbroken_solid (request_words (Convert from to)) (request_unbroken (Convert from to) writable))

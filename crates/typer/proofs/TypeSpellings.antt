@@ -1,6 +1,6 @@
 -- Words and the types that they spell, in both directions.
 use Rattle.std.proofs.Common.{◌≡◌, ℕ, ◌+◌, ◌-◌, ◌<◌, ◌≤◌, ◌^◌, Bool, true, false, cond, eqb, ltb, Option, Some, None, List, [], ◌∷◌, ◌++◌, length, take, drop, refl, sym, subst, ap, ◌∙◌, append_assoc, arith, length-append, not, ◌||◌}
-use Rattle.std.specs.Prelude.{codes, find}
+use Rattle.std.specs.Prelude.{codes}
 use Rattle.std.specs.Fmt.{decimal}
 use Rattle.std.specs.List.{position, position_or_len, list_any, slice_split, join_with_byte}
 use Rattle.std.specs.Str.{bytes_eq}

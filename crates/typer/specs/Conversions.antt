@@ -1,5 +1,5 @@
 -- Conversions between spelled types.
-use Rattle.std.specs.Prelude.{◌≡◌, ◌≤◌, ℕ, List, [], ◌∷◌, length, All, Option, Some, None, slice_get}
+use Rattle.std.specs.Prelude.{◌≡◌, ◌≤◌, ℕ, List, [], length, All, Option, Some, None, slice_get}
 use Rattle.shader_ir.specs.declared.scalar.Scalar.{Scalar}
 use Rattle.shader_ir.specs.declared.types.«Type».{«Type»}
 use Rattle.shader_ir.specs.declared.types.ArraySize.TheVariants.{Constant}

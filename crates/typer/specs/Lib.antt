@@ -4,6 +4,7 @@ pub mod Calls
 pub mod Conversions
 pub mod Cuts
 pub mod Laws
+pub mod Layouts
 pub mod Lines
 pub mod Numbers
 pub mod Pieces

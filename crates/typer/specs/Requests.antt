@@ -7,7 +7,7 @@ use Rattle.shader_ir.specs.declared.operators.MathFunction.{MathFunction}
 use Rattle.typer.specs.declared.request.Kind.{Kind}
 use Rattle.typer.specs.declared.request.Kind.TheVariants as kinds
 use Rattle.typer.specs.declared.request.Request.{Request}
-use Rattle.typer.specs.declared.request.Request.TheVariants.{Call, Rules, Convert}
+use Rattle.typer.specs.declared.request.Request.TheVariants.{Call, Rules, Layout, Convert}
 use Rattle.typer.specs.declared.types.SpelledType.{SpelledType}
 use Rattle.typer.specs.Builtins.{builtin_of, builtin_text}
 use Rattle.typer.specs.Types.{type_text, type_of, IsWritable}
@@ -17,11 +17,13 @@ use Rattle.typer.specs.Types.{type_text, type_of, IsWritable}
 abbrev pub kind_text : Kind → List ℕ
 kind_text kinds.Call = codes "call"
 kind_text kinds.Rules = codes "rules"
+kind_text kinds.Layout = codes "layout"
 kind_text kinds.Convert = codes "convert"
 
 abbrev pub request_words : Request → List (List ℕ)
 request_words (Call function arguments) = kind_text kinds.Call ∷ builtin_text function ∷ map type_text arguments
 request_words (Rules function arguments) = kind_text kinds.Rules ∷ builtin_text function ∷ map type_text arguments
+request_words (Layout t) = kind_text kinds.Layout ∷ type_text t ∷ []
 request_words (Convert from to) = kind_text kinds.Convert ∷ type_text from ∷ type_text to ∷ []
 
 -- the words, with one space between each two
@@ -36,15 +38,20 @@ AreWritableTypes (t ∷ types) = IsWritable t × AreWritableTypes types
 abbrev pub IsWritableRequest : Request → Type 0
 IsWritableRequest (Call function arguments) = AreWritableTypes arguments × (0 < length arguments)
 IsWritableRequest (Rules function arguments) = AreWritableTypes arguments
+IsWritableRequest (Layout t) = IsWritable t
 IsWritableRequest (Convert from to) = IsWritable from × IsWritable to
 
 -- ---- what a line asks for
 
 abbrev pub all_kinds : List Kind
-all_kinds = kinds.Call ∷ kinds.Rules ∷ kinds.Convert ∷ []
+all_kinds = kinds.Call ∷ kinds.Rules ∷ kinds.Layout ∷ kinds.Convert ∷ []
 
 abbrev pub kind_of : List ℕ → Option Kind
 kind_of word = find (λ kind. bytes_eq (kind_text kind) word) all_kinds
+
+abbrev pub layout_from : List (List ℕ) → Option Request
+layout_from (word ∷ []) = option_map Layout (type_of word)
+layout_from _ = None
 
 abbrev pub convert_from : List (List ℕ) → Option Request
 convert_from (from ∷ to ∷ []) = option_and_then (λ t. option_map (Convert t) (type_of to)) (type_of from)
@@ -75,6 +82,7 @@ rules_from words = option_map (λ (named : MathFunction × List SpelledType). Ru
 abbrev pub request_with : Kind → List (List ℕ) → Option Request
 request_with kinds.Call words = call_from words
 request_with kinds.Rules words = rules_from words
+request_with kinds.Layout words = layout_from words
 request_with kinds.Convert words = convert_from words
 
 abbrev pub request_from : List (List ℕ) → Option Request

@@ -7,6 +7,7 @@ mod bytes;
 mod call;
 mod conversion;
 mod laws;
+mod layout;
 mod lines;
 #[cfg(test)]
 mod memory;

@@ -2,11 +2,12 @@
 
 use crate::call::{conclusion, remaining_rules};
 use crate::conversion::conversion;
+use crate::layout::layout;
 use crate::request::{Request, parse_request};
 use crate::scalars::ScalarText;
 use crate::texts::{ConclusionText, RulesText};
 use crate::types::SpelledType;
-use shader_ir::{Items, MathFunction, Scalar};
+use shader_ir::{Alignment, Items, MathFunction, Scalar, TypeLayout};
 use shader_overloads::{Conclusion, Rule};
 use std::alloc::{AllocError, Global};
 use std::fmt;
@@ -18,6 +19,12 @@ pub enum Reply {
     Conclusion(Conclusion),
     /// The rules that are left, one at least.
     Rules(Items<Rule>),
+    /// The size and the alignment of a type and the stride of an array of it, in bytes.
+    Layout {
+        size: u32,
+        alignment: Alignment,
+        stride: u32,
+    },
     /// The leaf scalars of a conversion, from and to.
     Conversion(Scalar, Scalar),
     Refused,
@@ -33,6 +40,11 @@ impl fmt::Display for Reply {
         match self {
             Reply::Conclusion(conclusion) => write!(f, "{}", ConclusionText(conclusion)),
             Reply::Rules(rules) => write!(f, "{}", RulesText(rules.as_slice())),
+            Reply::Layout {
+                size,
+                alignment,
+                stride,
+            } => write!(f, "size {size} align {alignment} stride {stride}"),
             Reply::Conversion(from, to) => {
                 write!(f, "{} to {}", ScalarText(*from), ScalarText(*to))
             }
@@ -42,16 +54,32 @@ impl fmt::Display for Reply {
 }
 
 impl Reply {
-    ghost use Rattle.std.specs.Prelude.{◌≡◌, IfOk, Some};
-    ghost use Rattle.typer.specs.Answers.{concluded, converted, listed, reply_to};
+    ghost use Rattle.std.specs.Prelude.{◌≡◌, IfOk, IfSome, Some};
+    ghost use Rattle.shader_ir.specs.Layout.{HasStride};
+    ghost use Rattle.typer.specs.Answers.{concluded, converted, laid_out, listed, reply_to};
     ghost use Rattle.typer.specs.Calls.{conclusion_of, rules_left};
     ghost use Rattle.typer.specs.Conversions.{conversion_of};
+    ghost use Rattle.typer.specs.Layouts.{layout_of_spelled};
 
     fn from_conversion(scalars: Option<(Scalar, Scalar)>) -> Reply
         ensures { result ≡ converted scalars }
     {
         match scalars {
             Some((from, to)) => Reply::Conversion(from, to),
+            None => Reply::Refused,
+        }
+    }
+
+    fn from_layout(layout: Option<TypeLayout>) -> Reply
+        requires { IfSome layout HasStride }
+        ensures { result ≡ laid_out layout }
+    {
+        match layout {
+            Some(layout) => Reply::Layout {
+                size: layout.size,
+                alignment: layout.alignment,
+                stride: layout.to_stride(),
+            },
             None => Reply::Refused,
         }
     }
@@ -96,6 +124,13 @@ impl Reply {
         Ok(Some(Reply::from_rules(rules)))
     }
 
+    fn to_layout(alloc: Global, spelled: SpelledType) -> Result<Option<Reply>, AllocError>
+        ensures { IfOk result (λ reply. reply ≡ Some (laid_out (layout_of_spelled spelled))) }
+    {
+        let found = layout(alloc, spelled)?;
+        Ok(Some(Reply::from_layout(found)))
+    }
+
     fn to_conversion(
         alloc: Global,
         from: SpelledType,
@@ -121,6 +156,7 @@ impl Reply {
             Request::Rules(function, arguments) => {
                 Reply::to_rules(alloc, function, arguments.as_slice())
             }
+            Request::Layout(spelled) => Reply::to_layout(alloc, spelled),
             Request::Convert(from, to) => Reply::to_conversion(alloc, from, to),
         }
     }

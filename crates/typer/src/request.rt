@@ -3,7 +3,7 @@
 ghost use Rattle.std.specs.Prelude.{◌≡◌, IfOk};
 ghost use Rattle.std.specs.Option.{option_map};
 ghost use Rattle.typer.specs.Pieces.{pieces_left};
-ghost use Rattle.typer.specs.Requests.{call_from, convert_from, kind_of, named_from, request_from, request_of, rules_from, types_of};
+ghost use Rattle.typer.specs.Requests.{call_from, convert_from, kind_of, layout_from, named_from, request_from, request_of, rules_from, types_of};
 
 use crate::builtins::builtin_from_word;
 use crate::pieces::Pieces;
@@ -16,6 +16,7 @@ use std::alloc::{AllocError, Global};
 pub enum Kind {
     Call,
     Rules,
+    Layout,
     Convert,
 }
 
@@ -26,6 +27,8 @@ pub enum Request {
     Call(MathFunction, Items<SpelledType>),
     /// The rules of a builtin that take these arguments.
     Rules(MathFunction, Items<SpelledType>),
+    /// The size, the alignment and the stride of a type.
+    Layout(SpelledType),
     /// The scalars by which a value of the first type becomes one of the second.
     Convert(SpelledType, SpelledType),
 }
@@ -33,7 +36,7 @@ pub enum Request {
 impl Kind {
     ghost use Rattle.typer.specs.Requests.{kind_text};
 
-    const ALL: [Kind; 3] = [Kind::Call, Kind::Rules, Kind::Convert];
+    const ALL: [Kind; 4] = [Kind::Call, Kind::Rules, Kind::Layout, Kind::Convert];
 
     fn word(self) -> &'static str
         ensures { result.now ≡ kind_text self }
@@ -41,6 +44,7 @@ impl Kind {
         match self {
             Kind::Call => "call",
             Kind::Rules => "rules",
+            Kind::Layout => "layout",
             Kind::Convert => "convert",
         }
     }
@@ -54,6 +58,17 @@ impl Kind {
             .copied()
             .find(|kind| kind.word().as_bytes() == word)
     }
+}
+
+/// The request for a layout, if the words spell one type.
+fn parse_layout(mut words: Pieces<'_>) -> Option<Request>
+    ensures { result ≡ layout_from (pieces_left words.entry) }
+{
+    let word = words.next()?;
+    if words.next().is_some() {
+        return None;
+    }
+    SpelledType::from_word(word).map(Request::Layout)
 }
 
 /// The request for a conversion between two types, if the words spell two.
@@ -133,6 +148,7 @@ fn parse_words(alloc: Global, mut words: Pieces<'_>) -> Result<Option<Request>, 
     match kind {
         Kind::Call => parse_call(alloc, words),
         Kind::Rules => parse_rules(alloc, words),
+        Kind::Layout => Ok(parse_layout(words)),
         Kind::Convert => Ok(parse_convert(words)),
     }
 }

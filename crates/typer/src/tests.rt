@@ -8,7 +8,7 @@ const ROWS: &[u8] = b"call Max u32 AbstractInt\ncall Max f32 f64\ncall Abs Abstr
 const ANSWER: &[u8] = b"u32\nrefused\nAbstractInt\n";
 
 /// Lines with their answers, each an input of its own.
-const ANSWERED: [(&[u8], &[u8]); 34] = [
+const ANSWERED: [(&[u8], &[u8]); 43] = [
     (b"call ExtractBits AbstractInt u32 u32\n", b"i32\n"),
     (
         b"call Refract vec3<f16> vec3<f16> AbstractFloat\n",
@@ -75,16 +75,33 @@ const ANSWERED: [(&[u8], &[u8]); 34] = [
         b"refused\n",
     ),
     (b"convert f32 f32", b"f32 to f32\n"),
+    (b"layout vec3<f32>\n", b"size 12 align 16 stride 16\n"),
+    (b"layout mat2x3<f32>\n", b"size 32 align 16 stride 32\n"),
+    (b"layout mat3x2<f32>\n", b"size 24 align 8 stride 24\n"),
+    (b"layout vec3<f64>\n", b"size 24 align 32 stride 32\n"),
+    (b"layout AbstractInt", b"size 8 align 8 stride 8\n"),
+    (
+        b"layout array<f32,268435456,4>\n",
+        b"size 1073741824 align 4 stride 1073741824\n",
+    ),
+    (b"layout array<f32,268435457,4>\n", b"refused\n"),
+    (
+        b"layout array<f32,1073741824,0>\n",
+        b"size 0 align 4 stride 0\n",
+    ),
+    (b"layout array<f32,1073741825,0>\n", b"refused\n"),
     (b"", b""),
 ];
 
 /// Lines that ask for nothing, each an input of its own.
-const BAD: [&[u8]; 13] = [
+const BAD: [&[u8]; 15] = [
     b"call Abs\n",
     b"rules\n",
     b"call abs f32\n",
     b"rules Abs \n",
     b"\n",
+    b"layout\n",
+    b"layout f32 f32\n",
     b"convert f32\n",
     b"convert f32 f32 f32\n",
     b"convert f32 array<f32,04,4>\n",

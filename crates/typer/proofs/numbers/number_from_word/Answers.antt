@@ -1,4 +1,4 @@
-use Rattle.std.proofs.Common.{◌≡◌, ◌∙◌, sym, ap, Some}
+use Rattle.std.proofs.Common.{◌≡◌, ◌∙◌, sym}
 use Rattle.std.proofs.lemmas.Slice.Eq.{bytes_eq-Decides}
 use Rattle.typer.proofs.Decimals.{decimal_is_text, decimal_is_read, number_named, number_none, read_small}
 use Rattle.typer.proofs.numbers.number_from_word.Goals as goal
