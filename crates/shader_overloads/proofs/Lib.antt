@@ -8,3 +8,4 @@ pub mod TreeLemmas
 pub mod TakesLemmas
 pub mod FormLemmas
 pub mod CountLemmas
+pub mod AcceptanceLemmas

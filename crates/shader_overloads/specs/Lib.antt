@@ -1,3 +1,4 @@
+pub mod AcceptanceLaws
 pub mod AnySet
 pub mod Bits
 pub mod Builtins
@@ -7,6 +8,7 @@ pub mod ListForms
 pub mod ListSet
 pub mod Regular
 pub mod Remaining
+pub mod Resolutions
 pub mod Rules
 pub mod SameType
 pub mod ScalarSets

@@ -3,6 +3,7 @@
 
 mod any_overload_set;
 mod constructor_set;
+pub mod laws;
 mod list;
 mod list_forms;
 mod mathfunction;
@@ -20,5 +21,5 @@ pub use mathfunction::MathOverloads;
 pub use one_bits_iter::OneBitsIter;
 pub use overload_set::{OverloadSet, SetCall, narrow};
 pub use regular::{ConclusionRule, Regular};
-pub use rule::{Conclusion, Rule};
+pub use rule::{Conclusion, MissingSpecialType, Rule};
 pub use scalar_set::{ScalarMembers, ScalarSet};

@@ -1,12 +1,15 @@
 //! Rules: the types that a builtin function takes, and what it gives for them.
-ghost use Rattle.std.specs.Prelude.{◌≡◌, ◌⊎◌, IfOk, IsTrue};
+ghost use Rattle.std.specs.Prelude.{◌≡◌, ◌⊎◌, IfOk, IsTrue, OnErr, None, Some};
+ghost use Rattle.shader_overloads.specs.Resolutions.{resolution_of};
 ghost use Rattle.shader_overloads.specs.Rules.{is_scalar_or_vector, vector_size};
 
 use crate::ConstructorSize;
 use shader_ir::{
-    Items, MathFunction, PredeclaredType, Scalar, TypeInner, TypeResolution, VectorSize,
+    Items, MathFunction, PredeclaredType, Scalar, SpecialTypes, TypeInner, TypeResolution,
+    VectorSize,
 };
 use std::alloc::{AllocError, Global};
+use thiserror::Error;
 
 /// A rule of a builtin function.
 #[derive(Drop)]
@@ -44,6 +47,29 @@ impl Conclusion {
         })
     }
 
+    /// The result's type in a module of these special types.
+    ///
+    /// # Errors
+    ///
+    /// The module has not registered the type that the conclusion needs.
+    pub fn into_resolution(
+        self,
+        special_types: &SpecialTypes,
+    ) -> Result<TypeResolution, MissingSpecialType>
+        ensures found { IfOk result (λ resolution. resolution_of special_types.now self ≡ Some resolution) }
+        ensures missing { OnErr result (resolution_of special_types.now self ≡ None) }
+    {
+        match self {
+            Conclusion::Value(inner) => Ok(TypeResolution::Value(inner)),
+            Conclusion::Predeclared(predeclared) => {
+                match special_types.predeclared_types.get(&predeclared) {
+                    Some(handle) => Ok(TypeResolution::Handle(*handle)),
+                    None => Err(MissingSpecialType),
+                }
+            }
+        }
+    }
+
     /// The same conclusion again.
     pub fn copy(&self, alloc: Global) -> Result<Conclusion, AllocError>
         ensures { IfOk result (λ conclusion. conclusion ≡ self.now) }
@@ -54,6 +80,11 @@ impl Conclusion {
         }
     }
 }
+
+/// A conclusion needs a type that the module has not registered.
+#[derive(Debug, Drop, Error)]
+#[error("Special type is not registered within the module")]
+pub struct MissingSpecialType;
 
 /// The size of a vector, and none of a scalar.
 fn vector_size(size: ConstructorSize) -> Option<VectorSize>

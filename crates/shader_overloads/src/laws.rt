@@ -1,0 +1,13 @@
+//! Laws of rules and of the sets of them, each the contract of a function that does nothing.
+ghost use Rattle.shader_overloads.specs.AcceptanceLaws.{AcceptsByKey, AcceptsCanonicalForms};
+ghost use Rattle.shader_overloads.specs.Remaining.{accepts, list_accepts};
+
+/// Whether a rule accepts a type depends on the type's key alone, in regular sets and in lists.
+///
+/// So a pointer to a scalar or a vector is accepted exactly where the value pointer that stands for it is.
+pub fn acceptance_is_by_key()
+    ensures canonical { AcceptsCanonicalForms accepts }
+    ensures canonical_in_lists { AcceptsCanonicalForms list_accepts }
+    ensures key { AcceptsByKey accepts }
+    ensures key_in_lists { AcceptsByKey list_accepts }
+{}
