@@ -16,8 +16,10 @@ use Rattle.shader_ir.specs.declared.image.ImageDimension.TheVariants.{D1, D2, D3
 use Rattle.shader_ir.specs.declared.module.Constant.{Constant}
 use Rattle.shader_ir.specs.declared.module.GlobalVariable.{GlobalVariable}
 use Rattle.shader_ir.specs.declared.module.Override.{Override}
+use Rattle.shader_ir.specs.declared.module.PredeclaredType.{PredeclaredType}
 use Rattle.shader_ir.specs.declared.operators.BinaryOperator.{BinaryOperator}
 use Rattle.shader_ir.specs.declared.operators.BinaryOperator.TheVariants as operator
+use Rattle.shader_ir.specs.declared.operators.MathFunction.{MathFunction}
 use Rattle.shader_ir.specs.declared.operators.RelationalFunction.{RelationalFunction}
 use Rattle.shader_ir.specs.declared.operators.RelationalFunction.TheVariants as relational
 use Rattle.shader_ir.specs.declared.operators.SwizzleComponent.{SwizzleComponent}
@@ -48,7 +50,8 @@ use Rattle.shader_resolve.specs.Images.{bool_scalar, texel, extent, gather_type,
 use Rattle.shader_resolve.specs.Operations.{test_type, logical_type, Product, AsLeft, AsRight, Made, NoProduct, product_of, product_type, cast_type, product, left_type}
 use Rattle.shader_resolve.specs.Outcome.{Refusal, IncompatibleOperands, InvalidAccess, InvalidSubAccess, Outcome, Given, Refused, Meets, at_inner}
 use Rattle.shader_resolve.specs.Part.{checked, member_part, indexed_member, part, part_value, part_pointer, part_outcome, pointed_outcome, lifted}
-use Rattle.shader_resolve.specs.Rows.{Row, Plain, One, Two, constant_type, override_type, argument_type, variable_type, global_type, local_type, result_type, call_type, special_type, splat_type, swizzle_type, pointed_type, load_type, matrix_type, tile_type, pointed_scalar, on_shape, binary_row, relational_row, sample_row, query_row, row}
+use Rattle.shader_resolve.specs.Rows.{Row, Plain, One, Two, constant_type, override_type, argument_type, variable_type, global_type, local_type, result_type, call_type, special_type, splat_type, swizzle_type, pointed_type, load_type, matrix_type, tile_type, pointed_scalar, on_shape, binary_row, relational_row, sample_row, query_row, math_row, row}
+use Rattle.shader_resolve.proofs.BuiltinLemmas.{first-fits}
 use Rattle.shader_resolve.proofs.KeyLemmas.{at_place, found_below, inner_fits, member_below}
 
 -- what holds of each item holds of the one at a place, where there is one
@@ -298,9 +301,9 @@ module _ (types : List «Type») where
   result-fits (Some result) lt = lt
   result-fits None lt = tt
 
-  call-fits : (found : Option Function) → IfSome found (λ function. IfSome function.result (λ result. result.ty < length types)) → OutcomeFits (call_type found)
-  call-fits (Some function) lt = result-fits function.result lt
-  call-fits None lt = tt
+  result_of-fits : (found : Option Function) → IfSome found (λ function. IfSome function.result (λ result. result.ty < length types)) → OutcomeFits (call_type found)
+  result_of-fits (Some function) lt = result-fits function.result lt
+  result_of-fits None lt = tt
 
   special-fits : (found : Option ℕ) → IfSome found (λ ty. ty < length types) → OutcomeFits (special_type found)
   special-fits (Some ty) lt = lt
@@ -325,6 +328,13 @@ module _ (types : List «Type») where
   follows-fits Post result told_fits (Two left right answer) fits (Ok first, posted, (Ok second, more, meets)) =
       meets-fits result (answer first.now second.now) (fits first.now second.now (told_fits left (Ok first) posted) (told_fits right (Ok second) more)) meets
 
+call-fits : (context : Context) → All (λ (entry : PredeclaredType × ℕ). IsType context entry.1) context.special_types.predeclared_types → (fun : MathFunction) (arg : ℕ) (arg1 : Option ℕ) → RowFits context.types (math_row context fun arg arg1)
+call-fits context held fun arg None = λ told fits. at_inner-fits context.types (inner_of context.types told) _ (λ inner. first-fits context.types context.special_types held _ fun)
+call-fits context held fun arg (Some arg1) = λ first second first_fits second_fits.
+    at_inner-fits context.types (inner_of context.types first) _ (λ first_inner.
+    at_inner-fits context.types (inner_of context.types second) _ (λ second_inner.
+    first-fits context.types context.special_types held _ fun))
+
 -- each row answers what is in the arena
 pub row-fits : (context : Context) → IsBackward context.types → TypesInRange context → (expression : Expression) → IsInRange context expression → RowFits context.types (row context expression)
 row-fits context backward held (form.Literal literal) h = (bare context.types, tt)
@@ -348,9 +358,9 @@ row-fits context backward held (form.Binary op left right) h = binary-fits conte
 row-fits context backward held (form.Select condition accept reject) h = λ told fits. fits
 row-fits context backward held (form.Derivative axis ctrl expr) h = λ told fits. fits
 row-fits context backward held (form.Relational fun argument) h = relational-fits context.types backward fun argument
-row-fits context backward held (form.Math fun arg arg1 arg2 arg3) h = tt
+row-fits context backward held (form.Math fun arg arg1 arg2 arg3) h = call-fits context held.predeclared fun arg arg1
 row-fits context backward held (form.As expr kind convert) h = shape-fits context.types backward expr (cast_type kind convert) (λ inner h. cast-fits context.types kind convert inner)
-row-fits context backward held (form.CallResult function) h = call-fits context.types (slice_get context.functions function) (listed (λ (function : Function). IsResultType context function.result) context.functions function held.results)
+row-fits context backward held (form.CallResult function) h = result_of-fits context.types (slice_get context.functions function) (listed (λ (function : Function). IsResultType context function.result) context.functions function held.results)
 row-fits context backward held (form.AtomicResult ty comparison) h = h
 row-fits context backward held (form.WorkGroupUniformLoadResult ty) h = h
 row-fits context backward held (form.ArrayLength array) h = (bare context.types, tt)

@@ -17,6 +17,8 @@ use Rattle.shader_ir.specs.declared.expression.ImageQuery.{ImageQuery}
 use Rattle.shader_ir.specs.declared.expression.ImageQuery.TheVariants as query
 use Rattle.shader_ir.specs.declared.operators.BinaryOperator.{BinaryOperator}
 use Rattle.shader_ir.specs.declared.operators.BinaryOperator.TheVariants as operator
+use Rattle.shader_ir.specs.declared.«module».SpecialTypes.{SpecialTypes}
+use Rattle.shader_ir.specs.declared.operators.MathFunction.{MathFunction}
 use Rattle.shader_ir.specs.declared.operators.RelationalFunction.{RelationalFunction}
 use Rattle.shader_ir.specs.declared.operators.RelationalFunction.TheVariants as relational
 use Rattle.shader_ir.specs.declared.expression.Expression.{Expression}
@@ -24,13 +26,15 @@ use Rattle.shader_ir.specs.declared.expression.Expression.TheVariants as form
 use Rattle.shader_resolve.specs.declared.resolve.access.Part.{Part}
 use Rattle.shader_resolve.specs.declared.resolve.access.NoPart.{NoPart}
 use Rattle.shader_resolve.specs.declared.resolve.access.NoPart.TheVariants.{PastEnd, NotIndexable}
+use Rattle.shader_resolve.specs.Builtins.{first_conclusion, math_of_two, rules_after_one, rules_after_two}
 use Rattle.shader_resolve.specs.Context.{Context}
 use Rattle.shader_resolve.specs.Outcome.{Refusal, Outcome, Given, at_inner, at_shape}
 use Rattle.shader_resolve.specs.Part.{part, part_outcome, part_pointer, pointed_outcome, lifted}
 use Rattle.shader_resolve.specs.Images.{gather_type, sample_type, extent_type}
 use Rattle.shader_resolve.specs.Operations.{test_type, logical_type, cast_type, Product, AsLeft, AsRight, Made, NoProduct, product_of, product_type, product}
-use Rattle.shader_resolve.specs.Rows.{Row, Plain, One, Two, splat_type, swizzle_type, pointed_type, load_type, found_scalar, matrix_type, tile_type, on_shape, binary_row, relational_row, sample_row, query_row, row}
+use Rattle.shader_resolve.specs.Rows.{Row, Plain, One, Two, splat_type, swizzle_type, pointed_type, load_type, found_scalar, matrix_type, tile_type, on_shape, binary_row, relational_row, sample_row, query_row, math_row, row}
 use Rattle.shader_resolve.specs.Typing.{outcome_key}
+use Rattle.shader_resolve.proofs.BuiltinLemmas.{one-canonical, first-canonical, second-canonical}
 use Rattle.shader_resolve.proofs.TypingLemmas.{ReadsCanonical, canonical_cases, refuses_pointers, reads_pointers, at_same_keys}
 
 module _ (types : List «Type») where
@@ -180,9 +184,28 @@ module _ (types : List «Type») where
   sample-respects image (Some component) = on_shape-respects image (gather_type image) (gather-reads image)
   sample-respects image None = on_shape-respects image (sample_type image) (sample-reads image)
 
+  one-reads : (special : SpecialTypes) (fun : MathFunction) → ReadsCanonical types (λ inner. first_conclusion special (rules_after_one types fun inner))
+  one-reads special fun inner = ap (λ rules. outcome_key types (first_conclusion special rules)) (one-canonical types fun inner)
+
+  abbrev after_two : SpecialTypes → MathFunction → TypeInner → TypeInner → Outcome
+  after_two special fun first second = first_conclusion special (rules_after_two types fun first second)
+
+  math-respects : (special : SpecialTypes) (fun : MathFunction) (left right : ℕ) → Respects (Two left right (math_of_two types special fun))
+  math-respects special fun left right first second third fourth left_same right_same =
+      at_shape-keys first _ _ (λ left_inner.
+      at_same_keys types (λ right_inner. after_two special fun left_inner right_inner)
+      (λ right_inner. ap (λ rules. outcome_key types (first_conclusion special rules)) (second-canonical types fun left_inner right_inner)) third fourth right_same)
+      ∙ at_same_keys types (λ left_inner. at_shape types fourth (λ right_inner. after_two special fun left_inner right_inner))
+      (λ left_inner. at_shape-keys fourth _ _ (λ right_inner. ap (λ rules. outcome_key types (first_conclusion special rules)) (first-canonical types fun left_inner right_inner))) first second left_same
+
   query-respects : (image : ℕ) (asked : ImageQuery) → Respects (query_row types image asked)
   query-respects image (query.Size level) = on_shape-respects image (extent_type image) (extent-reads image)
   query-respects image asked = tt
+
+call-respects : (context : Context) (fun : MathFunction) (arg : ℕ) (arg1 : Option ℕ) → Respects context.types (math_row context fun arg arg1)
+call-respects context fun arg None =
+    on_shape-respects context.types arg (λ inner. first_conclusion context.special_types (rules_after_one context.types fun inner)) (one-reads context.types context.special_types fun)
+call-respects context fun arg (Some arg1) = math-respects context.types context.special_types fun arg arg1
 
 -- each row gives one key at equal keys
 pub row-respects : (context : Context) (expression : Expression) → Respects context.types (row context expression)
@@ -199,6 +222,7 @@ row-respects context (form.Binary op left right) = binary-respects context.types
 row-respects context (form.Select condition accept reject) = copy-respects context.types accept
 row-respects context (form.Derivative axis ctrl expr) = copy-respects context.types expr
 row-respects context (form.Relational fun argument) = relational-respects context.types fun argument
+row-respects context (form.Math fun arg arg1 arg2 arg3) = call-respects context fun arg arg1
 row-respects context (form.As expr kind convert) = on_shape-respects context.types expr (cast_type kind convert) (cast-reads context.types kind convert)
 row-respects context (form.CooperativeLoad columns rows role tile) =
     on_shape-respects context.types tile.pointer (tile_type tile.pointer context.types columns rows role) (tile-reads context.types tile.pointer columns rows role)

@@ -10,6 +10,7 @@ use Rattle.shader_ir.specs.declared.module.Constant.{Constant}
 use Rattle.shader_ir.specs.declared.module.GlobalVariable.{GlobalVariable}
 use Rattle.shader_ir.specs.declared.module.Module.{Module}
 use Rattle.shader_ir.specs.declared.module.Override.{Override}
+use Rattle.shader_ir.specs.declared.module.PredeclaredType.{PredeclaredType}
 use Rattle.shader_ir.specs.declared.module.SpecialTypes.{SpecialTypes}
 use Rattle.shader_ir.specs.declared.types.«Type».{«Type»}
 
@@ -67,3 +68,4 @@ module _ (context : Context) where
     pub arguments : All (λ (argument : FunctionArgument). IsType argument.ty) context.arguments
     pub ray_intersection : IfSome context.special_types.ray_intersection IsType
     pub ray_vertex_return : IfSome context.special_types.ray_vertex_return IsType
+    pub predeclared : All (λ (entry : PredeclaredType × ℕ). IsType entry.1) context.special_types.predeclared_types

@@ -35,11 +35,6 @@ EachAsked Pre (Two left right answer) = Pre left × Pre right
 abbrev pub FitsTold : List «Type» → Told → Type 0
 FitsTold types told = IfOk told (λ resolution. FitsTypes types resolution.now)
 
--- the expression is no Math, whose row is still open
-abbrev pub IsNoMath : Expression → Type 0
-IsNoMath (form.Math fun arg arg1 arg2 arg3) = ⊥
-IsNoMath _ = Unit {0}
-
 -- the forms that look into a type or through a pointer
 abbrev pub IsAccessing : Expression → Type 0
 IsAccessing (form.Access base index) = Unit {0}
@@ -89,6 +84,7 @@ IsAsking (form.Binary op left right) = Unit {0}
 IsAsking (form.Select condition accept reject) = Unit {0}
 IsAsking (form.Derivative axis ctrl expr) = Unit {0}
 IsAsking (form.Relational fun argument) = Unit {0}
+IsAsking (form.Math fun arg arg1 arg2 arg3) = Unit {0}
 IsAsking (form.As expr kind convert) = Unit {0}
 IsAsking (form.CooperativeMultiplyAdd a b c) = Unit {0}
 IsAsking _ = ⊥

@@ -1,3 +1,4 @@
+pub mod Builtins
 pub mod Context
 pub mod Follows
 pub mod Images

@@ -15,6 +15,7 @@ use Rattle.shader_ir.specs.declared.module.GlobalVariable.{GlobalVariable}
 use Rattle.shader_ir.specs.declared.module.Override.{Override}
 use Rattle.shader_ir.specs.declared.operators.BinaryOperator.{BinaryOperator}
 use Rattle.shader_ir.specs.declared.operators.BinaryOperator.TheVariants as operator
+use Rattle.shader_ir.specs.declared.operators.MathFunction.{MathFunction}
 use Rattle.shader_ir.specs.declared.operators.RelationalFunction.{RelationalFunction}
 use Rattle.shader_ir.specs.declared.operators.RelationalFunction.TheVariants as relational
 use Rattle.shader_ir.specs.declared.operators.SwizzleComponent.{SwizzleComponent}
@@ -32,6 +33,7 @@ use Rattle.shader_ir.specs.declared.types.TypeInner.TheVariants as type
 use Rattle.shader_ir.specs.declared.proc.type_resolution.TypeResolution.{TypeResolution}
 use Rattle.shader_ir.specs.declared.proc.type_resolution.TypeResolution.TheVariants.{Handle, Value}
 use Rattle.shader_ir.specs.Key.{found_inner}
+use Rattle.shader_resolve.specs.Builtins.{math_of_one, math_of_two}
 use Rattle.shader_resolve.specs.Context.{Context}
 use Rattle.shader_resolve.specs.Images.{scalar, bool_scalar, u32_scalar, i32_scalar, f32_scalar, extent_type, gather_type, sample_type}
 use Rattle.shader_resolve.specs.Operations.{cast_type, left_type, product, test_type}
@@ -170,7 +172,12 @@ module _ (types : List «Type») where
   query_row image (query.Size level) = on_shape image (extent_type image)
   query_row image _ = Plain (scalar_value u32_scalar)
 
--- the row of an expression; that of Math is still open, and no result meets what stands here
+-- a call of a builtin rests on its first two arguments alone
+abbrev pub math_row : Context → MathFunction → ℕ → Option ℕ → Row
+math_row context fun arg None = One arg (math_of_one context.types context.special_types fun)
+math_row context fun arg (Some arg1) = Two arg arg1 (math_of_two context.types context.special_types fun)
+
+-- the row of an expression
 abbrev pub row : Context → Expression → Row
 row context (form.Literal literal) = Plain (scalar_value (literal_scalar literal))
 row context (form.Constant constant) = Plain (constant_type (slice_get context.constants constant))
@@ -193,7 +200,7 @@ row context (form.Binary op left right) = binary_row context.types op left right
 row context (form.Select condition accept reject) = as_operand accept
 row context (form.Derivative axis ctrl expr) = as_operand expr
 row context (form.Relational fun argument) = relational_row context.types fun argument
-row context (form.Math fun arg arg1 arg2 arg3) = Plain (Refused NoSuchHandle)
+row context (form.Math fun arg arg1 arg2 arg3) = math_row context fun arg arg1
 row context (form.As expr kind convert) = on_shape context.types expr (cast_type kind convert)
 row context (form.CallResult function) = Plain (call_type (slice_get context.functions function))
 row context (form.AtomicResult ty comparison) = Plain (Given (Handle ty))

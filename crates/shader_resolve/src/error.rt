@@ -4,6 +4,7 @@ ghost use Rattle.shader_resolve.specs.Outcome.{refusal_of, words_of};
 
 use shader_arena::Handle;
 use shader_ir::mark;
+use shader_overloads::MissingSpecialType;
 use std::alloc::{AllocError, Global};
 use thiserror::Error;
 
@@ -64,6 +65,17 @@ impl From<AllocError> for ResolveError {
 
     fn from(_error: AllocError) -> ResolveError {
         ResolveError::OutOfMemory
+    }
+}
+
+impl From<MissingSpecialType> for ResolveError {
+    ghost use Rattle.std.specs.Prelude.{◌≡◌};
+    ghost use Rattle.shader_resolve.specs.declared.error.ResolveError.TheVariants as errors;
+
+    ghost from_gives = { λ _ e. e ≡ errors.MissingSpecialType };
+
+    fn from(_error: MissingSpecialType) -> ResolveError {
+        ResolveError::MissingSpecialType
     }
 }
 

@@ -1,5 +1,6 @@
 //! The type of an expression, by its row of the table of types.
 mod access;
+mod builtins;
 mod images;
 mod leaves;
 mod operations;
@@ -13,8 +14,8 @@ use operations::{cast, component_test};
 use pointers::{splat, swizzle};
 use shader_arena::Handle;
 use shader_ir::{
-    BinaryOperator, Expression, ImageQuery, RelationalFunction, Scalar, TypeInner, TypeResolution,
-    mark,
+    BinaryOperator, Expression, ImageQuery, MathFunction, RelationalFunction, Scalar, TypeInner,
+    TypeResolution, mark,
 };
 use std::alloc::Global;
 use values::scalar_type;
@@ -26,8 +27,8 @@ impl<'a> ResolveContext<'a> {
     ghost use Rattle.shader_ir.specs.Key.{Key, inner_of, FitsTypes};
     ghost use Rattle.shader_ir.specs.TypeTree.{IsBackward, PointsBelow};
     ghost use Rattle.shader_resolve.specs.Context.{IsInRange, TypesInRange};
-    ghost use Rattle.shader_resolve.specs.Rows.{row};
-    ghost use Rattle.shader_resolve.specs.Follows.{EachAsked, FitsTold, Follows, IsAccessing, IsNoMath, IsOfImage, IsOperation};
+    ghost use Rattle.shader_resolve.specs.Rows.{math_row, row};
+    ghost use Rattle.shader_resolve.specs.Follows.{EachAsked, FitsTold, Follows, IsAccessing, IsOfImage, IsOperation};
     ghost use Rattle.shader_resolve.specs.Typing.{HasKey, TellsKeys, typing};
 
     /// The type of an expression, where `past` tells those of its operands. Only the operands that the type rests on are asked.
@@ -40,7 +41,6 @@ impl<'a> ResolveContext<'a> {
         F: Fn(Handle<mark::Expression>) -> Result<&'a TypeResolution, ResolveError>,
         requires backward { IsBackward self.now.types }
         requires in_range { IsInRange self.now expr.now }
-        requires no_math { IsNoMath expr.now }
         requires asked { EachAsked (F.pre past) (row self.now expr.now) }
         requires told_fits { (operand : _) (told : _) → F.post past operand told → FitsTold self.now.types told }
         ensures follows { Follows (F.post past) result (row self.now expr.now) }
@@ -55,7 +55,6 @@ impl<'a> ResolveContext<'a> {
         F: Fn(Handle<mark::Expression>) -> Result<&'a TypeResolution, ResolveError>,
         requires backward { IsBackward self.now.types }
         requires in_range { IsInRange self.now expr.now }
-        requires no_math { IsNoMath expr.now }
         requires asked { EachAsked (F.pre past) (row self.now expr.now) }
         requires told_fits { (operand : _) (told : _) → F.post past operand told → FitsTold self.now.types told }
         ensures { Follows (F.post past) result (row self.now expr.now) }
@@ -82,6 +81,9 @@ impl<'a> ResolveContext<'a> {
             | Expression::CooperativeMultiplyAdd { .. } => {
                 self.resolve_operation(alloc, expr, past)
             }
+            Expression::Math { fun, arg, arg1, .. } => self.resolve_math(
+                alloc, *fun, *arg, *arg1, past,
+            ),
             _ => unreachable!(),
         }
     }
@@ -191,6 +193,28 @@ impl<'a> ResolveContext<'a> {
                 convert,
             } => cast(alloc, *kind, *convert, self.inner(past(*operand)?)),
             _ => unreachable!(),
+        }
+    }
+
+    /// A call of a builtin, which asks its first argument and, where there is one, its second.
+    fn resolve_math<F>(
+        &self,
+        alloc: Global,
+        fun: MathFunction,
+        arg: Handle<mark::Expression>,
+        arg1: Option<Handle<mark::Expression>>,
+        past: F,
+    ) -> Resolved
+    where
+        F: Fn(Handle<mark::Expression>) -> Result<&'a TypeResolution, ResolveError>,
+        requires backward { IsBackward self.now.types }
+        requires asked { EachAsked (F.pre past) (math_row self.now fun arg arg1) }
+        requires told_fits { (operand : _) (told : _) → F.post past operand told → FitsTold self.now.types told }
+        ensures { Follows (F.post past) result (math_row self.now fun arg arg1) }
+    {
+        match arg1 {
+            None => self.math_of_one(alloc, fun, past(arg)?),
+            Some(arg1) => self.math_of_two(alloc, fun, past(arg)?, past(arg1)?),
         }
     }
 

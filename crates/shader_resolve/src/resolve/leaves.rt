@@ -44,14 +44,13 @@ fn special(ty: Option<Handle<mark::Type>>) -> Resolved
 impl<'a> ResolveContext<'a> {
     ghost use Rattle.std.specs.Prelude.{◌≡◌, ◌<◌, length, slice_get};
     ghost use Rattle.shader_resolve.specs.Context.{IsInRange};
-    ghost use Rattle.shader_resolve.specs.Follows.{IsLeafAnswer, IsNoMath};
+    ghost use Rattle.shader_resolve.specs.Follows.{IsLeafAnswer};
     ghost use Rattle.shader_resolve.specs.Outcome.{Given, Meets};
     ghost use Rattle.shader_resolve.specs.Rows.{argument_type, call_type, global_type, local_type, row};
 
     /// The type of an expression whose form asks no operand, if it is of one.
     pub(super) fn leaf_type(&self, expr: &Expression) -> Option<Resolved>
-        requires in_range { IsInRange self.now expr.now }
-        requires no_math { IsNoMath expr.now }
+        requires { IsInRange self.now expr.now }
         ensures { IsLeafAnswer result expr.now (row self.now expr.now) }
     {
         Some(match expr {
