@@ -99,6 +99,33 @@ fn accesses(rt: HostRuntime) -> Result<(), Fail> {
     let columns = [matrix(VectorSize::Bi, VectorSize::Tri, Scalar::F32)];
     let column = Ok(vector(VectorSize::Tri, Scalar::F32));
     expects(&rt, &context, alloc, &columns, &first, column)?;
+    let by_value = ResolveError::InvalidAccess {
+        expr: at(0),
+        indexed: false,
+    };
+    expects(&rt, &context, alloc, &[of(5)], &computed, Err(by_value))?;
+    let no_parts = ResolveError::InvalidSubAccess {
+        ty: Handle::from_index(3),
+        indexed: true,
+    };
+    expects(
+        &rt,
+        &context,
+        alloc,
+        &[pointer(3, space)],
+        &first,
+        Err(no_parts),
+    )?;
+    expects(
+        &rt,
+        &context,
+        alloc,
+        &[pointer(5, space)],
+        &first,
+        Ok(pointer(0, space)),
+    )?;
+    let component = Ok(scalar(Scalar::F32));
+    expects(&rt, &context, alloc, &[of(1)], &computed, component)?;
     Ok(())
 }
 

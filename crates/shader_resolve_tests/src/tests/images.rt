@@ -2,8 +2,8 @@
 use crate::tests::rows::{at, expects, image, module, of, scalar, vector};
 use shader_arena::Arena;
 use shader_ir::{
-    Expression, ImageClass, ImageDimension, ImageQuery, SampleLevel, Scalar, StorageAccess,
-    StorageFormat, SwizzleComponent, VectorSize,
+    Expression, ImageClass, ImageDimension, ImageQuery, SampleLevel, Scalar, ScalarKind,
+    StorageAccess, StorageFormat, SwizzleComponent, VectorSize,
 };
 use shader_resolve::{ResolveContext, ResolveError};
 use std::test::Fail;
@@ -89,5 +89,45 @@ fn images(rt: HostRuntime) -> Result<(), Fail> {
         query: ImageQuery::NumLevels,
     };
     expects(&rt, &context, alloc, &[], &levels, Ok(scalar(Scalar::U32)))?;
+    let class = ImageClass::Sampled {
+        kind: ScalarKind::Sint,
+        multi: false,
+    };
+    let sampled = [image(ImageDimension::Cube, class)];
+    expects(
+        &rt,
+        &context,
+        alloc,
+        &sampled,
+        &gather,
+        Ok(vector(quad, Scalar::I32)),
+    )?;
+    expects(
+        &rt,
+        &context,
+        alloc,
+        &sampled,
+        &load,
+        Ok(vector(quad, Scalar::I32)),
+    )?;
+    let two = Ok(vector(VectorSize::Bi, Scalar::U32));
+    expects(&rt, &context, alloc, &sampled, &size, two)?;
+    let outside = [image(ImageDimension::D1, ImageClass::External)];
+    expects(
+        &rt,
+        &context,
+        alloc,
+        &outside,
+        &load,
+        Ok(vector(quad, Scalar::F32)),
+    )?;
+    expects(
+        &rt,
+        &context,
+        alloc,
+        &outside,
+        &size,
+        Ok(scalar(Scalar::U32)),
+    )?;
     Ok(())
 }

@@ -250,3 +250,44 @@ fn accepts_an_entry_point_that_calls(rt: HostRuntime) -> Result<(), Fail> {
     assert!(rt; check_module(&module) == Ok(()));
     Ok(())
 }
+
+/// A global expression has no locals, and no function is earlier.
+#[test]
+fn names_faults_of_global_expressions(rt: HostRuntime) -> Result<(), Fail> {
+    let alloc = rt.alloc();
+    let mut local = empty_module(alloc);
+    assert!(rt; local.global_expressions.len() < 1000);
+    local
+        .global_expressions
+        .append(Expression::LocalVariable(Handle::from_index(0)))?;
+    assert!(rt; check_module(&local) == Err(ModuleFault::HandleOutOfRange));
+    let mut called = empty_module(alloc);
+    add_function(
+        &rt,
+        &mut called,
+        function(alloc, Vec::new(alloc), Vec::new(alloc)),
+    )?;
+    assert!(rt; called.global_expressions.len() < 1000);
+    called
+        .global_expressions
+        .append(Expression::CallResult(Handle::from_index(0)))?;
+    assert!(rt; check_module(&called) == Err(ModuleFault::CalleeNotEarlier));
+    Ok(())
+}
+
+/// A call of a function that isn't there.
+#[test]
+fn names_a_callee_that_is_not_there(rt: HostRuntime) -> Result<(), Fail> {
+    let alloc = rt.alloc();
+    let mut module = empty_module(alloc);
+    let body = one_statement(alloc, call(alloc))?;
+    let mut entry_points = Vec::new(alloc);
+    entry_points.push(EntryPoint {
+        name: Name::from("main".to_string(alloc)?),
+        stage: ShaderStage::Compute,
+        function: function(alloc, Vec::new(alloc), body),
+    })?;
+    module.entry_points = Items::from(entry_points);
+    assert!(rt; check_module(&module) == Err(ModuleFault::HandleOutOfRange));
+    Ok(())
+}

@@ -2,11 +2,21 @@
 use crate::tests::rows::{at, expects, matrix, module, of, scalar, vector};
 use shader_arena::Arena;
 use shader_ir::{
-    BinaryOperator, DerivativeAxis, DerivativeControl, Expression, RelationalFunction, Scalar,
-    ScalarKind, UnaryOperator, VectorSize,
+    BinaryOperator, CooperativeRole, CooperativeSize, DerivativeAxis, DerivativeControl,
+    Expression, RelationalFunction, Scalar, ScalarKind, TypeInner, TypeResolution, UnaryOperator,
+    VectorSize,
 };
 use shader_resolve::{ResolveContext, ResolveError};
 use std::test::Fail;
+
+fn cooperative(columns: CooperativeSize, rows: CooperativeSize) -> TypeResolution {
+    TypeResolution::Value(TypeInner::CooperativeMatrix {
+        columns,
+        rows,
+        scalar: Scalar::F32,
+        role: CooperativeRole::C,
+    })
+}
 
 #[test]
 fn products_and_conversions(rt: HostRuntime) -> Result<(), Fail> {
@@ -114,6 +124,20 @@ fn products_and_conversions(rt: HostRuntime) -> Result<(), Fail> {
         argument: at(9),
     };
     expects(&rt, &context, alloc, &[], &all, Ok(scalar(Scalar::BOOL)))?;
+    let truth = Ok(scalar(Scalar::BOOL));
+    expects(&rt, &context, alloc, &[scalar(Scalar::BOOL)], &both, truth)?;
+    expects(
+        &rt,
+        &context,
+        alloc,
+        &[of(2)],
+        &less,
+        Ok(scalar(Scalar::BOOL)),
+    )?;
+    let (eight, sixteen) = (CooperativeSize::Eight, CooperativeSize::Sixteen);
+    let tiles = [cooperative(eight, sixteen), cooperative(sixteen, eight)];
+    let tile = Ok(cooperative(sixteen, sixteen));
+    expects(&rt, &context, alloc, &tiles, &product, tile)?;
     Ok(())
 }
 

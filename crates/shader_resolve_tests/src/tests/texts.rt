@@ -1,5 +1,6 @@
 //! The texts of errors.
 use shader_arena::Handle;
+use shader_overloads::MissingSpecialType;
 use shader_resolve::ResolveError;
 use std::alloc::Global;
 use std::process::Abort;
@@ -82,5 +83,6 @@ fn texts_of_words(rt: HostRuntime) -> Result<(), Fail> {
         builtin,
         "Call to builtin Max has incorrect or ambiguous arguments",
     )?;
+    assert!(rt; ResolveError::from(MissingSpecialType) == ResolveError::MissingSpecialType);
     expects(&rt, alloc, ResolveError::OutOfMemory, "OutOfMemory")
 }
