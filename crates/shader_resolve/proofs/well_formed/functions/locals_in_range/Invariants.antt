@@ -1,0 +1,9 @@
+use Rattle.std.proofs.Common.{◌≡◌}
+use Rattle.shader_resolve.specs.WellFormed.{every, every_entry, local_in_range}
+use Rattle.shader_resolve.proofs.well_formed.functions.locals_in_range.Given as goal
+
+abbrev pub invariant-loop-variable : goal.invariant-loop-variable
+invariant-loop-variable l =
+    (goal.iterator-loop-variable).can_next l.variable-iterator
+    × (goal.iterator-loop-variable).is_finite l.variable-iterator
+    × (every_entry (λ place variable. local_in_range l.«module» l.function variable) l.variable-iterator ≡ every (λ place variable. local_in_range l.«module» l.function variable) l.function.local_variables)

@@ -1,0 +1,95 @@
+-- When a result follows a row, at what its operands are told to be.
+use denote.Ref.{Bor}
+use Rattle.std.specs.Prelude.{Option, Some, None, ℕ, ◌≡◌, List, Result, Err, IfOk, MatchResult}
+use Rattle.shader_ir.specs.declared.expression.Expression.{Expression}
+use Rattle.shader_ir.specs.declared.expression.Expression.TheVariants as form
+use Rattle.shader_ir.specs.declared.types.«Type».{«Type»}
+use Rattle.shader_ir.specs.declared.proc.type_resolution.TypeResolution.{TypeResolution}
+use Rattle.shader_ir.specs.Key.{FitsTypes}
+use Rattle.shader_resolve.specs.declared.error.ResolveError.{ResolveError}
+use Rattle.shader_resolve.specs.Outcome.{Meets}
+use Rattle.shader_resolve.specs.Rows.{Row, Plain, One, Two}
+
+-- what a closure answers of an operand
+abbrev pub Told : Type 0
+Told = Result (Bor TypeResolution) ResolveError
+
+module _ (Post : ℕ → Told → Type 0) (result : Result TypeResolution ResolveError) where
+  -- the operand is told to be a type from which the rest follows, or an error, which is the result
+  abbrev pub Answered : ℕ → (TypeResolution → Type 0) → Type 0
+  Answered operand Rest = (told : Told) × Post operand told × MatchResult told (λ resolution. Rest resolution.now) (λ failure. result ≡ Err failure)
+
+  -- the result is what the row answers, or the first error of an operand
+  abbrev pub Follows : Row → Type 0
+  Follows (Plain outcome) = Meets result outcome
+  Follows (One operand answer) = Answered operand (λ resolution. Meets result (answer resolution))
+  Follows (Two left right answer) = Answered left (λ first. Answered right (λ second. Meets result (answer first second)))
+
+-- the condition holds of each operand that the row asks
+abbrev pub EachAsked : (ℕ → Type 0) → Row → Type 0
+EachAsked Pre (Plain outcome) = Unit {0}
+EachAsked Pre (One operand answer) = Pre operand
+EachAsked Pre (Two left right answer) = Pre left × Pre right
+
+-- the handles of what is told are in range
+abbrev pub FitsTold : List «Type» → Told → Type 0
+FitsTold types told = IfOk told (λ resolution. FitsTypes types resolution.now)
+
+-- the forms that look into a type or through a pointer
+abbrev pub IsAccessing : Expression → Type 0
+IsAccessing (form.Access base index) = Unit {0}
+IsAccessing (form.AccessIndex base index) = Unit {0}
+IsAccessing (form.Splat size value) = Unit {0}
+IsAccessing (form.Swizzle size vector pattern) = Unit {0}
+IsAccessing (form.Load pointer) = Unit {0}
+IsAccessing (form.CooperativeLoad columns rows role tile) = Unit {0}
+IsAccessing _ = ⊥
+
+-- the forms that ask an image
+abbrev pub IsOfImage : Expression → Type 0
+IsOfImage (form.ImageSample image sampler gather coordinate array_index offset level depth_ref clamp_to_edge) = Unit {0}
+IsOfImage (form.ImageLoad image coordinate array_index sample level) = Unit {0}
+IsOfImage (form.ImageQuery image query) = Unit {0}
+IsOfImage _ = ⊥
+
+-- the forms that compute with their operands
+abbrev pub IsOperation : Expression → Type 0
+IsOperation (form.Unary op expr) = Unit {0}
+IsOperation (form.Binary op left right) = Unit {0}
+IsOperation (form.Select condition accept reject) = Unit {0}
+IsOperation (form.Derivative axis ctrl expr) = Unit {0}
+IsOperation (form.Relational fun argument) = Unit {0}
+IsOperation (form.As expr kind convert) = Unit {0}
+IsOperation (form.CooperativeMultiplyAdd a b c) = Unit {0}
+IsOperation _ = ⊥
+
+-- the result meets a row that asks nothing
+abbrev pub MeetsPlain : Result TypeResolution ResolveError → Row → Type 0
+MeetsPlain result (Plain outcome) = Meets result outcome
+MeetsPlain result _ = ⊥
+
+-- the form is of one of the groups that ask
+abbrev pub IsAsking : Expression → Type 0
+IsAsking (form.Access base index) = Unit {0}
+IsAsking (form.AccessIndex base index) = Unit {0}
+IsAsking (form.Splat size value) = Unit {0}
+IsAsking (form.Swizzle size vector pattern) = Unit {0}
+IsAsking (form.Load pointer) = Unit {0}
+IsAsking (form.CooperativeLoad columns rows role tile) = Unit {0}
+IsAsking (form.ImageSample image sampler gather coordinate array_index offset level depth_ref clamp_to_edge) = Unit {0}
+IsAsking (form.ImageLoad image coordinate array_index sample level) = Unit {0}
+IsAsking (form.ImageQuery image query) = Unit {0}
+IsAsking (form.Unary op expr) = Unit {0}
+IsAsking (form.Binary op left right) = Unit {0}
+IsAsking (form.Select condition accept reject) = Unit {0}
+IsAsking (form.Derivative axis ctrl expr) = Unit {0}
+IsAsking (form.Relational fun argument) = Unit {0}
+IsAsking (form.Math fun arg arg1 arg2 arg3) = Unit {0}
+IsAsking (form.As expr kind convert) = Unit {0}
+IsAsking (form.CooperativeMultiplyAdd a b c) = Unit {0}
+IsAsking _ = ⊥
+
+-- the answer meets a row that asks nothing, and is none for a form of the groups that ask alone
+abbrev pub IsLeafAnswer : Option (Result TypeResolution ResolveError) → Expression → Row → Type 0
+IsLeafAnswer (Some result) expression asked = MeetsPlain result asked
+IsLeafAnswer None expression asked = IsAsking expression

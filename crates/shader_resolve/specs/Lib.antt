@@ -1,0 +1,11 @@
+pub mod Builtins
+pub mod Context
+pub mod Follows
+pub mod Images
+pub mod Operations
+pub mod Outcome
+pub mod Part
+pub mod Rows
+pub mod Statements
+pub mod Typing
+pub mod WellFormed

@@ -1,0 +1,74 @@
+-- What a row of the table answers, and when a result meets it.
+use Rattle.std.specs.Prelude.{ℕ, Bool, ◌≡◌, ◌⊎◌, Option, Some, None, Result, Ok, Err, List, [], string_bytes}
+use Rattle.shader_ir.specs.declared.types.«Type».{«Type»}
+use Rattle.shader_ir.specs.declared.types.TypeInner.{TypeInner}
+use Rattle.shader_ir.specs.declared.proc.type_resolution.TypeResolution.{TypeResolution}
+use Rattle.shader_ir.specs.Key.{inner_of}
+use Rattle.shader_resolve.specs.declared.error.ResolveError.{ResolveError}
+use Rattle.shader_resolve.specs.declared.error.ResolveError.TheVariants as error
+
+-- an error without its words; no error says NoSuchHandle
+pub data Refusal : Type 0 where
+  OutOfBoundsIndex : ℕ → ℕ → Refusal
+  InvalidAccess : ℕ → Bool → Refusal
+  InvalidSubAccess : ℕ → Bool → Refusal
+  InvalidScalar : ℕ → Refusal
+  InvalidVector : ℕ → Refusal
+  InvalidPointer : ℕ → Refusal
+  InvalidImage : ℕ → Refusal
+  FunctionNotDefined : Refusal
+  FunctionReturnsVoid : Refusal
+  IncompatibleOperands : Refusal
+  FunctionArgumentNotFound : ℕ → Refusal
+  MissingSpecialType : Refusal
+  BuiltinArgumentsInvalid : Refusal
+  OutOfMemory : Refusal
+  NoSuchHandle : Refusal
+
+abbrev pub refusal_of : ResolveError → Refusal
+refusal_of (error.OutOfBoundsIndex expr index) = OutOfBoundsIndex expr index
+refusal_of (error.InvalidAccess expr indexed) = InvalidAccess expr indexed
+refusal_of (error.InvalidSubAccess ty indexed) = InvalidSubAccess ty indexed
+refusal_of (error.InvalidScalar expr) = InvalidScalar expr
+refusal_of (error.InvalidVector expr) = InvalidVector expr
+refusal_of (error.InvalidPointer expr) = InvalidPointer expr
+refusal_of (error.InvalidImage expr) = InvalidImage expr
+refusal_of (error.FunctionNotDefined name) = FunctionNotDefined
+refusal_of error.FunctionReturnsVoid = FunctionReturnsVoid
+refusal_of (error.IncompatibleOperands words) = IncompatibleOperands
+refusal_of (error.FunctionArgumentNotFound index) = FunctionArgumentNotFound index
+refusal_of error.MissingSpecialType = MissingSpecialType
+refusal_of (error.BuiltinArgumentsInvalid words) = BuiltinArgumentsInvalid
+refusal_of error.OutOfMemory = OutOfMemory
+
+-- the words of an error, where it has some
+abbrev pub words_of : ResolveError → List ℕ
+words_of (error.FunctionNotDefined name) = string_bytes name
+words_of (error.IncompatibleOperands words) = string_bytes words
+words_of (error.BuiltinArgumentsInvalid words) = string_bytes words
+words_of _ = []
+
+-- a type or a refusal
+pub data Outcome : Type 0 where
+  Given : TypeResolution → Outcome
+  Refused : Refusal → Outcome
+
+-- the outcome of a shape, where there is one
+abbrev pub at_inner : Option TypeInner → (TypeInner → Outcome) → Outcome
+at_inner (Some inner) answer = answer inner
+at_inner None answer = Refused NoSuchHandle
+
+-- the outcome of the shape of a resolution's type
+abbrev pub at_shape : List «Type» → TypeResolution → (TypeInner → Outcome) → Outcome
+at_shape types resolution answer = at_inner (inner_of types resolution) answer
+
+-- the error is the refusal, with some words, or says that memory ran out
+abbrev pub IsRefusal : Refusal → ResolveError → Type 0
+IsRefusal refusal failure = (refusal_of failure ≡ refusal) ⊎ (failure ≡ error.OutOfMemory)
+
+-- the result is what the row answers, or says that memory ran out
+abbrev pub Meets : Result TypeResolution ResolveError → Outcome → Type 0
+Meets (Ok resolution) (Given given) = resolution ≡ given
+Meets (Ok resolution) (Refused refusal) = ⊥
+Meets (Err failure) (Given given) = failure ≡ error.OutOfMemory
+Meets (Err failure) (Refused refusal) = IsRefusal refusal failure

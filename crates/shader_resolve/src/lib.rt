@@ -1,0 +1,11 @@
+//! The type of every expression, and the well-formed module.
+#![tactic(auto)]
+
+mod context;
+mod error;
+mod resolve;
+mod well_formed;
+
+pub use context::ResolveContext;
+pub use error::ResolveError;
+pub use well_formed::{ModuleFault, check_module};

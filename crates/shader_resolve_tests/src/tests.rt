@@ -1,0 +1,9 @@
+mod accesses;
+mod builtins;
+mod images;
+mod leaves;
+mod modules;
+mod operations;
+mod refusals;
+mod rows;
+mod texts;

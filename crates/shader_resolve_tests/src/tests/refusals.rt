@@ -1,0 +1,127 @@
+//! Each growth refused once: the answer is want of memory, and the call made again answers as with memory.
+//!
+//! With ample memory nothing is refused. Where the allocator refuses the Nth request of a test's process, the test passes
+//! still, and prints a line with `was refused`. The first N at which no test prints one is past all requests.
+use crate::resolve_held;
+use crate::tests::rows::{at, empty_module, vector};
+use shader_arena::Arena;
+use shader_ir::{
+    BinaryOperator, Expression, MathFunction, Scalar, ScalarKind, TypeInner, TypeResolution,
+    VectorSize,
+};
+use shader_resolve::{ResolveContext, ResolveError};
+use std::alloc::Global;
+use std::io::Print;
+use std::process::Abort;
+use std::test::Fail;
+
+type Answer = Option<Result<TypeResolution, ResolveError>>;
+
+/// The answer for an expression of a module of nothing, asked again where memory was refused.
+fn answer<R: Abort + Print>(
+    rt: &R,
+    context: &ResolveContext<'_>,
+    alloc: Global,
+    held: &[TypeResolution],
+    expr: &Expression,
+) -> Result<Answer, Fail> {
+    let first = resolve_held(context, alloc, held, expr);
+    if first != Some(Err(ResolveError::OutOfMemory)) {
+        return Ok(first);
+    }
+    println!(rt; "a type was refused")?;
+    Ok(resolve_held(context, alloc, held, expr))
+}
+
+fn is_incompatible(answer: &Answer, words: &str) -> bool {
+    match answer {
+        Some(Err(ResolveError::IncompatibleOperands(told))) => told.as_str() == words,
+        _ => false,
+    }
+}
+
+fn is_invalid(answer: &Answer, words: &str) -> bool {
+    match answer {
+        Some(Err(ResolveError::BuiltinArgumentsInvalid(told))) => told.as_str() == words,
+        _ => false,
+    }
+}
+
+fn call(fun: MathFunction) -> Expression {
+    Expression::Math {
+        fun,
+        arg: at(0),
+        arg1: Some(at(1)),
+        arg2: None,
+        arg3: None,
+    }
+}
+
+#[test]
+fn of_operations(rt: HostRuntime) -> Result<(), Fail> {
+    let module = empty_module(rt.alloc());
+    let locals = Arena::new(rt.alloc());
+    let context = ResolveContext::with_locals(&module, &locals, &[]);
+    let held = [
+        vector(VectorSize::Bi, Scalar::F32),
+        TypeResolution::Value(TypeInner::Sampler { comparison: false }),
+    ];
+    let product = Expression::Binary {
+        op: BinaryOperator::Multiply,
+        left: at(0),
+        right: at(1),
+    };
+    let told = answer(&rt, &context, rt.alloc(), &held, &product)?;
+    assert!(rt; is_incompatible(&told, "Multiply"));
+    let less = Expression::Binary {
+        op: BinaryOperator::Less,
+        left: at(1),
+        right: at(0),
+    };
+    let told = answer(&rt, &context, rt.alloc(), &held, &less)?;
+    assert!(rt; is_incompatible(&told, "Less"));
+    let cast = Expression::As {
+        expr: at(1),
+        kind: ScalarKind::Sint,
+        convert: None,
+    };
+    let told = answer(&rt, &context, rt.alloc(), &held, &cast)?;
+    assert!(rt; is_incompatible(&told, "As"));
+    Ok(())
+}
+
+#[test]
+fn of_builtins(rt: HostRuntime) -> Result<(), Fail> {
+    let module = empty_module(rt.alloc());
+    let locals = Arena::new(rt.alloc());
+    let context = ResolveContext::with_locals(&module, &locals, &[]);
+    let held = [
+        vector(VectorSize::Bi, Scalar::F32),
+        vector(VectorSize::Bi, Scalar::F32),
+    ];
+    let told = answer(&rt, &context, rt.alloc(), &held, &call(MathFunction::Max))?;
+    assert!(rt; told == Some(Ok(vector(VectorSize::Bi, Scalar::F32))));
+    let told = answer(&rt, &context, rt.alloc(), &held, &call(MathFunction::Cross))?;
+    assert!(rt; is_invalid(&told, "Cross"));
+    Ok(())
+}
+
+#[test]
+fn of_listed_builtins(rt: HostRuntime) -> Result<(), Fail> {
+    let module = empty_module(rt.alloc());
+    let locals = Arena::new(rt.alloc());
+    let context = ResolveContext::with_locals(&module, &locals, &[]);
+    let held = [
+        vector(VectorSize::Bi, Scalar::F16),
+        vector(VectorSize::Bi, Scalar::F16),
+    ];
+    let told = answer(
+        &rt,
+        &context,
+        rt.alloc(),
+        &held,
+        &call(MathFunction::Refract),
+    )?;
+    assert!(rt; told == Some(Ok(vector(VectorSize::Bi, Scalar::F16))));
+    Ok(())
+}

@@ -1,0 +1,140 @@
+//! What the tests of the table of types are made with.
+use crate::resolve_held;
+use shader_arena::{Arena, Handle, UniqueArena};
+use shader_ir::{
+    AddressSpace, ArraySize, Expression, ImageClass, ImageDimension, Items, Map, Module, Scalar,
+    SpecialTypes, StructMember, Type, TypeInner, TypeResolution, VectorSize, mark,
+};
+use shader_resolve::{ResolveContext, ResolveError};
+use std::alloc::{AllocError, Global};
+use std::process::Abort;
+use std::test::Fail;
+
+pub type Resolved = Result<TypeResolution, ResolveError>;
+
+/// Asserts the answer for an expression whose operands' types are held. Want of memory is no answer, but ends the test.
+pub fn expects<'a>(
+    rt: &impl Abort,
+    context: &ResolveContext<'a>,
+    alloc: Global,
+    held: &'a [TypeResolution],
+    expr: &Expression,
+    wanted: Resolved,
+) -> Result<(), Fail> {
+    let answer = resolve_held(context, alloc, held, expr);
+    if answer == Some(Err(ResolveError::OutOfMemory)) {
+        return Err(Fail::from(AllocError));
+    }
+    assert!(rt; answer == Some(wanted));
+    Ok(())
+}
+
+pub fn at(place: u32) -> Handle<mark::Expression> {
+    Handle::from_index(place)
+}
+
+pub fn of(place: u32) -> TypeResolution {
+    TypeResolution::Handle(Handle::from_index(place))
+}
+
+pub fn scalar(scalar: Scalar) -> TypeResolution {
+    TypeResolution::Value(TypeInner::Scalar(scalar))
+}
+
+pub fn vector(size: VectorSize, scalar: Scalar) -> TypeResolution {
+    TypeResolution::Value(TypeInner::Vector { size, scalar })
+}
+
+pub fn matrix(columns: VectorSize, rows: VectorSize, scalar: Scalar) -> TypeResolution {
+    TypeResolution::Value(TypeInner::Matrix {
+        columns,
+        rows,
+        scalar,
+    })
+}
+
+pub fn pointer(base: u32, space: AddressSpace) -> TypeResolution {
+    TypeResolution::Value(TypeInner::Pointer {
+        base: Handle::from_index(base),
+        space,
+    })
+}
+
+pub fn value_pointer(size: Option<VectorSize>, scalar: Scalar) -> TypeResolution {
+    TypeResolution::Value(TypeInner::ValuePointer {
+        size,
+        scalar,
+        space: AddressSpace::Private,
+    })
+}
+
+pub fn image(dim: ImageDimension, class: ImageClass) -> TypeResolution {
+    TypeResolution::Value(TypeInner::Image {
+        dim,
+        arrayed: false,
+        class,
+    })
+}
+
+pub fn add_type(rt: &impl Abort, module: &mut Module, inner: TypeInner) -> Result<(), Fail> {
+    assert!(rt; module.types.len() < 1000);
+    module.types.insert(Type { name: None, inner })?;
+    Ok(())
+}
+
+/// A module of nothing, which takes no memory.
+pub fn empty_module(alloc: Global) -> Module {
+    Module {
+        types: UniqueArena::new(alloc),
+        special_types: SpecialTypes {
+            ray_intersection: None,
+            ray_vertex_return: None,
+            predeclared_types: Map::new(alloc),
+        },
+        constants: Arena::new(alloc),
+        overrides: Arena::new(alloc),
+        global_variables: Arena::new(alloc),
+        global_expressions: Arena::new(alloc),
+        functions: Arena::new(alloc),
+        entry_points: Items::from(Vec::new(alloc)),
+        diagnostic_filters: Arena::new(alloc),
+    }
+}
+
+/// A module whose types are vec3 f32, vec2 f32, f32, an atomic u32, an array of the first, and a struct of it.
+pub fn module(rt: &impl Abort, alloc: Global) -> Result<Module, Fail> {
+    let mut module = empty_module(alloc);
+    module.special_types.ray_intersection = Some(Handle::from_index(5));
+    let size = VectorSize::Tri;
+    let inner = TypeInner::Vector {
+        size,
+        scalar: Scalar::F32,
+    };
+    add_type(rt, &mut module, inner)?;
+    let inner = TypeInner::Vector {
+        size: VectorSize::Bi,
+        scalar: Scalar::F32,
+    };
+    add_type(rt, &mut module, inner)?;
+    add_type(rt, &mut module, TypeInner::Scalar(Scalar::F32))?;
+    add_type(rt, &mut module, TypeInner::Atomic(Scalar::U32))?;
+    let inner = TypeInner::Array {
+        base: Handle::from_index(0),
+        size: ArraySize::Dynamic,
+        stride: 16,
+    };
+    add_type(rt, &mut module, inner)?;
+    let mut members = Vec::new(alloc);
+    members.push(StructMember {
+        name: None,
+        ty: Handle::from_index(0),
+        binding: None,
+        offset: 0,
+    })?;
+    let inner = TypeInner::Struct {
+        members: Items::from(members),
+        span: 16,
+    };
+    add_type(rt, &mut module, inner)?;
+    Ok(module)
+}
