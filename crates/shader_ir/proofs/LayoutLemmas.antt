@@ -8,7 +8,7 @@ use Rattle.std.proofs.lemmas.Option.{slice_get_within, slice_get-map, get_or_fro
 use Rattle.shader_ir.specs.HeldLayouts.{faulty_or, greatest_held, held_alignment, held_layout, held_of, sized_layout}
 use Rattle.shader_ir.specs.Layout.{alignment_of, greatest_of, member_fault, part_fault, layout_fault, sized_fault, fault_at, layout_of, layouts_of, size_of_type, AreFaultless, AreFirstLayouts}
 use Rattle.shader_ir.specs.Sizes.{AreSizesInRange, AreTypeSizesInRange, IsTypeSizeInRange}
-use Rattle.shader_ir.specs.TypeTree.{type_handles, TypeTree, TypeTrees, Node, NoTree, OneTree, put_tree, trees_at, tree_within, tree_of}
+use Rattle.shader_ir.specs.TypeTree.{type_handles, TypeTree, TypeTrees, Node, NoTree, put_tree, trees_at, tree_within, tree_of}
 use Rattle.shader_ir.specs.declared.proc.layouter.LayoutErrorInner.{LayoutErrorInner}
 use Rattle.shader_ir.specs.declared.proc.layouter.LayoutErrorInner.TheVariants.{InvalidArrayElementType}
 use Rattle.shader_ir.specs.declared.proc.layouter.TypeLayout.{TypeLayout}

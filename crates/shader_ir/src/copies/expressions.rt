@@ -40,17 +40,10 @@ impl Expression {
             | Expression::Relational { .. }
             | Expression::As { .. } => Ok(self.copy_of_operation()),
             Expression::Select { .. } | Expression::Math { .. } => Ok(self.copy_of_choice()),
-            Expression::CallResult(_)
-            | Expression::AtomicResult { .. }
-            | Expression::WorkGroupUniformLoadResult { .. }
-            | Expression::RayQueryVertexPositions { .. }
-            | Expression::RayQueryProceedResult
-            | Expression::RayQueryGetIntersection { .. }
-            | Expression::SubgroupBallotResult
-            | Expression::SubgroupOperationResult { .. } => Ok(self.copy_of_result()),
-            Expression::CooperativeLoad { .. } | Expression::CooperativeMultiplyAdd { .. } => Ok(
-                self.copy_of_cooperative(),
-            ),
+            Expression::CooperativeLoad { .. } | Expression::CooperativeMultiplyAdd { .. } => {
+                Ok(self.copy_of_cooperative())
+            }
+            _ => Ok(self.copy_of_result()),
         }
     }
 

@@ -15,7 +15,7 @@ Block::copy-loop-statement-preserved t c =
     let inside : index < length items = omega arith in
     let more : take (index + 1) items ≡ take index items ++ statement ∷ [] =
     take_more items index statement inside ∙ ap (λ last. take index items ++ last ∷ []) (sym c.statement-item.is) in
-    let pushed : body_of c.push.new.self.items ≡ body_of (done ++ copy ∷ []) = ap body_of c.in_ok-push.ensures.items in
+    let pushed : c.push.new.self.items ≡ done ++ copy ∷ [] = c.in_ok-push.ensures.items in
     let next : body_of (done ++ copy ∷ []) ≡ body_of (take index items ++ statement ∷ []) =
     next_statement done (take index items) copy statement c.loop-statement.invariant c.in_ok-copy.ensures in
-    pushed ∙ next ∙ sym (ap body_of more)
+    (λ i. body_of (pushed i)) ∙ next ∙ sym (λ i. body_of (more i))
