@@ -1,5 +1,5 @@
 //! Rows of automatic conversion.
-use crate::tests::samples::{Types, add, array, counted, inner_at, vector};
+use crate::tests::samples::{Types, add, array, counted, inner_at, matrix, vector};
 use shader_arena::{Handle, UniqueArena};
 use shader_ir::{Scalar, VectorSize, mark};
 use std::process::Abort;
@@ -50,6 +50,18 @@ fn vectors_of_other_sizes_do_not(rt: HostRuntime) {
     let pair = add(&rt, &mut types, pair);
     let triple = add(&rt, &mut types, vector(VectorSize::Tri, Scalar::I32));
     expects(&rt, &types, pair, triple, None);
+}
+
+#[test]
+fn matrices_convert(rt: HostRuntime) {
+    let mut types: Types = UniqueArena::new(rt.alloc());
+    let floats = matrix(VectorSize::Bi, VectorSize::Tri, Scalar::ABSTRACT_FLOAT);
+    let floats = add(&rt, &mut types, floats);
+    let doubles = matrix(VectorSize::Bi, VectorSize::Tri, Scalar::F64);
+    let doubles = add(&rt, &mut types, doubles);
+    let to_double = Some((Scalar::ABSTRACT_FLOAT, Scalar::F64));
+    expects(&rt, &types, floats, doubles, to_double);
+    expects(&rt, &types, doubles, floats, None);
 }
 
 /// Adds an array.

@@ -1,4 +1,6 @@
 //! Which types are the same, in an arena and as what expressions resolve to.
+ghost use Rattle.std.specs.Prelude.{◌≡◌, Some};
+
 use crate::tests::samples::{Types, WANT, add, member, pair, vector};
 use shader_arena::{Handle, UniqueArena};
 use shader_ir::{
@@ -69,17 +71,21 @@ fn structs_are_told_apart_by_their_handles(rt: HostRuntime) {
     assert!(rt; !are_one(&rt, &types, left, right));
 }
 
-fn pointer_to(base: Handle<mark::Type>) -> TypeInner {
+fn pointer_to(base: Handle<mark::Type>) -> TypeInner
+    ensures { result ≡ TypeInner.Pointer base AddressSpace.Private }
+{
     TypeInner::Pointer {
         base,
         space: AddressSpace::Private,
     }
 }
 
-fn pointer_to_pair() -> TypeInner {
+fn pointer_to_pair(scalar: Scalar) -> TypeInner
+    ensures { result ≡ TypeInner.ValuePointer (Some VectorSize.Bi) scalar AddressSpace.Private }
+{
     TypeInner::ValuePointer {
         size: Some(VectorSize::Bi),
-        scalar: Scalar::F32,
+        scalar,
         space: AddressSpace::Private,
     }
 }
@@ -90,7 +96,7 @@ fn a_pointer_to_a_vector_is_its_value_pointer(rt: HostRuntime) {
     let pair = add(&rt, &mut types, pair_of_floats());
     assert!(rt; types_backward(&types) && types.contains_handle(pair));
     let pointer = TypeResolution::Value(pointer_to(pair));
-    let form = TypeResolution::Value(pointer_to_pair());
+    let form = TypeResolution::Value(pointer_to_pair(Scalar::F32));
     assert!(rt; compare_types(&pointer, &form, &types) && pointer != form);
 }
 
@@ -100,14 +106,18 @@ fn a_pointer_to_a_vector_has_a_canonical_form(rt: HostRuntime) {
     let pair = add(&rt, &mut types, pair_of_floats());
     assert!(rt; types.contains_handle(pair));
     let form = pointer_to(pair).canonical_form(&types);
-    assert!(rt; form == Some(pointer_to_pair()));
-    assert!(rt; pointer_to(pair).non_struct_equivalent(&pointer_to_pair(), &types));
+    assert!(rt; form == Some(pointer_to_pair(Scalar::F32)));
+    assert!(rt; pointer_to(pair).non_struct_equivalent(&pointer_to_pair(Scalar::F32), &types));
 }
 
 #[test]
 fn a_canonical_form_has_none(rt: HostRuntime) {
     let types: Types = UniqueArena::new(rt.alloc());
-    assert!(rt; pointer_to_pair().canonical_form(&types).is_none());
+    assert!(rt;
+        pointer_to_pair(Scalar::F32)
+            .canonical_form(&types)
+            .is_none()
+    );
 }
 
 #[test]
@@ -123,7 +133,7 @@ fn a_handle_lends_its_type(rt: HostRuntime) {
 #[test]
 fn a_value_lends_itself(rt: HostRuntime) {
     let types: Types = UniqueArena::new(rt.alloc());
-    let resolution = TypeResolution::Value(pair_of_floats());
+    let resolution = TypeResolution::Value(vector(VectorSize::Bi, Scalar::F32));
     assert!(rt; resolution.handle() == None);
     assert!(rt; *resolution.inner_with(&types) == pair_of_floats());
 }

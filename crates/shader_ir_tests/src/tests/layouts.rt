@@ -19,16 +19,16 @@ fn refusal(rt: &impl Abort, layouter: &mut Layouter, ctx: GlobalCtx<'_>) -> Opti
     }
 }
 
-/// The layout of a type.
-#[derive(Clone, Copy, Debug, PartialEq)]
-struct Row {
+/// The numbers that tell a layout, in bytes.
+#[derive(Clone, Copy, PartialEq)]
+struct Figures {
     size: u32,
     align: u32,
     stride: u32,
 }
 
-const fn row(size: u32, align: u32, stride: u32) -> Option<Row> {
-    Some(Row {
+const fn row(size: u32, align: u32, stride: u32) -> Option<Figures> {
+    Some(Figures {
         size,
         align,
         stride,
@@ -36,10 +36,10 @@ const fn row(size: u32, align: u32, stride: u32) -> Option<Row> {
 }
 
 /// The layout that is held of a type.
-fn held(rt: &impl Abort, layouter: &Layouter, ty: Handle<mark::Type>) -> Row {
+fn held(rt: &impl Abort, layouter: &Layouter, ty: Handle<mark::Type>) -> Figures {
     assert!(rt; ty.index() < layouter.len());
     let layout = layouter[ty];
-    Row {
+    Figures {
         size: layout.size,
         align: layout.alignment.get(),
         stride: layout.to_stride(),
@@ -47,13 +47,13 @@ fn held(rt: &impl Abort, layouter: &Layouter, ty: Handle<mark::Type>) -> Row {
 }
 
 /// Lays out a type behind f32, whose place is 0. No row is wanted of a type that is too large.
-fn expects(rt: &impl Abort, alloc: Global, inner: TypeInner, wanted: Option<Row>) {
+fn expects(rt: &impl Abort, alloc: Global, inner: TypeInner, wanted: Option<Figures>) {
     let mut arenas = Arenas::new(alloc);
     add(rt, &mut arenas.types, TypeInner::Scalar(Scalar::F32));
     let ty = add(rt, &mut arenas.types, inner);
     let mut layouter = Layouter::new(alloc);
     match refusal(rt, &mut layouter, arenas.ctx()) {
-        None => assert_eq!(rt; Some(held(rt, &layouter, ty)), wanted),
+        None => assert!(rt; Some(held(rt, &layouter, ty)) == wanted),
         Some(refused) => {
             let inner = LayoutErrorInner::TooLarge;
             assert!(rt; refused == LayoutError { ty, inner } && wanted.is_none());
@@ -112,7 +112,7 @@ fn floats(size: ArraySize, stride: u32) -> TypeInner {
     array(Handle::from_index(0), size, stride)
 }
 
-fn expects_array(rt: &impl Abort, alloc: Global, count: u32, stride: u32, wanted: Option<Row>) {
+fn expects_array(rt: &impl Abort, alloc: Global, count: u32, stride: u32, wanted: Option<Figures>) {
     expects(rt, alloc, floats(counted(rt, count), stride), wanted);
 }
 
@@ -192,11 +192,18 @@ fn a_cleared_layouter_begins_again(rt: HostRuntime) {
     refuses_width(&rt, &mut layouter, arenas.ctx());
 }
 
-/// Refuses a type of the arenas, where none before it is refused.
-fn refuses(rt: &impl Abort, alloc: Global, ctx: GlobalCtx<'_>, wanted: LayoutError) {
+/// Refuses a type of the context, and none before it.
+fn refuses(
+    rt: &impl Abort,
+    alloc: Global,
+    ctx: GlobalCtx<'_>,
+    ty: Handle<mark::Type>,
+    inner: LayoutErrorInner,
+) {
     let mut layouter = Layouter::new(alloc);
-    assert!(rt; refusal(rt, &mut layouter, ctx) == Some(wanted));
-    assert!(rt; layouter.len() == wanted.ty.index());
+    let refused = refusal(rt, &mut layouter, ctx);
+    assert!(rt; refused == Some(LayoutError { ty, inner }));
+    assert!(rt; layouter.len() == ty.index());
 }
 
 #[test]
@@ -204,7 +211,7 @@ fn an_array_of_itself_is_refused(rt: HostRuntime) {
     let mut arenas = Arenas::new(rt.alloc());
     let ty = add(&rt, &mut arenas.types, floats(ArraySize::Dynamic, 4));
     let inner = LayoutErrorInner::InvalidArrayElementType(ty);
-    refuses(&rt, rt.alloc(), arenas.ctx(), LayoutError { ty, inner });
+    refuses(&rt, rt.alloc(), arenas.ctx(), ty, inner);
 }
 
 #[test]
@@ -215,5 +222,5 @@ fn a_struct_of_a_later_type_is_refused(rt: HostRuntime) {
     let two = pair(&rt, rt.alloc(), float, later);
     let ty = add(&rt, &mut arenas.types, two);
     let inner = LayoutErrorInner::InvalidStructMemberType(1, later);
-    refuses(&rt, rt.alloc(), arenas.ctx(), LayoutError { ty, inner });
+    refuses(&rt, rt.alloc(), arenas.ctx(), ty, inner);
 }

@@ -1,5 +1,7 @@
 //! Rows of queries on scalars and types.
-use crate::tests::samples::{Types, WANT, add, array, counted, inner_at, matrix, pair, vector};
+use crate::tests::samples::{
+    Types, WANT, add, array, counted, inner_at, matrix, member, pair, structure, vector,
+};
 use shader_arena::{Handle, UniqueArena};
 use shader_ir::{
     AddressSpace, ArraySize, Scalar, ScalarKind, TypeInner, TypeResolution, VectorSize,
@@ -136,15 +138,18 @@ fn an_array_may_have_none(rt: HostRuntime) {
 
 #[test]
 fn a_struct_has_members(rt: HostRuntime) {
-    let int = Handle::from_index(0);
-    let float = Handle::from_index(1);
-    let members = pair(&rt, rt.alloc(), int, float);
-    assert!(rt; members.components() == Some(2));
-    assert!(rt; is_part(members.component_type(1), TypeResolution::Handle(float)));
+    let int = member(Handle::from_index(0), 0);
+    let float = member(Handle::from_index(1), 4);
+    let members = vec![in rt.alloc(); int, float].expect(&rt, WANT);
+    assert!(rt; members.len() == 2);
+    let two = structure(members, 8);
+    assert!(rt; two.components() == Some(2));
+    let second = TypeResolution::Handle(Handle::from_index(1));
+    assert!(rt; is_part(two.component_type(1), second));
 }
 
 /// What is told of a type by queries that follow handles.
-#[derive(PartialEq)]
+#[derive(Clone, Copy, PartialEq)]
 struct Told {
     dynamic: bool,
     needs_bytes: bool,

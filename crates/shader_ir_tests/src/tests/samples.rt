@@ -1,5 +1,5 @@
 //! Types, and the arenas that a context lends, for the tests of each part.
-ghost use Rattle.std.specs.Prelude.{length};
+ghost use Rattle.std.specs.Prelude.{◌≡◌, length};
 ghost use Rattle.shader_ir.specs.TypeTree.{IsBackward, PointsBelow};
 
 use shader_arena::{Arena, Handle, UniqueArena};
@@ -22,11 +22,15 @@ pub fn add(rt: &impl Abort, types: &mut Types, inner: TypeInner) -> Handle<mark:
     added.expect(rt, WANT)
 }
 
-pub fn vector(size: VectorSize, scalar: Scalar) -> TypeInner {
+pub fn vector(size: VectorSize, scalar: Scalar) -> TypeInner
+    ensures { result ≡ TypeInner.Vector size scalar }
+{
     TypeInner::Vector { size, scalar }
 }
 
-pub fn matrix(columns: VectorSize, rows: VectorSize, scalar: Scalar) -> TypeInner {
+pub fn matrix(columns: VectorSize, rows: VectorSize, scalar: Scalar) -> TypeInner
+    ensures { result ≡ TypeInner.Matrix columns rows scalar }
+{
     TypeInner::Matrix {
         columns,
         rows,
@@ -34,7 +38,9 @@ pub fn matrix(columns: VectorSize, rows: VectorSize, scalar: Scalar) -> TypeInne
     }
 }
 
-pub fn array(base: Handle<mark::Type>, size: ArraySize, stride: u32) -> TypeInner {
+pub fn array(base: Handle<mark::Type>, size: ArraySize, stride: u32) -> TypeInner
+    ensures { result ≡ TypeInner.Array base size stride }
+{
     TypeInner::Array { base, size, stride }
 }
 
@@ -53,7 +59,9 @@ pub fn member(ty: Handle<mark::Type>, offset: u32) -> StructMember {
     }
 }
 
-pub fn structure(members: Vec<StructMember>, span: u32) -> TypeInner {
+pub fn structure(members: Vec<StructMember>, span: u32) -> TypeInner
+    ensures { result ≡ TypeInner.Struct members.items span }
+{
     TypeInner::Struct {
         members: Items::from(members),
         span,
