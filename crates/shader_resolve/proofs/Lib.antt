@@ -1,4 +1,5 @@
 pub mod BuiltinLemmas
+pub mod ContextLemmas
 pub mod FitsLemmas
 pub mod FollowLemmas
 pub mod Joined

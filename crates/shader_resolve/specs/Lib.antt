@@ -1,5 +1,6 @@
 pub mod Builtins
 pub mod Context
+pub mod ContextLaws
 pub mod Follows
 pub mod Images
 pub mod Operations

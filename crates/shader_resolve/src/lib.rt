@@ -3,6 +3,7 @@
 
 mod context;
 mod error;
+pub mod laws;
 mod resolve;
 mod well_formed;
 

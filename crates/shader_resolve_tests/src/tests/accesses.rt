@@ -1,12 +1,26 @@
 //! Rows of accesses, loads and components.
-use crate::tests::rows::{at, expects, matrix, module, of, pointer, scalar, value_pointer, vector};
+use crate::tests::rows::{Rows, at, matrix, module, of, pointer, scalar, value_pointer, vector};
 use shader_arena::{Arena, Handle};
 use shader_ir::{
     AddressSpace, CooperativeData, CooperativeRole, CooperativeSize, Expression, Scalar,
     SwizzleComponent, TypeInner, TypeResolution, VectorSize,
 };
 use shader_resolve::{ResolveContext, ResolveError};
+use std::process::Abort;
 use std::test::Fail;
+
+const PRIVATE: AddressSpace = AddressSpace::Private;
+
+fn computed() -> Expression {
+    Expression::Access {
+        base: at(0),
+        index: at(1),
+    }
+}
+
+fn member(index: u32) -> Expression {
+    Expression::AccessIndex { base: at(0), index }
+}
 
 fn past_the_end() -> ResolveError {
     ResolveError::OutOfBoundsIndex {
@@ -15,154 +29,152 @@ fn past_the_end() -> ResolveError {
     }
 }
 
+fn no_access(indexed: bool) -> ResolveError {
+    ResolveError::InvalidAccess {
+        expr: at(0),
+        indexed,
+    }
+}
+
+fn no_sub_access(ty: u32, indexed: bool) -> ResolveError {
+    ResolveError::InvalidSubAccess {
+        ty: Handle::from_index(ty),
+        indexed,
+    }
+}
+
 #[test]
-fn accesses(rt: HostRuntime) -> Result<(), Fail> {
-    let alloc = rt.alloc();
-    let module = module(&rt, alloc)?;
-    let locals = Arena::new(alloc);
+fn out_of_bounds(rt: HostRuntime) -> Result<(), Fail> {
+    let module = module(&rt, rt.alloc())?;
+    let locals = Arena::new(rt.alloc());
     let context = ResolveContext::with_locals(&module, &locals, &[]);
-    let past = Expression::AccessIndex {
-        base: at(0),
-        index: 3,
-    };
-    let space = AddressSpace::Private;
-    let vector_pointer = value_pointer(Some(VectorSize::Tri), Scalar::F32);
-    expects(&rt, &context, alloc, &[of(0)], &past, Err(past_the_end()))?;
-    expects(
-        &rt,
-        &context,
-        alloc,
-        &[pointer(0, space)],
-        &past,
-        Err(past_the_end()),
-    )?;
-    expects(
-        &rt,
-        &context,
-        alloc,
-        &[vector_pointer],
-        &past,
-        Err(past_the_end()),
-    )?;
-    let computed = Expression::Access {
-        base: at(0),
-        index: at(1),
-    };
-    let sub_access = ResolveError::InvalidSubAccess {
-        ty: Handle::from_index(2),
-        indexed: false,
-    };
-    expects(
-        &rt,
-        &context,
-        alloc,
-        &[pointer(2, space)],
-        &computed,
-        Err(sub_access),
-    )?;
-    let invalid = ResolveError::InvalidAccess {
-        expr: at(0),
-        indexed: false,
-    };
-    let scalar_pointer = [value_pointer(None, Scalar::F32)];
-    expects(
-        &rt,
-        &context,
-        alloc,
-        &scalar_pointer,
-        &computed,
-        Err(invalid),
-    )?;
-    expects(&rt, &context, alloc, &[of(4)], &computed, Ok(of(0)))?;
-    expects(
-        &rt,
-        &context,
-        alloc,
-        &[pointer(4, space)],
-        &computed,
-        Ok(pointer(0, space)),
-    )?;
-    let first = Expression::AccessIndex {
-        base: at(0),
-        index: 0,
-    };
-    expects(&rt, &context, alloc, &[of(5)], &first, Ok(of(0)))?;
-    let component = Ok(value_pointer(None, Scalar::F32));
-    expects(
-        &rt,
-        &context,
-        alloc,
-        &[pointer(0, space)],
-        &first,
-        component,
-    )?;
-    let columns = [matrix(VectorSize::Bi, VectorSize::Tri, Scalar::F32)];
-    let column = Ok(vector(VectorSize::Tri, Scalar::F32));
-    expects(&rt, &context, alloc, &columns, &first, column)?;
-    let by_value = ResolveError::InvalidAccess {
-        expr: at(0),
-        indexed: false,
-    };
-    expects(&rt, &context, alloc, &[of(5)], &computed, Err(by_value))?;
-    let no_parts = ResolveError::InvalidSubAccess {
-        ty: Handle::from_index(3),
-        indexed: true,
-    };
-    expects(
-        &rt,
-        &context,
-        alloc,
-        &[pointer(3, space)],
-        &first,
-        Err(no_parts),
-    )?;
-    expects(
-        &rt,
-        &context,
-        alloc,
-        &[pointer(5, space)],
-        &first,
-        Ok(pointer(0, space)),
-    )?;
-    let component = Ok(scalar(Scalar::F32));
-    expects(&rt, &context, alloc, &[of(1)], &computed, component)?;
+    out_of_bounds_rows(&Rows::new(&rt, &context, rt.alloc()))
+}
+
+fn out_of_bounds_rows<R: Abort>(rows: &Rows<'_, R>) -> Result<(), Fail> {
+    let value = value_pointer(Some(VectorSize::Tri), Scalar::F32);
+    rows.expects(&[of(0)], member(3), Err(past_the_end()))?;
+    rows.expects(&[pointer(0, PRIVATE)], member(3), Err(past_the_end()))?;
+    rows.expects(&[value], member(3), Err(past_the_end()))?;
     Ok(())
 }
 
 #[test]
-fn loads_and_components(rt: HostRuntime) -> Result<(), Fail> {
-    let alloc = rt.alloc();
-    let module = module(&rt, alloc)?;
-    let locals = Arena::new(alloc);
+fn invalid_accesses(rt: HostRuntime) -> Result<(), Fail> {
+    let module = module(&rt, rt.alloc())?;
+    let locals = Arena::new(rt.alloc());
     let context = ResolveContext::with_locals(&module, &locals, &[]);
-    let space = AddressSpace::Private;
-    let load = Expression::Load { pointer: at(0) };
-    let to_vector = [value_pointer(Some(VectorSize::Bi), Scalar::F32)];
-    let two = Ok(vector(VectorSize::Bi, Scalar::F32));
-    expects(&rt, &context, alloc, &to_vector, &load, two)?;
-    expects(&rt, &context, alloc, &[pointer(1, space)], &load, Ok(of(1)))?;
-    let number = Ok(scalar(Scalar::U32));
-    expects(&rt, &context, alloc, &[pointer(3, space)], &load, number)?;
-    let no_pointer = Err(ResolveError::InvalidPointer(at(0)));
-    expects(&rt, &context, alloc, &[of(2)], &load, no_pointer)?;
-    let splat = Expression::Splat {
+    invalid_accesses_rows(&Rows::new(&rt, &context, rt.alloc()))
+}
+
+fn invalid_accesses_rows<R: Abort>(rows: &Rows<'_, R>) -> Result<(), Fail> {
+    let number = value_pointer(None, Scalar::F32);
+    rows.expects(
+        &[pointer(2, PRIVATE)],
+        computed(),
+        Err(no_sub_access(2, false)),
+    )?;
+    rows.expects(&[number], computed(), Err(no_access(false)))?;
+    rows.expects(&[of(5)], computed(), Err(no_access(false)))?;
+    rows.expects(
+        &[pointer(3, PRIVATE)],
+        member(0),
+        Err(no_sub_access(3, true)),
+    )?;
+    rows.expects(&[of(3)], member(0), Err(no_access(true)))?;
+    Ok(())
+}
+
+#[test]
+fn values(rt: HostRuntime) -> Result<(), Fail> {
+    let module = module(&rt, rt.alloc())?;
+    let locals = Arena::new(rt.alloc());
+    let context = ResolveContext::with_locals(&module, &locals, &[]);
+    values_rows(&Rows::new(&rt, &context, rt.alloc()))
+}
+
+fn values_rows<R: Abort>(rows: &Rows<'_, R>) -> Result<(), Fail> {
+    let columns = matrix(VectorSize::Bi, VectorSize::Tri, Scalar::F32);
+    let column = vector(VectorSize::Tri, Scalar::F32);
+    rows.expects(&[of(4)], computed(), Ok(of(0)))?;
+    rows.expects(&[of(5)], member(0), Ok(of(0)))?;
+    rows.expects(&[of(1)], computed(), Ok(scalar(Scalar::F32)))?;
+    rows.expects(&[columns], member(0), Ok(column))?;
+    Ok(())
+}
+
+#[test]
+fn pointers(rt: HostRuntime) -> Result<(), Fail> {
+    let module = module(&rt, rt.alloc())?;
+    let locals = Arena::new(rt.alloc());
+    let context = ResolveContext::with_locals(&module, &locals, &[]);
+    pointers_rows(&Rows::new(&rt, &context, rt.alloc()))
+}
+
+fn pointers_rows<R: Abort>(rows: &Rows<'_, R>) -> Result<(), Fail> {
+    let component = value_pointer(None, Scalar::F32);
+    rows.expects(&[pointer(4, PRIVATE)], computed(), Ok(pointer(0, PRIVATE)))?;
+    rows.expects(&[pointer(5, PRIVATE)], member(0), Ok(pointer(0, PRIVATE)))?;
+    rows.expects(&[pointer(0, PRIVATE)], member(0), Ok(component))?;
+    Ok(())
+}
+
+fn load() -> Expression {
+    Expression::Load { pointer: at(0) }
+}
+
+#[test]
+fn loads(rt: HostRuntime) -> Result<(), Fail> {
+    let module = module(&rt, rt.alloc())?;
+    let locals = Arena::new(rt.alloc());
+    let context = ResolveContext::with_locals(&module, &locals, &[]);
+    loads_rows(&Rows::new(&rt, &context, rt.alloc()))
+}
+
+fn loads_rows<R: Abort>(rows: &Rows<'_, R>) -> Result<(), Fail> {
+    let number = value_pointer(None, Scalar::F32);
+    let pair = value_pointer(Some(VectorSize::Bi), Scalar::F32);
+    rows.expects(&[pair], load(), Ok(vector(VectorSize::Bi, Scalar::F32)))?;
+    rows.expects(&[number], load(), Ok(scalar(Scalar::F32)))?;
+    rows.expects(&[pointer(1, PRIVATE)], load(), Ok(of(1)))?;
+    rows.expects(&[pointer(3, PRIVATE)], load(), Ok(scalar(Scalar::U32)))?;
+    rows.expects(&[of(2)], load(), Err(ResolveError::InvalidPointer(at(0))))?;
+    Ok(())
+}
+
+fn splat() -> Expression {
+    Expression::Splat {
         size: VectorSize::Quad,
         value: at(0),
-    };
-    let four = Ok(vector(VectorSize::Quad, Scalar::F32));
-    expects(&rt, &context, alloc, &[of(2)], &splat, four)?;
-    let no_scalar = Err(ResolveError::InvalidScalar(at(0)));
-    expects(&rt, &context, alloc, &[of(0)], &splat, no_scalar)?;
-    let swizzle = Expression::Swizzle {
+    }
+}
+
+fn swizzle() -> Expression {
+    Expression::Swizzle {
         size: VectorSize::Bi,
         vector: at(0),
         pattern: [SwizzleComponent::X; 4],
-    };
-    let two = Ok(vector(VectorSize::Bi, Scalar::F32));
-    expects(&rt, &context, alloc, &[of(0)], &swizzle, two)?;
-    let no_vector = Err(ResolveError::InvalidVector(at(0)));
-    expects(&rt, &context, alloc, &[of(2)], &swizzle, no_vector)?;
-    let tile = Expression::CooperativeLoad {
+    }
+}
+
+#[test]
+fn components(rt: HostRuntime) -> Result<(), Fail> {
+    let module = module(&rt, rt.alloc())?;
+    let locals = Arena::new(rt.alloc());
+    let context = ResolveContext::with_locals(&module, &locals, &[]);
+    components_rows(&Rows::new(&rt, &context, rt.alloc()))
+}
+
+fn components_rows<R: Abort>(rows: &Rows<'_, R>) -> Result<(), Fail> {
+    rows.expects(&[of(2)], splat(), Ok(vector(VectorSize::Quad, Scalar::F32)))?;
+    rows.expects(&[of(0)], splat(), Err(ResolveError::InvalidScalar(at(0))))?;
+    rows.expects(&[of(0)], swizzle(), Ok(vector(VectorSize::Bi, Scalar::F32)))?;
+    rows.expects(&[of(2)], swizzle(), Err(ResolveError::InvalidVector(at(0))))?;
+    Ok(())
+}
+
+fn tile() -> Expression {
+    Expression::CooperativeLoad {
         columns: CooperativeSize::Eight,
         rows: CooperativeSize::Sixteen,
         role: CooperativeRole::A,
@@ -171,29 +183,29 @@ fn loads_and_components(rt: HostRuntime) -> Result<(), Fail> {
             stride: at(1),
             row_major: false,
         },
-    };
-    let cooperative = Ok(TypeResolution::Value(TypeInner::CooperativeMatrix {
+    }
+}
+
+#[test]
+fn tiles(rt: HostRuntime) -> Result<(), Fail> {
+    let module = module(&rt, rt.alloc())?;
+    let locals = Arena::new(rt.alloc());
+    let context = ResolveContext::with_locals(&module, &locals, &[]);
+    tiles_rows(&Rows::new(&rt, &context, rt.alloc()))
+}
+
+fn tiles_rows<R: Abort>(rows: &Rows<'_, R>) -> Result<(), Fail> {
+    let cooperative = TypeResolution::Value(TypeInner::CooperativeMatrix {
         columns: CooperativeSize::Eight,
         rows: CooperativeSize::Sixteen,
         scalar: Scalar::F32,
         role: CooperativeRole::A,
-    }));
-    expects(
-        &rt,
-        &context,
-        alloc,
-        &[pointer(2, space)],
-        &tile,
-        cooperative,
-    )?;
-    let no_scalars = Err(ResolveError::InvalidPointer(at(0)));
-    expects(
-        &rt,
-        &context,
-        alloc,
-        &[pointer(5, space)],
-        &tile,
-        no_scalars,
+    });
+    rows.expects(&[pointer(2, PRIVATE)], tile(), Ok(cooperative))?;
+    rows.expects(
+        &[pointer(5, PRIVATE)],
+        tile(),
+        Err(ResolveError::InvalidPointer(at(0))),
     )?;
     Ok(())
 }

@@ -1,9 +1,16 @@
 //! Rows of calls of builtin functions.
-use crate::tests::rows::{at, expects, matrix, module, of, scalar, vector};
+use crate::tests::rows::{Rows, at, matrix, module, of, scalar, vector};
 use shader_arena::{Arena, Handle};
 use shader_ir::{Expression, MathFunction, PredeclaredType, Scalar, ScalarKind, VectorSize};
 use shader_resolve::{ResolveContext, ResolveError};
+use std::process::Abort;
 use std::test::Fail;
+
+const BI: VectorSize = VectorSize::Bi;
+
+const TRI: VectorSize = VectorSize::Tri;
+
+const F32: Scalar = Scalar::F32;
 
 fn of_one(fun: MathFunction) -> Expression {
     Expression::Math {
@@ -15,157 +22,131 @@ fn of_one(fun: MathFunction) -> Expression {
     }
 }
 
+/// The third and the fourth argument aren't asked.
 fn of_two(fun: MathFunction) -> Expression {
     Expression::Math {
         fun,
         arg: at(0),
         arg1: Some(at(1)),
-        arg2: Some(at(9)),
+        arg2: Some(at(2)),
         arg3: Some(at(9)),
     }
 }
 
+/// An abstract scalar, which is no type that has a name.
+fn narrow(kind: ScalarKind) -> Scalar {
+    Scalar { kind, width: 4 }
+}
+
 #[test]
 fn conclusions(rt: HostRuntime) -> Result<(), Fail> {
-    let alloc = rt.alloc();
-    let module = module(&rt, alloc)?;
-    let locals = Arena::new(alloc);
+    let module = module(&rt, rt.alloc())?;
+    let locals = Arena::new(rt.alloc());
     let context = ResolveContext::with_locals(&module, &locals, &[]);
-    let (bi, tri) = (VectorSize::Bi, VectorSize::Tri);
-    // The third argument doesn't matter.
+    conclusions_rows(&Rows::new(&rt, &context, rt.alloc()))
+}
+
+fn conclusions_rows<R: Abort>(rows: &Rows<'_, R>) -> Result<(), Fail> {
     let numbers = [
         scalar(Scalar::U32),
         scalar(Scalar::U32),
         scalar(Scalar::BOOL),
     ];
-    let max = Expression::Math {
-        fun: MathFunction::Max,
-        arg: at(0),
-        arg1: Some(at(1)),
-        arg2: Some(at(2)),
-        arg3: None,
-    };
-    expects(
-        &rt,
-        &context,
-        alloc,
-        &numbers,
-        &max,
-        Ok(scalar(Scalar::U32)),
-    )?;
-    let narrow = Scalar {
-        kind: ScalarKind::AbstractFloat,
-        width: 4,
-    };
-    let wanted = Ok(matrix(tri, bi, Scalar::F32));
-    let transpose = of_one(MathFunction::Transpose);
-    expects(
-        &rt,
-        &context,
-        alloc,
-        &[matrix(bi, tri, narrow)],
-        &transpose,
-        wanted,
-    )?;
+    rows.expects(&numbers, of_two(MathFunction::Max), Ok(scalar(Scalar::U32)))?;
     let mixed = [scalar(Scalar::ABSTRACT_INT), scalar(Scalar::F16)];
-    let min = of_two(MathFunction::Min);
-    expects(&rt, &context, alloc, &mixed, &min, Ok(scalar(Scalar::F16)))?;
-    let vectors = [vector(bi, Scalar::F32), vector(tri, Scalar::F32)];
-    let outer = of_two(MathFunction::Outer);
-    expects(
-        &rt,
-        &context,
-        alloc,
-        &vectors,
-        &outer,
-        Ok(matrix(bi, tri, Scalar::F32)),
-    )?;
-    let pack = of_one(MathFunction::Pack2x16float);
-    expects(
-        &rt,
-        &context,
-        alloc,
+    rows.expects(&mixed, of_two(MathFunction::Min), Ok(scalar(Scalar::F16)))?;
+    rows.expects(
         &[of(1)],
-        &pack,
+        of_one(MathFunction::Pack2x16float),
         Ok(scalar(Scalar::U32)),
     )?;
     Ok(())
 }
 
 #[test]
-fn refused_arguments(rt: HostRuntime) -> Result<(), Fail> {
-    let alloc = rt.alloc();
-    let module = module(&rt, alloc)?;
-    let locals = Arena::new(alloc);
+fn conclusions_of_lists(rt: HostRuntime) -> Result<(), Fail> {
+    let module = module(&rt, rt.alloc())?;
+    let locals = Arena::new(rt.alloc());
     let context = ResolveContext::with_locals(&module, &locals, &[]);
-    let narrow = Scalar {
-        kind: ScalarKind::AbstractInt,
-        width: 4,
-    };
-    let words = ResolveError::BuiltinArgumentsInvalid("Abs".to_string(alloc)?);
-    let abs = of_one(MathFunction::Abs);
-    expects(&rt, &context, alloc, &[scalar(narrow)], &abs, Err(words))?;
-    let unlike = [of(0), of(1)];
-    let words = ResolveError::BuiltinArgumentsInvalid("Dot".to_string(alloc)?);
-    expects(
-        &rt,
-        &context,
-        alloc,
-        &unlike,
-        &of_two(MathFunction::Dot),
-        Err(words),
+    conclusions_of_lists_rows(&Rows::new(&rt, &context, rt.alloc()))
+}
+
+fn conclusions_of_lists_rows<R: Abort>(rows: &Rows<'_, R>) -> Result<(), Fail> {
+    let float = narrow(ScalarKind::AbstractFloat);
+    rows.expects(
+        &[matrix(BI, TRI, float)],
+        of_one(MathFunction::Transpose),
+        Ok(matrix(TRI, BI, F32)),
     )?;
-    let words = ResolveError::BuiltinArgumentsInvalid("Mix".to_string(alloc)?);
-    expects(
-        &rt,
-        &context,
-        alloc,
-        &[of(5)],
-        &of_one(MathFunction::Mix),
-        Err(words),
+    let vectors = [vector(BI, F32), vector(TRI, F32)];
+    rows.expects(
+        &vectors,
+        of_two(MathFunction::Outer),
+        Ok(matrix(BI, TRI, F32)),
     )?;
-    let modf = of_one(MathFunction::Modf);
-    let missing = Err(ResolveError::MissingSpecialType);
-    expects(&rt, &context, alloc, &[of(2)], &modf, missing)?;
-    // An operand that isn't told is refused before what comes after it.
-    let untold = Err(ResolveError::FunctionArgumentNotFound(0));
-    expects(
-        &rt,
-        &context,
-        alloc,
-        &[],
-        &of_two(MathFunction::Max),
-        untold,
-    )?;
-    let second = Err(ResolveError::FunctionArgumentNotFound(0));
-    expects(
-        &rt,
-        &context,
-        alloc,
+    Ok(())
+}
+
+#[test]
+fn invalid_arguments(rt: HostRuntime) -> Result<(), Fail> {
+    let module = module(&rt, rt.alloc())?;
+    let locals = Arena::new(rt.alloc());
+    let context = ResolveContext::with_locals(&module, &locals, &[]);
+    invalid_arguments_rows(&Rows::new(&rt, &context, rt.alloc()))
+}
+
+fn invalid_arguments_rows<R: Abort>(rows: &Rows<'_, R>) -> Result<(), Fail> {
+    let int = narrow(ScalarKind::AbstractInt);
+    rows.expects_invalid(&[scalar(int)], of_one(MathFunction::Abs), "Abs")?;
+    rows.expects_invalid(&[of(0), of(1)], of_two(MathFunction::Dot), "Dot")?;
+    rows.expects_invalid(&[of(5)], of_one(MathFunction::Mix), "Mix")?;
+    Ok(())
+}
+
+#[test]
+fn untold_arguments(rt: HostRuntime) -> Result<(), Fail> {
+    let module = module(&rt, rt.alloc())?;
+    let locals = Arena::new(rt.alloc());
+    let context = ResolveContext::with_locals(&module, &locals, &[]);
+    untold_arguments_rows(&Rows::new(&rt, &context, rt.alloc()))
+}
+
+fn untold_arguments_rows<R: Abort>(rows: &Rows<'_, R>) -> Result<(), Fail> {
+    let untold = ResolveError::FunctionArgumentNotFound(0);
+    rows.expects(&[], of_two(MathFunction::Max), Err(untold))?;
+    let second = ResolveError::FunctionArgumentNotFound(0);
+    rows.expects(&[of(2)], of_two(MathFunction::Max), Err(second))?;
+    rows.expects(
         &[of(2)],
-        &of_two(MathFunction::Max),
-        second,
+        of_one(MathFunction::Modf),
+        Err(ResolveError::MissingSpecialType),
     )?;
     Ok(())
 }
 
 #[test]
 fn registered_results(rt: HostRuntime) -> Result<(), Fail> {
-    let alloc = rt.alloc();
-    let mut module = module(&rt, alloc)?;
+    let mut module = module(&rt, rt.alloc())?;
     let predeclared = PredeclaredType::FrexpResult {
-        size: Some(VectorSize::Bi),
-        scalar: Scalar::F32,
+        size: Some(BI),
+        scalar: F32,
     };
+    let ty = Handle::from_index(5);
     module
         .special_types
         .predeclared_types
-        .insert(predeclared, Handle::from_index(5))?;
-    let locals = Arena::new(alloc);
+        .insert(predeclared, ty)?;
+    let locals = Arena::new(rt.alloc());
     let context = ResolveContext::with_locals(&module, &locals, &[]);
-    let frexp = of_one(MathFunction::Frexp);
-    expects(&rt, &context, alloc, &[of(1)], &frexp, Ok(of(5)))?;
-    let missing = Err(ResolveError::MissingSpecialType);
-    expects(&rt, &context, alloc, &[of(0)], &frexp, missing)?;
+    registered_rows(&Rows::new(&rt, &context, rt.alloc()))
+}
+
+fn registered_rows<R: Abort>(rows: &Rows<'_, R>) -> Result<(), Fail> {
+    rows.expects(&[of(1)], of_one(MathFunction::Frexp), Ok(of(5)))?;
+    rows.expects(
+        &[of(0)],
+        of_one(MathFunction::Frexp),
+        Err(ResolveError::MissingSpecialType),
+    )?;
     Ok(())
 }

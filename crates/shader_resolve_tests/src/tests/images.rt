@@ -1,133 +1,172 @@
 //! Rows of images.
-use crate::tests::rows::{at, expects, image, module, of, scalar, vector};
+use crate::tests::rows::{Rows, at, image, module, of, scalar, vector};
 use shader_arena::Arena;
 use shader_ir::{
     Expression, ImageClass, ImageDimension, ImageQuery, SampleLevel, Scalar, ScalarKind,
-    StorageAccess, StorageFormat, SwizzleComponent, VectorSize,
+    StorageAccess, StorageFormat, SwizzleComponent, TypeResolution, VectorSize,
 };
 use shader_resolve::{ResolveContext, ResolveError};
+use std::process::Abort;
 use std::test::Fail;
 
-#[test]
-fn images(rt: HostRuntime) -> Result<(), Fail> {
-    let alloc = rt.alloc();
-    let module = module(&rt, alloc)?;
-    let locals = Arena::new(alloc);
-    let context = ResolveContext::with_locals(&module, &locals, &[]);
-    let sample = Expression::ImageSample {
+const QUAD: VectorSize = VectorSize::Quad;
+
+fn sample(gather: Option<SwizzleComponent>) -> Expression {
+    Expression::ImageSample {
         image: at(0),
         sampler: at(9),
-        gather: None,
+        gather,
         coordinate: at(9),
         array_index: None,
         offset: None,
         level: SampleLevel::Auto,
         depth_ref: None,
         clamp_to_edge: false,
-    };
-    let depth = [image(ImageDimension::D2, ImageClass::Depth { multi: false })];
-    expects(
-        &rt,
-        &context,
-        alloc,
-        &depth,
-        &sample,
-        Ok(scalar(Scalar::F32)),
-    )?;
-    let gather = Expression::ImageSample {
-        image: at(0),
-        sampler: at(9),
-        gather: Some(SwizzleComponent::Y),
-        coordinate: at(9),
-        array_index: None,
-        offset: None,
-        level: SampleLevel::Zero,
-        depth_ref: None,
-        clamp_to_edge: false,
-    };
-    let quad = VectorSize::Quad;
-    expects(
-        &rt,
-        &context,
-        alloc,
-        &depth,
-        &gather,
-        Ok(vector(quad, Scalar::F32)),
-    )?;
-    let no_image = Err(ResolveError::InvalidImage(at(0)));
-    expects(&rt, &context, alloc, &[of(0)], &gather, no_image)?;
-    let load = Expression::ImageLoad {
+    }
+}
+
+fn load() -> Expression {
+    Expression::ImageLoad {
         image: at(0),
         coordinate: at(9),
         array_index: None,
         sample: None,
         level: None,
-    };
-    let class = ImageClass::Storage {
-        format: StorageFormat::R64Uint,
-        access: StorageAccess::LOAD,
-    };
-    let storage = [image(ImageDimension::D3, class)];
-    expects(
-        &rt,
-        &context,
-        alloc,
-        &storage,
-        &load,
-        Ok(vector(quad, Scalar::U64)),
-    )?;
-    let size = Expression::ImageQuery {
+    }
+}
+
+fn query(query: ImageQuery) -> Expression {
+    Expression::ImageQuery {
         image: at(0),
-        query: ImageQuery::Size { level: None },
-    };
-    let three = Ok(vector(VectorSize::Tri, Scalar::U32));
-    expects(&rt, &context, alloc, &storage, &size, three)?;
-    let no_image = Err(ResolveError::InvalidImage(at(0)));
-    expects(&rt, &context, alloc, &[of(2)], &size, no_image)?;
-    let levels = Expression::ImageQuery {
-        image: at(9),
-        query: ImageQuery::NumLevels,
-    };
-    expects(&rt, &context, alloc, &[], &levels, Ok(scalar(Scalar::U32)))?;
+        query,
+    }
+}
+
+fn extent() -> Expression {
+    query(ImageQuery::Size { level: None })
+}
+
+fn depth() -> TypeResolution {
+    image(ImageDimension::D2, ImageClass::Depth { multi: false })
+}
+
+fn sampled() -> TypeResolution {
     let class = ImageClass::Sampled {
         kind: ScalarKind::Sint,
         multi: false,
     };
-    let sampled = [image(ImageDimension::Cube, class)];
-    expects(
-        &rt,
-        &context,
-        alloc,
-        &sampled,
-        &gather,
-        Ok(vector(quad, Scalar::I32)),
+    image(ImageDimension::Cube, class)
+}
+
+fn storage(format: StorageFormat) -> TypeResolution {
+    let class = ImageClass::Storage {
+        format,
+        access: StorageAccess::LOAD,
+    };
+    image(ImageDimension::D3, class)
+}
+
+fn outside() -> TypeResolution {
+    image(ImageDimension::D1, ImageClass::External)
+}
+
+#[test]
+fn gathers(rt: HostRuntime) -> Result<(), Fail> {
+    let module = module(&rt, rt.alloc())?;
+    let locals = Arena::new(rt.alloc());
+    let context = ResolveContext::with_locals(&module, &locals, &[]);
+    gathers_rows(&Rows::new(&rt, &context, rt.alloc()))
+}
+
+fn gathers_rows<R: Abort>(rows: &Rows<'_, R>) -> Result<(), Fail> {
+    let gather = SwizzleComponent::Y;
+    rows.expects(
+        &[depth()],
+        sample(Some(gather)),
+        Ok(vector(QUAD, Scalar::F32)),
     )?;
-    expects(
-        &rt,
-        &context,
-        alloc,
-        &sampled,
-        &load,
-        Ok(vector(quad, Scalar::I32)),
+    rows.expects(
+        &[sampled()],
+        sample(Some(gather)),
+        Ok(vector(QUAD, Scalar::I32)),
     )?;
-    let two = Ok(vector(VectorSize::Bi, Scalar::U32));
-    expects(&rt, &context, alloc, &sampled, &size, two)?;
-    let outside = [image(ImageDimension::D1, ImageClass::External)];
-    expects(
-        &rt,
-        &context,
-        alloc,
-        &outside,
-        &load,
-        Ok(vector(quad, Scalar::F32)),
+    rows.expects(
+        &[of(0)],
+        sample(Some(gather)),
+        Err(ResolveError::InvalidImage(at(0))),
     )?;
-    expects(
-        &rt,
-        &context,
-        alloc,
-        &outside,
-        &size,
-        Ok(scalar(Scalar::U32)),
+    Ok(())
+}
+
+#[test]
+fn texels(rt: HostRuntime) -> Result<(), Fail> {
+    let module = module(&rt, rt.alloc())?;
+    let locals = Arena::new(rt.alloc());
+    let context = ResolveContext::with_locals(&module, &locals, &[]);
+    texels_rows(&Rows::new(&rt, &context, rt.alloc()))
+}
+
+fn texels_rows<R: Abort>(rows: &Rows<'_, R>) -> Result<(), Fail> {
+    rows.expects(&[depth()], sample(None), Ok(scalar(Scalar::F32)))?;
+    rows.expects(&[sampled()], load(), Ok(vector(QUAD, Scalar::I32)))?;
+    rows.expects(&[outside()], load(), Ok(vector(QUAD, Scalar::F32)))?;
+    rows.expects(&[of(0)], load(), Err(ResolveError::InvalidImage(at(0))))?;
+    Ok(())
+}
+
+#[test]
+fn formats(rt: HostRuntime) -> Result<(), Fail> {
+    let module = module(&rt, rt.alloc())?;
+    let locals = Arena::new(rt.alloc());
+    let context = ResolveContext::with_locals(&module, &locals, &[]);
+    formats_rows(&Rows::new(&rt, &context, rt.alloc()))
+}
+
+fn formats_rows<R: Abort>(rows: &Rows<'_, R>) -> Result<(), Fail> {
+    rows.expects(
+        &[storage(StorageFormat::R64Uint)],
+        load(),
+        Ok(vector(QUAD, Scalar::U64)),
     )?;
+    rows.expects(
+        &[storage(StorageFormat::Rgb10a2Uint)],
+        load(),
+        Ok(vector(QUAD, Scalar::U32)),
+    )?;
+    rows.expects(
+        &[storage(StorageFormat::Rgba8Sint)],
+        load(),
+        Ok(vector(QUAD, Scalar::I32)),
+    )?;
+    rows.expects(
+        &[storage(StorageFormat::Bgra8Unorm)],
+        load(),
+        Ok(vector(QUAD, Scalar::F32)),
+    )?;
+    Ok(())
+}
+
+#[test]
+fn queries(rt: HostRuntime) -> Result<(), Fail> {
+    let module = module(&rt, rt.alloc())?;
+    let locals = Arena::new(rt.alloc());
+    let context = ResolveContext::with_locals(&module, &locals, &[]);
+    queries_rows(&Rows::new(&rt, &context, rt.alloc()))
+}
+
+fn queries_rows<R: Abort>(rows: &Rows<'_, R>) -> Result<(), Fail> {
+    rows.expects(&[outside()], extent(), Ok(scalar(Scalar::U32)))?;
+    rows.expects(
+        &[sampled()],
+        extent(),
+        Ok(vector(VectorSize::Bi, Scalar::U32)),
+    )?;
+    rows.expects(
+        &[storage(StorageFormat::R8Unorm)],
+        extent(),
+        Ok(vector(VectorSize::Tri, Scalar::U32)),
+    )?;
+    rows.expects(&[of(2)], extent(), Err(ResolveError::InvalidImage(at(0))))?;
+    rows.expects(&[], query(ImageQuery::NumLevels), Ok(scalar(Scalar::U32)))?;
     Ok(())
 }

@@ -1,105 +1,188 @@
 //! Rows that ask no operand.
-use crate::tests::rows::{at, expects, module, of, pointer, scalar, vector};
+use crate::tests::rows::{Rows, at, module, of, pointer, scalar, vector};
 use shader_arena::{Arena, Handle};
 use shader_ir::{
-    AddressSpace, Block, Constant, Expression, Function, FunctionArgument, GlobalVariable, Items,
-    Literal, LocalVariable, Map, Override, Scalar, VectorSize,
+    AddressSpace, Block, Constant, Expression, Function, FunctionArgument, FunctionResult,
+    GlobalVariable, Items, Literal, LocalVariable, Map, Module, Override, Scalar, VectorSize, mark,
 };
 use shader_resolve::{ResolveContext, ResolveError};
+use std::alloc::Global;
+use std::process::Abort;
 use std::test::Fail;
 
+fn literal(literal: Literal) -> Expression {
+    Expression::Literal(literal)
+}
+
 #[test]
-fn leaves(rt: HostRuntime) -> Result<(), Fail> {
-    let alloc = rt.alloc();
-    let module = module(&rt, alloc)?;
-    let locals = Arena::new(alloc);
+fn literals(rt: HostRuntime) -> Result<(), Fail> {
+    let module = module(&rt, rt.alloc())?;
+    let locals = Arena::new(rt.alloc());
+    let context = ResolveContext::with_locals(&module, &locals, &[]);
+    literals_rows(&Rows::new(&rt, &context, rt.alloc()))
+}
+
+fn literals_rows<R: Abort>(rows: &Rows<'_, R>) -> Result<(), Fail> {
+    rows.expects(&[], literal(Literal::F64(0)), Ok(scalar(Scalar::F64)))?;
+    rows.expects(&[], literal(Literal::F16(0)), Ok(scalar(Scalar::F16)))?;
+    rows.expects(
+        &[],
+        literal(Literal::AbstractFloat(0)),
+        Ok(scalar(Scalar::ABSTRACT_FLOAT)),
+    )?;
+    rows.expects(&[], literal(Literal::U32(0)), Ok(scalar(Scalar::U32)))?;
+    rows.expects(&[], literal(Literal::I64(0)), Ok(scalar(Scalar::I64)))?;
+    rows.expects(
+        &[],
+        literal(Literal::AbstractInt(0)),
+        Ok(scalar(Scalar::ABSTRACT_INT)),
+    )?;
+    rows.expects(&[], literal(Literal::Bool(true)), Ok(scalar(Scalar::BOOL)))?;
+    Ok(())
+}
+
+#[test]
+fn arguments(rt: HostRuntime) -> Result<(), Fail> {
+    let module = module(&rt, rt.alloc())?;
+    let locals = Arena::new(rt.alloc());
     let arguments = [FunctionArgument {
         name: None,
         ty: Handle::from_index(1),
         binding: None,
     }];
     let context = ResolveContext::with_locals(&module, &locals, &arguments);
-    let literal = Expression::Literal(Literal::AbstractFloat(0));
-    let float = Ok(scalar(Scalar::ABSTRACT_FLOAT));
-    expects(&rt, &context, alloc, &[], &literal, float)?;
-    let argument = Expression::FunctionArgument(0);
-    expects(&rt, &context, alloc, &[], &argument, Ok(of(1)))?;
-    let missing = Expression::FunctionArgument(1);
-    let not_found = Err(ResolveError::FunctionArgumentNotFound(1));
-    expects(&rt, &context, alloc, &[], &missing, not_found)?;
-    let length = Expression::ArrayLength(at(9));
-    expects(&rt, &context, alloc, &[], &length, Ok(scalar(Scalar::U32)))?;
-    let proceed = Expression::RayQueryProceedResult;
-    expects(
-        &rt,
-        &context,
-        alloc,
+    arguments_rows(&Rows::new(&rt, &context, rt.alloc()))
+}
+
+fn arguments_rows<R: Abort>(rows: &Rows<'_, R>) -> Result<(), Fail> {
+    rows.expects(&[], Expression::FunctionArgument(0), Ok(of(1)))?;
+    rows.expects(
         &[],
-        &proceed,
-        Ok(scalar(Scalar::BOOL)),
+        Expression::FunctionArgument(1),
+        Err(ResolveError::FunctionArgumentNotFound(1)),
     )?;
-    let ballot = Expression::SubgroupBallotResult;
-    let four = Ok(vector(VectorSize::Quad, Scalar::U32));
-    expects(&rt, &context, alloc, &[], &ballot, four)?;
-    let intersection = Expression::RayQueryGetIntersection {
-        query: at(9),
-        committed: true,
-    };
-    expects(&rt, &context, alloc, &[], &intersection, Ok(of(5)))?;
-    let positions = Expression::RayQueryVertexPositions {
-        query: at(9),
-        committed: true,
-    };
-    let missing = Err(ResolveError::MissingSpecialType);
-    expects(&rt, &context, alloc, &[], &positions, missing)?;
-    let ty = Handle::from_index(2);
-    expects(
-        &rt,
-        &context,
-        alloc,
-        &[],
-        &Expression::ZeroValue(ty),
-        Ok(of(2)),
-    )?;
-    let composed = Expression::Compose {
-        ty,
-        components: Items::from(Vec::new(alloc)),
-    };
-    expects(&rt, &context, alloc, &[], &composed, Ok(of(2)))?;
-    let atomic = Expression::AtomicResult {
-        ty,
-        comparison: false,
-    };
-    expects(&rt, &context, alloc, &[], &atomic, Ok(of(2)))?;
-    let loaded = Expression::WorkGroupUniformLoadResult { ty };
-    expects(&rt, &context, alloc, &[], &loaded, Ok(of(2)))?;
-    let subgroup = Expression::SubgroupOperationResult { ty };
-    expects(&rt, &context, alloc, &[], &subgroup, Ok(of(2)))?;
     Ok(())
 }
 
 #[test]
-fn variables_and_calls(rt: HostRuntime) -> Result<(), Fail> {
-    let alloc = rt.alloc();
-    let mut module = module(&rt, alloc)?;
+fn results(rt: HostRuntime) -> Result<(), Fail> {
+    let module = module(&rt, rt.alloc())?;
+    let locals = Arena::new(rt.alloc());
+    let context = ResolveContext::with_locals(&module, &locals, &[]);
+    results_rows(&Rows::new(&rt, &context, rt.alloc()))
+}
+
+fn results_rows<R: Abort>(rows: &Rows<'_, R>) -> Result<(), Fail> {
+    rows.expects(&[], Expression::ArrayLength(at(9)), Ok(scalar(Scalar::U32)))?;
+    rows.expects(
+        &[],
+        Expression::RayQueryProceedResult,
+        Ok(scalar(Scalar::BOOL)),
+    )?;
+    rows.expects(
+        &[],
+        Expression::SubgroupBallotResult,
+        Ok(vector(VectorSize::Quad, Scalar::U32)),
+    )?;
+    let intersection = Expression::RayQueryGetIntersection {
+        query: at(9),
+        committed: true,
+    };
+    rows.expects(&[], intersection, Ok(of(5)))?;
+    let positions = Expression::RayQueryVertexPositions {
+        query: at(9),
+        committed: true,
+    };
+    rows.expects(&[], positions, Err(ResolveError::MissingSpecialType))?;
+    Ok(())
+}
+
+fn composed(alloc: Global, ty: Handle<mark::Type>) -> Expression {
+    Expression::Compose {
+        ty,
+        components: Items::from(Vec::new(alloc)),
+    }
+}
+
+#[test]
+fn named_types(rt: HostRuntime) -> Result<(), Fail> {
+    let module = module(&rt, rt.alloc())?;
+    let locals = Arena::new(rt.alloc());
+    let context = ResolveContext::with_locals(&module, &locals, &[]);
+    let made = composed(rt.alloc(), Handle::from_index(2));
+    let rows = Rows::new(&rt, &context, rt.alloc());
+    rows.expects(&[], made, Ok(of(2)))?;
+    named_types_rows(&rows)
+}
+
+fn named_types_rows<R: Abort>(rows: &Rows<'_, R>) -> Result<(), Fail> {
+    let ty = Handle::from_index(2);
+    let comparison = false;
+    rows.expects(&[], Expression::ZeroValue(ty), Ok(of(2)))?;
+    rows.expects(&[], Expression::AtomicResult { ty, comparison }, Ok(of(2)))?;
+    rows.expects(
+        &[],
+        Expression::WorkGroupUniformLoadResult { ty },
+        Ok(of(2)),
+    )?;
+    rows.expects(&[], Expression::SubgroupOperationResult { ty }, Ok(of(2)))?;
+    Ok(())
+}
+
+fn add_data(rt: &impl Abort, module: &mut Module) -> Result<(), Fail> {
     let ty = Handle::from_index(2);
     assert!(rt; module.constants.len() < 1000);
-    let constant = module.constants.append(Constant {
+    module.constants.append(Constant {
         name: None,
         ty,
         init: at(0),
     })?;
     assert!(rt; module.overrides.len() < 1000);
-    let value = module.overrides.append(Override {
+    module.overrides.append(Override {
         name: None,
         ty,
         init: None,
     })?;
+    Ok(())
+}
+
+#[test]
+fn data(rt: HostRuntime) -> Result<(), Fail> {
+    let mut module = module(&rt, rt.alloc())?;
+    add_data(&rt, &mut module)?;
+    let mut locals = Arena::new(rt.alloc());
+    locals.append(LocalVariable {
+        name: None,
+        ty: Handle::from_index(2),
+        init: None,
+    })?;
+    let context = ResolveContext::with_locals(&module, &locals, &[]);
+    data_rows(&Rows::new(&rt, &context, rt.alloc()))
+}
+
+fn data_rows<R: Abort>(rows: &Rows<'_, R>) -> Result<(), Fail> {
+    let here = pointer(2, AddressSpace::Function);
+    rows.expects(&[], Expression::Constant(Handle::from_index(0)), Ok(of(2)))?;
+    rows.expects(&[], Expression::Override(Handle::from_index(0)), Ok(of(2)))?;
+    rows.expects(
+        &[],
+        Expression::LocalVariable(Handle::from_index(0)),
+        Ok(here),
+    )?;
+    Ok(())
+}
+
+fn add_function(
+    rt: &impl Abort,
+    alloc: Global,
+    module: &mut Module,
+    returned: Option<FunctionResult>,
+) -> Result<(), Fail> {
     assert!(rt; module.functions.len() < 1000);
-    let function = module.functions.append(Function {
+    module.functions.append(Function {
         name: None,
         arguments: Items::from(Vec::new(alloc)),
-        result: None,
+        result: returned,
         local_variables: Arena::new(alloc),
         expressions: Arena::new(alloc),
         named_expressions: Map::new(alloc),
@@ -108,87 +191,70 @@ fn variables_and_calls(rt: HostRuntime) -> Result<(), Fail> {
         },
         diagnostic_filter_leaf: None,
     })?;
-    let mut locals = Arena::new(alloc);
-    let local = locals.append(LocalVariable {
+    Ok(())
+}
+
+#[test]
+fn calls(rt: HostRuntime) -> Result<(), Fail> {
+    let mut module = module(&rt, rt.alloc())?;
+    let result = FunctionResult {
+        ty: Handle::from_index(1),
+        binding: None,
+    };
+    add_function(&rt, rt.alloc(), &mut module, None)?;
+    add_function(&rt, rt.alloc(), &mut module, Some(result))?;
+    let locals = Arena::new(rt.alloc());
+    let context = ResolveContext::with_locals(&module, &locals, &[]);
+    call_rows(&Rows::new(&rt, &context, rt.alloc()))
+}
+
+fn call_rows<R: Abort>(rows: &Rows<'_, R>) -> Result<(), Fail> {
+    let void = ResolveError::FunctionReturnsVoid;
+    rows.expects(
+        &[],
+        Expression::CallResult(Handle::from_index(0)),
+        Err(void),
+    )?;
+    rows.expects(
+        &[],
+        Expression::CallResult(Handle::from_index(1)),
+        Ok(of(1)),
+    )?;
+    Ok(())
+}
+
+fn add_global(rt: &impl Abort, module: &mut Module, space: AddressSpace) -> Result<(), Fail> {
+    assert!(rt; module.global_variables.len() < 1000);
+    module.global_variables.append(GlobalVariable {
         name: None,
-        ty,
+        space,
+        ty: Handle::from_index(2),
         init: None,
     })?;
-    let context = ResolveContext::with_locals(&module, &locals, &[]);
-    expects(
-        &rt,
-        &context,
-        alloc,
-        &[],
-        &Expression::Constant(constant),
-        Ok(of(2)),
-    )?;
-    expects(
-        &rt,
-        &context,
-        alloc,
-        &[],
-        &Expression::Override(value),
-        Ok(of(2)),
-    )?;
-    let here = Ok(pointer(2, AddressSpace::Function));
-    expects(
-        &rt,
-        &context,
-        alloc,
-        &[],
-        &Expression::LocalVariable(local),
-        here,
-    )?;
-    let void = Err(ResolveError::FunctionReturnsVoid);
-    expects(
-        &rt,
-        &context,
-        alloc,
-        &[],
-        &Expression::CallResult(function),
-        void,
-    )?;
     Ok(())
 }
 
 #[test]
 fn globals(rt: HostRuntime) -> Result<(), Fail> {
-    let alloc = rt.alloc();
-    let mut module = module(&rt, alloc)?;
-    let ty = Handle::from_index(2);
-    assert!(rt; module.global_variables.len() < 1000);
-    let resource = module.global_variables.append(GlobalVariable {
-        name: None,
-        space: AddressSpace::Handle,
-        ty,
-        init: None,
-    })?;
-    assert!(rt; module.global_variables.len() < 1000);
-    let variable = module.global_variables.append(GlobalVariable {
-        name: None,
-        space: AddressSpace::WorkGroup,
-        ty,
-        init: None,
-    })?;
-    let locals = Arena::new(alloc);
+    let mut module = module(&rt, rt.alloc())?;
+    add_global(&rt, &mut module, AddressSpace::Handle)?;
+    add_global(&rt, &mut module, AddressSpace::WorkGroup)?;
+    let locals = Arena::new(rt.alloc());
     let context = ResolveContext::with_locals(&module, &locals, &[]);
-    expects(
-        &rt,
-        &context,
-        alloc,
+    global_rows(&Rows::new(&rt, &context, rt.alloc()))
+}
+
+fn global_rows<R: Abort>(rows: &Rows<'_, R>) -> Result<(), Fail> {
+    let there = pointer(2, AddressSpace::WorkGroup);
+    rows.expects(
         &[],
-        &Expression::GlobalVariable(resource),
+        Expression::GlobalVariable(Handle::from_index(0)),
         Ok(of(2)),
     )?;
-    let there = Ok(pointer(2, AddressSpace::WorkGroup));
-    expects(
-        &rt,
-        &context,
-        alloc,
+    rows.expects(
         &[],
-        &Expression::GlobalVariable(variable),
-        there,
+        Expression::GlobalVariable(Handle::from_index(1)),
+        Ok(there),
     )?;
     Ok(())
 }

@@ -1,5 +1,5 @@
 //! Rows of operations and conversions.
-use crate::tests::rows::{at, expects, matrix, module, of, scalar, vector};
+use crate::tests::rows::{Rows, at, matrix, module, of, scalar, vector};
 use shader_arena::Arena;
 use shader_ir::{
     BinaryOperator, CooperativeRole, CooperativeSize, DerivativeAxis, DerivativeControl,
@@ -7,170 +7,236 @@ use shader_ir::{
     VectorSize,
 };
 use shader_resolve::{ResolveContext, ResolveError};
+use std::process::Abort;
 use std::test::Fail;
+
+const F32: Scalar = Scalar::F32;
+
+const BI: VectorSize = VectorSize::Bi;
+
+const TRI: VectorSize = VectorSize::Tri;
+
+const QUAD: VectorSize = VectorSize::Quad;
 
 fn cooperative(columns: CooperativeSize, rows: CooperativeSize) -> TypeResolution {
     TypeResolution::Value(TypeInner::CooperativeMatrix {
         columns,
         rows,
-        scalar: Scalar::F32,
+        scalar: F32,
         role: CooperativeRole::C,
     })
 }
 
-#[test]
-fn products_and_conversions(rt: HostRuntime) -> Result<(), Fail> {
-    let alloc = rt.alloc();
-    let module = module(&rt, alloc)?;
-    let locals = Arena::new(alloc);
-    let context = ResolveContext::with_locals(&module, &locals, &[]);
-    let product = Expression::Binary {
-        op: BinaryOperator::Multiply,
+/// A binary operation on the first two operands.
+fn binary(op: BinaryOperator) -> Expression {
+    Expression::Binary {
+        op,
         left: at(0),
         right: at(1),
-    };
-    let f32 = Scalar::F32;
-    let (bi, tri, quad) = (VectorSize::Bi, VectorSize::Tri, VectorSize::Quad);
-    let matrices = [matrix(bi, tri, f32), matrix(quad, bi, f32)];
-    expects(
-        &rt,
-        &context,
-        alloc,
-        &matrices,
-        &product,
-        Ok(matrix(quad, tri, f32)),
+    }
+}
+
+fn product() -> Expression {
+    binary(BinaryOperator::Multiply)
+}
+
+#[test]
+fn matrix_products(rt: HostRuntime) -> Result<(), Fail> {
+    let module = module(&rt, rt.alloc())?;
+    let locals = Arena::new(rt.alloc());
+    let context = ResolveContext::with_locals(&module, &locals, &[]);
+    matrix_products_rows(&Rows::new(&rt, &context, rt.alloc()))
+}
+
+fn matrix_products_rows<R: Abort>(rows: &Rows<'_, R>) -> Result<(), Fail> {
+    let tile = CooperativeSize::Eight;
+    let wide = CooperativeSize::Sixteen;
+    rows.expects(
+        &[matrix(BI, TRI, F32), matrix(QUAD, BI, F32)],
+        product(),
+        Ok(matrix(QUAD, TRI, F32)),
     )?;
-    let by_vector = [matrix(bi, tri, f32), vector(bi, f32)];
-    expects(
-        &rt,
-        &context,
-        alloc,
-        &by_vector,
-        &product,
-        Ok(vector(tri, f32)),
+    rows.expects(
+        &[matrix(BI, TRI, F32), vector(BI, F32)],
+        product(),
+        Ok(vector(TRI, F32)),
     )?;
-    let of_vector = [vector(tri, f32), matrix(bi, tri, f32)];
-    expects(
-        &rt,
-        &context,
-        alloc,
-        &of_vector,
-        &product,
-        Ok(vector(bi, f32)),
+    rows.expects(
+        &[vector(TRI, F32), matrix(BI, TRI, F32)],
+        product(),
+        Ok(vector(BI, F32)),
     )?;
-    expects(&rt, &context, alloc, &[of(2), of(0)], &product, Ok(of(0)))?;
-    expects(&rt, &context, alloc, &[of(0), of(2)], &product, Ok(of(0)))?;
-    let words = ResolveError::IncompatibleOperands("Multiply".to_string(alloc)?);
-    expects(&rt, &context, alloc, &[of(4), of(4)], &product, Err(words))?;
-    let cast = Expression::As {
-        expr: at(0),
-        kind: ScalarKind::Sint,
-        convert: Some(2),
-    };
-    let half = Ok(matrix(bi, bi, Scalar::F16));
-    expects(&rt, &context, alloc, &[matrix(bi, bi, f32)], &cast, half)?;
-    expects(
-        &rt,
-        &context,
-        alloc,
-        &[of(2)],
-        &cast,
-        Ok(scalar(Scalar::I16)),
+    rows.expects(
+        &[cooperative(tile, wide), cooperative(wide, tile)],
+        product(),
+        Ok(cooperative(wide, wide)),
     )?;
-    let words = ResolveError::IncompatibleOperands("As".to_string(alloc)?);
-    expects(&rt, &context, alloc, &[of(4)], &cast, Err(words))?;
-    let less = Expression::Binary {
-        op: BinaryOperator::Less,
-        left: at(0),
-        right: at(9),
-    };
-    expects(
-        &rt,
-        &context,
-        alloc,
-        &[of(0)],
-        &less,
-        Ok(vector(tri, Scalar::BOOL)),
-    )?;
-    let both = Expression::Binary {
-        op: BinaryOperator::LogicalAnd,
-        left: at(0),
-        right: at(9),
-    };
-    let words = ResolveError::IncompatibleOperands("LogicalAnd".to_string(alloc)?);
-    expects(&rt, &context, alloc, &[of(2)], &both, Err(words))?;
-    let sum = Expression::Binary {
-        op: BinaryOperator::Add,
-        left: at(0),
-        right: at(9),
-    };
-    expects(&rt, &context, alloc, &[of(4)], &sum, Ok(of(4)))?;
-    let test = Expression::Relational {
-        fun: RelationalFunction::IsNan,
-        argument: at(0),
-    };
-    expects(
-        &rt,
-        &context,
-        alloc,
-        &[of(2)],
-        &test,
-        Ok(scalar(Scalar::BOOL)),
-    )?;
-    let words = ResolveError::IncompatibleOperands("IsNan".to_string(alloc)?);
-    expects(&rt, &context, alloc, &[of(5)], &test, Err(words))?;
-    let all = Expression::Relational {
-        fun: RelationalFunction::All,
-        argument: at(9),
-    };
-    expects(&rt, &context, alloc, &[], &all, Ok(scalar(Scalar::BOOL)))?;
-    let truth = Ok(scalar(Scalar::BOOL));
-    expects(&rt, &context, alloc, &[scalar(Scalar::BOOL)], &both, truth)?;
-    expects(
-        &rt,
-        &context,
-        alloc,
-        &[of(2)],
-        &less,
-        Ok(scalar(Scalar::BOOL)),
-    )?;
-    let (eight, sixteen) = (CooperativeSize::Eight, CooperativeSize::Sixteen);
-    let tiles = [cooperative(eight, sixteen), cooperative(sixteen, eight)];
-    let tile = Ok(cooperative(sixteen, sixteen));
-    expects(&rt, &context, alloc, &tiles, &product, tile)?;
     Ok(())
 }
 
 #[test]
-fn copies_of_operands(rt: HostRuntime) -> Result<(), Fail> {
-    let alloc = rt.alloc();
-    let module = module(&rt, alloc)?;
-    let locals = Arena::new(alloc);
+fn products_by_scalars(rt: HostRuntime) -> Result<(), Fail> {
+    let module = module(&rt, rt.alloc())?;
+    let locals = Arena::new(rt.alloc());
     let context = ResolveContext::with_locals(&module, &locals, &[]);
+    products_by_scalars_rows(&Rows::new(&rt, &context, rt.alloc()))
+}
+
+fn products_by_scalars_rows<R: Abort>(rows: &Rows<'_, R>) -> Result<(), Fail> {
+    rows.expects(&[of(2), of(0)], product(), Ok(of(0)))?;
+    rows.expects(&[of(0), of(2)], product(), Ok(of(0)))?;
+    rows.expects(&[of(0), vector(TRI, F32)], product(), Ok(of(0)))?;
+    rows.expects_incompatible(&[of(4), of(4)], product(), "Multiply")?;
+    Ok(())
+}
+
+fn cast() -> Expression {
+    Expression::As {
+        expr: at(0),
+        kind: ScalarKind::Sint,
+        convert: Some(2),
+    }
+}
+
+#[test]
+fn conversions(rt: HostRuntime) -> Result<(), Fail> {
+    let module = module(&rt, rt.alloc())?;
+    let locals = Arena::new(rt.alloc());
+    let context = ResolveContext::with_locals(&module, &locals, &[]);
+    conversions_rows(&Rows::new(&rt, &context, rt.alloc()))
+}
+
+fn conversions_rows<R: Abort>(rows: &Rows<'_, R>) -> Result<(), Fail> {
+    rows.expects(
+        &[matrix(BI, BI, F32)],
+        cast(),
+        Ok(matrix(BI, BI, Scalar::F16)),
+    )?;
+    rows.expects(&[of(2)], cast(), Ok(scalar(Scalar::I16)))?;
+    rows.expects(&[of(0)], cast(), Ok(vector(TRI, Scalar::I16)))?;
+    rows.expects_incompatible(&[of(4)], cast(), "As")?;
+    Ok(())
+}
+
+fn relational(fun: RelationalFunction) -> Expression {
+    Expression::Relational {
+        fun,
+        argument: at(0),
+    }
+}
+
+#[test]
+fn tests(rt: HostRuntime) -> Result<(), Fail> {
+    let module = module(&rt, rt.alloc())?;
+    let locals = Arena::new(rt.alloc());
+    let context = ResolveContext::with_locals(&module, &locals, &[]);
+    tests_rows(&Rows::new(&rt, &context, rt.alloc()))
+}
+
+fn tests_rows<R: Abort>(rows: &Rows<'_, R>) -> Result<(), Fail> {
+    let truth = scalar(Scalar::BOOL);
+    rows.expects(
+        &[of(0)],
+        binary(BinaryOperator::Less),
+        Ok(vector(TRI, Scalar::BOOL)),
+    )?;
+    rows.expects(&[of(2)], binary(BinaryOperator::Equal), Ok(truth))?;
+    rows.expects_incompatible(
+        &[of(4)],
+        binary(BinaryOperator::GreaterEqual),
+        "GreaterEqual",
+    )?;
+    rows.expects(
+        &[of(2)],
+        relational(RelationalFunction::IsNan),
+        Ok(scalar(Scalar::BOOL)),
+    )?;
+    rows.expects(
+        &[of(1)],
+        relational(RelationalFunction::IsInf),
+        Ok(vector(BI, Scalar::BOOL)),
+    )?;
+    rows.expects_incompatible(&[of(5)], relational(RelationalFunction::IsNan), "IsNan")?;
+    rows.expects(
+        &[],
+        relational(RelationalFunction::All),
+        Ok(scalar(Scalar::BOOL)),
+    )?;
+    Ok(())
+}
+
+#[test]
+fn logic(rt: HostRuntime) -> Result<(), Fail> {
+    let module = module(&rt, rt.alloc())?;
+    let locals = Arena::new(rt.alloc());
+    let context = ResolveContext::with_locals(&module, &locals, &[]);
+    logic_rows(&Rows::new(&rt, &context, rt.alloc()))
+}
+
+fn logic_rows<R: Abort>(rows: &Rows<'_, R>) -> Result<(), Fail> {
+    let truth = [scalar(Scalar::BOOL)];
+    rows.expects(
+        &truth,
+        binary(BinaryOperator::LogicalOr),
+        Ok(scalar(Scalar::BOOL)),
+    )?;
+    rows.expects_incompatible(&[of(2)], binary(BinaryOperator::LogicalAnd), "LogicalAnd")?;
+    Ok(())
+}
+
+#[test]
+fn copies(rt: HostRuntime) -> Result<(), Fail> {
+    let module = module(&rt, rt.alloc())?;
+    let locals = Arena::new(rt.alloc());
+    let context = ResolveContext::with_locals(&module, &locals, &[]);
+    copies_rows(&Rows::new(&rt, &context, rt.alloc()))
+}
+
+fn copies_rows<R: Abort>(rows: &Rows<'_, R>) -> Result<(), Fail> {
     let negated = Expression::Unary {
         op: UnaryOperator::Negate,
         expr: at(0),
     };
-    expects(&rt, &context, alloc, &[of(2)], &negated, Ok(of(2)))?;
+    rows.expects(&[of(2)], negated, Ok(of(2)))?;
     let derivative = Expression::Derivative {
         axis: DerivativeAxis::X,
         ctrl: DerivativeControl::None,
         expr: at(0),
     };
-    expects(&rt, &context, alloc, &[of(1)], &derivative, Ok(of(1)))?;
+    rows.expects(&[of(1)], derivative, Ok(of(1)))?;
     let select = Expression::Select {
         condition: at(9),
         accept: at(1),
         reject: at(0),
     };
-    expects(&rt, &context, alloc, &[of(1), of(2)], &select, Ok(of(2)))?;
-    let product = Expression::CooperativeMultiplyAdd {
+    rows.expects(&[of(1), of(2)], select, Ok(of(2)))?;
+    rows.expects(&[of(4)], binary(BinaryOperator::Add), Ok(of(4)))?;
+    Ok(())
+}
+
+fn multiply_add() -> Expression {
+    Expression::CooperativeMultiplyAdd {
         a: at(0),
         b: at(9),
         c: at(1),
-    };
-    expects(&rt, &context, alloc, &[of(1), of(2)], &product, Ok(of(2)))?;
-    let wanted = Err(ResolveError::FunctionArgumentNotFound(0));
-    expects(&rt, &context, alloc, &[], &product, wanted)?;
+    }
+}
+
+#[test]
+fn sums_of_products(rt: HostRuntime) -> Result<(), Fail> {
+    let module = module(&rt, rt.alloc())?;
+    let locals = Arena::new(rt.alloc());
+    let context = ResolveContext::with_locals(&module, &locals, &[]);
+    sums_of_products_rows(&Rows::new(&rt, &context, rt.alloc()))
+}
+
+fn sums_of_products_rows<R: Abort>(rows: &Rows<'_, R>) -> Result<(), Fail> {
+    rows.expects(&[of(1), of(2)], multiply_add(), Ok(of(2)))?;
+    // The third operand isn't told.
+    rows.expects(
+        &[of(1)],
+        multiply_add(),
+        Err(ResolveError::FunctionArgumentNotFound(0)),
+    )?;
     Ok(())
 }

@@ -12,21 +12,58 @@ use std::test::Fail;
 
 pub type Resolved = Result<TypeResolution, ResolveError>;
 
-/// Asserts the answer for an expression whose operands' types are held. Want of memory is no answer, but ends the test.
-pub fn expects<'a>(
-    rt: &impl Abort,
-    context: &ResolveContext<'a>,
+/// What the rows of one context are asked with.
+pub struct Rows<'a, R> {
+    rt: &'a R,
+    context: &'a ResolveContext<'a>,
     alloc: Global,
-    held: &'a [TypeResolution],
-    expr: &Expression,
-    wanted: Resolved,
-) -> Result<(), Fail> {
-    let answer = resolve_held(context, alloc, held, expr);
-    if answer == Some(Err(ResolveError::OutOfMemory)) {
-        return Err(Fail::from(AllocError));
+}
+
+impl<'a, R: Abort> Rows<'a, R> {
+    pub fn new(rt: &'a R, context: &'a ResolveContext<'a>, alloc: Global) -> Self {
+        Rows { rt, context, alloc }
     }
-    assert!(rt; answer == Some(wanted));
-    Ok(())
+
+    /// Asserts the answer for an expression whose operands' types are held. Want of memory is no answer, but ends the test.
+    pub fn expects(
+        &self,
+        held: &[TypeResolution],
+        expr: Expression,
+        wanted: Resolved,
+    ) -> Result<(), Fail> {
+        let answer = resolve_held(self.context, self.alloc, held, &expr);
+        if answer == Some(Err(ResolveError::OutOfMemory)) {
+            return Err(Fail::from(AllocError));
+        }
+        assert!(self.rt; answer == Some(wanted));
+        Ok(())
+    }
+
+    /// Asserts that the operands don't go together under the operation's name.
+    pub fn expects_incompatible(
+        &self,
+        held: &[TypeResolution],
+        expr: Expression,
+        name: &str,
+    ) -> Result<(), Fail> {
+        let words = name.to_string(self.alloc)?;
+        self.expects(held, expr, Err(ResolveError::IncompatibleOperands(words)))
+    }
+
+    /// Asserts that no rule of the builtin takes the arguments.
+    pub fn expects_invalid(
+        &self,
+        held: &[TypeResolution],
+        expr: Expression,
+        name: &str,
+    ) -> Result<(), Fail> {
+        let words = name.to_string(self.alloc)?;
+        self.expects(
+            held,
+            expr,
+            Err(ResolveError::BuiltinArgumentsInvalid(words)),
+        )
+    }
 }
 
 pub fn at(place: u32) -> Handle<mark::Expression> {

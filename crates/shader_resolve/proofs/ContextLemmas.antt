@@ -1,0 +1,147 @@
+-- The contexts of a well-formed module.
+use Rattle.std.proofs.Common.{◌≡◌, ℕ, ◌+◌, ◌<◌, Bool, true, false, ◌&&◌, List, [], ◌∷◌, Option, Some, None, IfSome, All, length, nat_lt}
+use Rattle.std.specs.List.{list_all, enumerate_from}
+use Rattle.std.proofs.lemmas.Bool.{and_parts, ltb-true}
+use Rattle.std.proofs.lemmas.List.Elements.{All-nil, All-cons, All-weaker}
+use Rattle.shader_ir.specs.declared.expression.Expression.{Expression}
+use Rattle.shader_ir.specs.declared.expression.Expression.TheVariants as form
+use Rattle.shader_ir.specs.declared.function.Function.{Function}
+use Rattle.shader_ir.specs.declared.function.FunctionArgument.{FunctionArgument}
+use Rattle.shader_ir.specs.declared.function.FunctionResult.{FunctionResult}
+use Rattle.shader_ir.specs.declared.function.LocalVariable.{LocalVariable}
+use Rattle.shader_ir.specs.declared.«module».Constant.{Constant}
+use Rattle.shader_ir.specs.declared.«module».EntryPoint.{EntryPoint}
+use Rattle.shader_ir.specs.declared.«module».GlobalVariable.{GlobalVariable}
+use Rattle.shader_ir.specs.declared.«module».Module.{Module}
+use Rattle.shader_ir.specs.declared.«module».Override.{Override}
+use Rattle.shader_ir.specs.declared.«module».PredeclaredType.{PredeclaredType}
+use Rattle.shader_resolve.specs.declared.well_formed.ModuleFault.TheVariants.{HandleOutOfRange}
+use Rattle.shader_resolve.specs.Context.{context_of, IsInRange, TypesInRange}
+use Rattle.shader_resolve.specs.ContextLaws.{ContextFits, ContextsFit, EntryPointFits, FunctionFits, WellFormedContextsFit}
+use Rattle.shader_resolve.specs.WellFormed.{constant_in_range, data_in_range, expressions_in_range, function_in_range, function_lacks, global_in_range, is_below, local_in_range, names_in_range, override_in_range, result_in_range, HandlesInRange}
+
+-- what a test shows of each item holds of each item of a list that passes it
+listed : {T : Type 0} (test : T → Bool) (P : T → Type 0) → ((x : T) → test x ≡ true → P x) → (xs : List T) → list_all test xs ≡ true → All P xs
+listed test P shows [] e = All-nil P
+listed test P shows (x ∷ xs) e = All-cons P x xs (shows x (and_parts _ _ e).0) (listed test P shows xs (and_parts _ _ e).1)
+
+-- so it is of a test at each item's place
+placed : {T : Type 0} (test : ℕ → T → Bool) (P : T → Type 0) → ((n : ℕ) (x : T) → test n x ≡ true → P x)
+    → (first : ℕ) (xs : List T) → list_all (λ entry. test entry.0 entry.1) (enumerate_from first xs) ≡ true → All P xs
+placed test P shows first [] e = All-nil P
+placed test P shows first (x ∷ xs) e = All-cons P x xs (shows first x (and_parts _ _ e).0) (placed test P shows (first + 1) xs (and_parts _ _ e).1)
+
+below : (bound : ℕ) (found : Option ℕ) → is_below bound found ≡ true → IfSome found (λ handle. handle < bound)
+below bound (Some handle) e = ltb-true handle bound e
+below bound None e = tt
+
+module _ (checked : Module) where
+  abbrev bound : ℕ
+  bound = length checked.types
+
+  result-below : (result : Option FunctionResult) → result_in_range checked result ≡ true → IfSome result (λ result. result.ty < bound)
+  result-below (Some result) e = ltb-true result.ty bound e
+  result-below None e = tt
+
+  module _ (locals : List LocalVariable) (arguments : List FunctionArgument) where
+    name-in_range : (expression : Expression) → names_in_range checked (length locals) expression ≡ true → IsInRange (context_of checked locals arguments) expression
+    name-in_range (form.Constant constant) e = ltb-true constant (length checked.constants) e
+    name-in_range (form.Override override) e = ltb-true override (length checked.overrides) e
+    name-in_range (form.ZeroValue ty) e = ltb-true ty bound e
+    name-in_range (form.Compose ty components) e = ltb-true ty bound e
+    name-in_range (form.GlobalVariable variable) e = ltb-true variable (length checked.global_variables) e
+    name-in_range (form.LocalVariable variable) e = ltb-true variable (length locals) e
+    name-in_range (form.CallResult function) e = ltb-true function (length checked.functions) e
+    name-in_range (form.AtomicResult ty comparison) e = ltb-true ty bound e
+    name-in_range (form.WorkGroupUniformLoadResult ty) e = ltb-true ty bound e
+    name-in_range (form.SubgroupOperationResult ty) e = ltb-true ty bound e
+    name-in_range expression e = tt
+
+    names-in_range : (expressions : List Expression) → expressions_in_range checked (length locals) expressions ≡ true → All (IsInRange (context_of checked locals arguments)) expressions
+    names-in_range expressions e = placed _ (IsInRange (context_of checked locals arguments)) (λ n expression passed. name-in_range expression (and_parts _ _ passed).1) 0 expressions e
+
+  abbrev IsTested : Function → Type 0
+  IsTested function = function_in_range checked function ≡ true
+
+  function-result : (function : Function) → IsTested function → IfSome function.result (λ result. result.ty < bound)
+  function-result function e = result-below function.result (and_parts _ _ (and_parts _ _ e).1).0
+
+  function-arguments : (function : Function) → IsTested function → All (λ (argument : FunctionArgument). argument.ty < bound) function.arguments
+  function-arguments function e =
+      listed (λ (argument : FunctionArgument). nat_lt argument.ty bound) (λ (argument : FunctionArgument). argument.ty < bound)
+      (λ argument passed. ltb-true argument.ty bound passed) function.arguments (and_parts _ _ e).0
+
+  function-locals : (function : Function) → IsTested function → All (λ (variable : LocalVariable). variable.ty < bound) function.local_variables
+  function-locals function e =
+      placed (λ place variable. local_in_range checked function variable) (λ (variable : LocalVariable). variable.ty < bound)
+      (λ n variable passed. ltb-true variable.ty bound (and_parts _ _ passed).0) 0 function.local_variables (and_parts _ _ (and_parts _ _ (and_parts _ _ e).1).1).0
+
+  function-expressions : (function : Function) → IsTested function → expressions_in_range checked (length function.local_variables) function.expressions ≡ true
+  function-expressions function e = (and_parts _ _ (and_parts _ _ (and_parts _ _ (and_parts _ _ e).1).1).1).0
+
+  module _ (held : data_in_range checked ≡ true) (functions : All IsTested checked.functions) where
+    types-in_range : (locals : List LocalVariable) (arguments : List FunctionArgument) → All (λ (variable : LocalVariable). variable.ty < bound) locals
+        → All (λ (argument : FunctionArgument). argument.ty < bound) arguments → TypesInRange (context_of checked locals arguments)
+    types-in_range locals arguments local_types argument_types =
+        let special = and_parts _ _ (and_parts _ _ held).1 in
+        let rays = and_parts _ _ special.0 in
+        let others = and_parts _ _ rays.1 in
+        let constants = and_parts _ _ special.1 in
+        let overrides = and_parts _ _ constants.1 in
+        let globals = and_parts _ _ overrides.1 in
+        record {
+          constants =
+              placed (λ place constant. constant_in_range checked constant) (λ (constant : Constant). constant.ty < bound)
+              (λ n constant passed. ltb-true constant.ty bound (and_parts _ _ passed).0) 0 checked.constants constants.0;
+          overrides =
+              placed (λ place override. override_in_range checked override) (λ (override : Override). override.ty < bound)
+              (λ n override passed. ltb-true override.ty bound (and_parts _ _ passed).0) 0 checked.overrides overrides.0;
+          globals =
+              placed (λ place variable. global_in_range checked variable) (λ (variable : GlobalVariable). variable.ty < bound)
+              (λ n variable passed. ltb-true variable.ty bound (and_parts _ _ passed).0) 0 checked.global_variables globals.0;
+          locals = local_types;
+          results = All-weaker IsTested (λ (function : Function). IfSome function.result (λ result. result.ty < bound)) function-result checked.functions functions;
+          arguments = argument_types;
+          ray_intersection = below bound checked.special_types.ray_intersection rays.0;
+          ray_vertex_return = below bound checked.special_types.ray_vertex_return others.0;
+          predeclared =
+              listed (λ (entry : PredeclaredType × ℕ). nat_lt entry.1 bound) (λ (entry : PredeclaredType × ℕ). entry.1 < bound)
+              (λ entry passed. ltb-true entry.1 bound passed) checked.special_types.predeclared_types others.1;
+        }
+
+    function-fits : (function : Function) → IsTested function → FunctionFits checked function
+    function-fits function e = record {
+      types = types-in_range function.local_variables function.arguments (function-locals function e) (function-arguments function e);
+      names = names-in_range function.local_variables function.arguments function.expressions (function-expressions function e);
+    }
+
+    globals-fit : ContextFits checked [] [] checked.global_expressions
+    globals-fit =
+        let special = and_parts _ _ (and_parts _ _ held).1 in
+        let constants = and_parts _ _ special.1 in
+        let overrides = and_parts _ _ constants.1 in
+        let globals = and_parts _ _ overrides.1 in
+        let expressions = and_parts _ _ globals.1 in
+        record {
+          types = types-in_range [] [] (All-nil (λ (variable : LocalVariable). variable.ty < bound)) (All-nil (λ (argument : FunctionArgument). argument.ty < bound));
+          names = names-in_range [] [] checked.global_expressions expressions.0;
+        }
+
+    contexts-fit : All (λ (entry : EntryPoint). IsTested entry.function) checked.entry_points → ContextsFit checked
+    contexts-fit entries = record {
+      functions = All-weaker IsTested (FunctionFits checked) function-fits checked.functions functions;
+      entry_points = All-weaker (λ (entry : EntryPoint). IsTested entry.function) (EntryPointFits checked) (λ entry e. function-fits entry.function e) checked.entry_points entries;
+      global_expressions = globals-fit;
+    }
+
+  handles-fit : HandlesInRange checked → ContextsFit checked
+  handles-fit held =
+      let both = and_parts _ _ held in
+      let every = and_parts _ _ both.1 in
+      contexts-fit both.0
+      (placed (function_lacks checked HandleOutOfRange) IsTested (λ n function passed. (and_parts _ _ passed).0) 0 checked.functions every.0)
+      (listed (λ (entry : EntryPoint). function_lacks checked HandleOutOfRange (length checked.functions) entry.function) (λ (entry : EntryPoint). IsTested entry.function)
+      (λ entry passed. (and_parts _ _ passed).0) checked.entry_points every.1)
+
+pub contexts_of_well_formed : WellFormedContextsFit
+contexts_of_well_formed checked held = handles-fit checked held.0
