@@ -1,17 +1,19 @@
 //! Types, and the arenas that a context lends, for the tests of each part.
-ghost use Rattle.std.specs.Prelude.{◌≡◌, length};
+ghost use Rattle.std.specs.Prelude.{length};
 ghost use Rattle.shader_ir.specs.TypeTree.{IsBackward, PointsBelow};
 
 use shader_arena::{Arena, Handle, UniqueArena};
 use shader_ir::{
-    ArraySize, Constant, Count, Expression, GlobalCtx, Items, Literal, Override, Scalar,
-    StructMember, Type, TypeInner, VectorSize, mark, types_backward,
+    ArraySize, Constant, Count, Expression, GlobalCtx, Literal, Override, Type, TypeInner, mark,
+    types_backward,
 };
 use std::alloc::Global;
 use std::process::Abort;
 
 /// What a test says that fails for want of memory alone.
 pub const WANT: &str = "want of memory";
+
+pub use crate::shapes::{array, matrix, member, structure, vector};
 
 pub type Types = UniqueArena<Type, mark::Type>;
 
@@ -22,50 +24,9 @@ pub fn add(rt: &impl Abort, types: &mut Types, inner: TypeInner) -> Handle<mark:
     added.expect(rt, WANT)
 }
 
-pub fn vector(size: VectorSize, scalar: Scalar) -> TypeInner
-    ensures { result ≡ TypeInner.Vector size scalar }
-{
-    TypeInner::Vector { size, scalar }
-}
-
-pub fn matrix(columns: VectorSize, rows: VectorSize, scalar: Scalar) -> TypeInner
-    ensures { result ≡ TypeInner.Matrix columns rows scalar }
-{
-    TypeInner::Matrix {
-        columns,
-        rows,
-        scalar,
-    }
-}
-
-pub fn array(base: Handle<mark::Type>, size: ArraySize, stride: u32) -> TypeInner
-    ensures { result ≡ TypeInner.Array base size stride }
-{
-    TypeInner::Array { base, size, stride }
-}
-
 /// The size of an array of so many items.
 pub fn counted(rt: &impl Abort, count: u32) -> ArraySize {
     ArraySize::Constant(Count::new(count).expect(rt, "a count"))
-}
-
-/// A member without a name.
-pub fn member(ty: Handle<mark::Type>, offset: u32) -> StructMember {
-    StructMember {
-        name: None,
-        ty,
-        binding: None,
-        offset,
-    }
-}
-
-pub fn structure(members: Vec<StructMember>, span: u32) -> TypeInner
-    ensures { result ≡ TypeInner.Struct members.items span }
-{
-    TypeInner::Struct {
-        members: Items::from(members),
-        span,
-    }
 }
 
 /// A struct of two members, four bytes apart.
