@@ -3,6 +3,7 @@ use Rattle.std.proofs.Common.{◌≡◌, ℕ, ◌+◌, ◌<◌, Bool, true, fals
 use Rattle.std.specs.List.{list_all, enumerate_from}
 use Rattle.std.proofs.lemmas.Bool.{and_parts, ltb-true}
 use Rattle.std.proofs.lemmas.List.Elements.{All-nil, All-cons, All-weaker}
+use Rattle.shader_ir.specs.Operands.{expression_operands}
 use Rattle.shader_ir.specs.declared.expression.Expression.{Expression}
 use Rattle.shader_ir.specs.declared.expression.Expression.TheVariants as form
 use Rattle.shader_ir.specs.declared.function.Function.{Function}
@@ -10,7 +11,7 @@ use Rattle.shader_ir.specs.declared.function.FunctionArgument.{FunctionArgument}
 use Rattle.shader_ir.specs.declared.function.FunctionResult.{FunctionResult}
 use Rattle.shader_ir.specs.declared.function.LocalVariable.{LocalVariable}
 use Rattle.shader_ir.specs.declared.«module».Constant.{Constant}
-use Rattle.shader_ir.specs.declared.«module».EntryPoint.{EntryPoint}
+use Rattle.shader_ir.specs.declared.function.EntryPoint.{EntryPoint}
 use Rattle.shader_ir.specs.declared.«module».GlobalVariable.{GlobalVariable}
 use Rattle.shader_ir.specs.declared.«module».Module.{Module}
 use Rattle.shader_ir.specs.declared.«module».Override.{Override}
@@ -18,7 +19,7 @@ use Rattle.shader_ir.specs.declared.«module».PredeclaredType.{PredeclaredType}
 use Rattle.shader_resolve.specs.declared.well_formed.ModuleFault.TheVariants.{HandleOutOfRange}
 use Rattle.shader_resolve.specs.Context.{context_of, IsInRange, TypesInRange}
 use Rattle.shader_resolve.specs.ContextLaws.{ContextFits, ContextsFit, EntryPointFits, FunctionFits, WellFormedContextsFit}
-use Rattle.shader_resolve.specs.WellFormed.{constant_in_range, data_in_range, expressions_in_range, function_in_range, function_lacks, global_in_range, is_below, local_in_range, names_in_range, override_in_range, result_in_range, HandlesInRange}
+use Rattle.shader_resolve.specs.WellFormed.{constant_in_range, data_in_range, every, expressions_in_range, function_in_range, function_lacks, global_in_range, is_below, local_in_range, names_in_range, operands_below, override_in_range, result_in_range, special_in_range, type_in_range, HandlesInRange}
 
 -- what a test shows of each item holds of each item of a list that passes it
 listed : {T : Type 0} (test : T → Bool) (P : T → Type 0) → ((x : T) → test x ≡ true → P x) → (xs : List T) → list_all test xs ≡ true → All P xs
@@ -58,7 +59,7 @@ module _ (checked : Module) where
     name-in_range expression e = tt
 
     names-in_range : (expressions : List Expression) → expressions_in_range checked (length locals) expressions ≡ true → All (IsInRange (context_of checked locals arguments)) expressions
-    names-in_range expressions e = placed _ (IsInRange (context_of checked locals arguments)) (λ n expression passed. name-in_range expression (and_parts _ _ passed).1) 0 expressions e
+    names-in_range expressions e = placed (λ place expression. operands_below (length expressions) (expression_operands expression) && names_in_range checked (length locals) expression) (IsInRange (context_of checked locals arguments)) (λ n expression passed. name-in_range expression (and_parts _ _ passed).1) 0 expressions e
 
   abbrev IsTested : Function → Type 0
   IsTested function = function_in_range checked function ≡ true
@@ -77,7 +78,11 @@ module _ (checked : Module) where
       (λ n variable passed. ltb-true variable.ty bound (and_parts _ _ passed).0) 0 function.local_variables (and_parts _ _ (and_parts _ _ (and_parts _ _ e).1).1).0
 
   function-expressions : (function : Function) → IsTested function → expressions_in_range checked (length function.local_variables) function.expressions ≡ true
-  function-expressions function e = (and_parts _ _ (and_parts _ _ (and_parts _ _ (and_parts _ _ e).1).1).1).0
+  function-expressions function e =
+      let arguments = and_parts (list_all (λ (argument : FunctionArgument). nat_lt argument.ty bound) function.arguments) _ e in
+      let result = and_parts (result_in_range checked function.result) _ arguments.1 in
+      let locals = and_parts (every (λ place variable. local_in_range checked function variable) function.local_variables) _ result.1 in
+      (and_parts (expressions_in_range checked (length function.local_variables) function.expressions) _ locals.1).0
 
   module _ (held : data_in_range checked ≡ true) (functions : All IsTested checked.functions) where
     types-in_range : (locals : List LocalVariable) (arguments : List FunctionArgument) → All (λ (variable : LocalVariable). variable.ty < bound) locals
@@ -117,11 +122,12 @@ module _ (checked : Module) where
 
     globals-fit : ContextFits checked [] [] checked.global_expressions
     globals-fit =
-        let special = and_parts _ _ (and_parts _ _ held).1 in
-        let constants = and_parts _ _ special.1 in
-        let overrides = and_parts _ _ constants.1 in
-        let globals = and_parts _ _ overrides.1 in
-        let expressions = and_parts _ _ globals.1 in
+        let types = and_parts (every (λ place type. type_in_range checked type.inner) checked.types) _ held in
+        let special = and_parts (special_in_range checked checked.special_types) _ types.1 in
+        let constants = and_parts (every (λ place constant. constant_in_range checked constant) checked.constants) _ special.1 in
+        let overrides = and_parts (every (λ place override. override_in_range checked override) checked.overrides) _ constants.1 in
+        let globals = and_parts (every (λ place variable. global_in_range checked variable) checked.global_variables) _ overrides.1 in
+        let expressions = and_parts (expressions_in_range checked 0 checked.global_expressions) _ globals.1 in
         record {
           types = types-in_range [] [] (All-nil (λ (variable : LocalVariable). variable.ty < bound)) (All-nil (λ (argument : FunctionArgument). argument.ty < bound));
           names = names-in_range [] [] checked.global_expressions expressions.0;
@@ -137,11 +143,11 @@ module _ (checked : Module) where
   handles-fit : HandlesInRange checked → ContextsFit checked
   handles-fit held =
       let both = and_parts _ _ held in
-      let every = and_parts _ _ both.1 in
+      let bodies = and_parts _ _ both.1 in
       contexts-fit both.0
-      (placed (function_lacks checked HandleOutOfRange) IsTested (λ n function passed. (and_parts _ _ passed).0) 0 checked.functions every.0)
+      (placed (function_lacks checked HandleOutOfRange) IsTested (λ n function passed. (and_parts (function_in_range checked function) _ passed).0) 0 checked.functions bodies.0)
       (listed (λ (entry : EntryPoint). function_lacks checked HandleOutOfRange (length checked.functions) entry.function) (λ (entry : EntryPoint). IsTested entry.function)
-      (λ entry passed. (and_parts _ _ passed).0) checked.entry_points every.1)
+      (λ entry passed. (and_parts (function_in_range checked entry.function) _ passed).0) checked.entry_points bodies.1)
 
 pub contexts_of_well_formed : WellFormedContextsFit
 contexts_of_well_formed checked held = handles-fit checked held.0

@@ -4,7 +4,7 @@ use Rattle.shader_ir.specs.declared.expression.Expression.{Expression}
 use Rattle.shader_ir.specs.declared.function.Function.{Function}
 use Rattle.shader_ir.specs.declared.function.FunctionArgument.{FunctionArgument}
 use Rattle.shader_ir.specs.declared.function.LocalVariable.{LocalVariable}
-use Rattle.shader_ir.specs.declared.«module».EntryPoint.{EntryPoint}
+use Rattle.shader_ir.specs.declared.function.EntryPoint.{EntryPoint}
 use Rattle.shader_ir.specs.declared.«module».Module.{Module}
 use Rattle.shader_resolve.specs.Context.{context_of, IsInRange, TypesInRange}
 use Rattle.shader_resolve.specs.WellFormed.{IsWellFormed}

@@ -13,6 +13,7 @@ use std::test::Fail;
 pub type Resolved = Result<TypeResolution, ResolveError>;
 
 /// What the rows of one context are asked with.
+#[derive_where(Clone, Copy)]
 pub struct Rows<'a, R> {
     rt: &'a R,
     context: &'a ResolveContext<'a>,
