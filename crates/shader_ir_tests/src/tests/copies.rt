@@ -1,19 +1,20 @@
-//! Tests of copies, with ample memory.
+//! Copies, with ample memory.
+use crate::tests::samples::{WANT, add};
 use shader_arena::{Arena, Handle, UniqueArena};
 use shader_ir::{
     AddressSpace, BinaryOperator, Block, Constant, EntryPoint, Expression, Function,
     FunctionArgument, GlobalVariable, Items, LocalVariable, Map, Module, Name, Override, Scalar,
-    ShaderStage, SpecialTypes, Statement, SwitchCase, SwitchValue, Type, TypeInner, mark,
+    ShaderStage, SpecialTypes, Statement, SwitchCase, SwitchValue, TypeInner, mark,
 };
-use std::alloc::{AllocError, Global};
-use std::test::Fail;
+use std::alloc::Global;
+use std::process::Abort;
 
 fn at(place: u32) -> Handle<mark::Expression> {
     Handle::from_index(place)
 }
 
-fn named(alloc: Global, text: &str) -> Result<Option<Name>, AllocError> {
-    Ok(Some(Name::from(String::from_str(alloc, text)?)))
+fn name(rt: &impl Abort, alloc: Global, text: &str) -> Name {
+    Name::from(text.to_string(alloc).expect(rt, WANT))
 }
 
 fn is_named(name: &Option<Name>, text: &str) -> bool {
@@ -23,114 +24,148 @@ fn is_named(name: &Option<Name>, text: &str) -> bool {
     }
 }
 
-#[test]
-fn lists_and_maps(rt: HostRuntime) -> Result<(), Fail> {
-    let items = Items::from([at(4), at(2)].to_vec(rt.alloc())?);
-    assert!(rt; items.copy(rt.alloc())? == items);
-    let mut map = Map::new(rt.alloc());
-    map.insert(at(7), Name::from(String::from_str(rt.alloc(), "sum")?))?;
-    let copy = map.copy(rt.alloc())?;
-    assert_eq!(rt; copy.len(), 1);
-    assert!(rt; copy.get(&at(7)).is_some());
-    assert!(rt; copy.get(&at(6)).is_none());
-    Ok(())
+fn handles(rt: &impl Abort, alloc: Global) -> Items<Handle<mark::Expression>> {
+    Items::from([at(4), at(2)].to_vec(alloc).expect(rt, WANT))
 }
 
 #[test]
-fn declarations(rt: HostRuntime) -> Result<(), Fail> {
+fn of_a_list(rt: HostRuntime) {
+    let items = handles(&rt, rt.alloc());
+    let copy = items.copy(rt.alloc()).expect(&rt, WANT);
+    assert!(rt; copy == items);
+}
+
+#[test]
+fn of_a_map(rt: HostRuntime) {
+    let mut map = Map::new(rt.alloc());
+    let sum = name(&rt, rt.alloc(), "sum");
+    assert!(rt; map.insert(at(7), sum).expect(&rt, WANT).is_none());
+    let copy = map.copy(rt.alloc()).expect(&rt, WANT);
+    assert!(rt; copy.len() == 1);
+    assert!(rt; copy.get(&at(7)).is_some() && copy.get(&at(6)).is_none());
+}
+
+#[test]
+fn of_a_constant(rt: HostRuntime) {
     let constant = Constant {
-        name: named(rt.alloc(), "c")?,
+        name: Some(name(&rt, rt.alloc(), "c")),
         ty: Handle::from_index(1),
         init: at(2),
     };
-    let copy = constant.copy(rt.alloc())?;
+    let copy = constant.copy(rt.alloc()).expect(&rt, WANT);
     assert!(rt; is_named(&copy.name, "c") && copy.init == at(2));
-    let declared = Override {
-        name: named(rt.alloc(), "o")?,
+}
+
+#[test]
+fn of_an_override(rt: HostRuntime) {
+    let sizer = Override {
+        name: Some(name(&rt, rt.alloc(), "o")),
         ty: Handle::from_index(1),
         init: Some(at(3)),
     };
-    let copy = declared.copy(rt.alloc())?;
+    let copy = sizer.copy(rt.alloc()).expect(&rt, WANT);
     assert!(rt; is_named(&copy.name, "o") && copy.init == Some(at(3)));
+}
+
+#[test]
+fn of_a_global_variable(rt: HostRuntime) {
     let global = GlobalVariable {
-        name: named(rt.alloc(), "g")?,
+        name: Some(name(&rt, rt.alloc(), "g")),
         space: AddressSpace::WorkGroup,
         ty: Handle::from_index(1),
         init: None,
     };
-    let copy = global.copy(rt.alloc())?;
-    assert!(rt; is_named(&copy.name, "g") && copy.space == AddressSpace::WorkGroup);
-    Ok(())
+    let copy = global.copy(rt.alloc()).expect(&rt, WANT);
+    assert!(rt; is_named(&copy.name, "g"));
+    assert!(rt; copy.space == AddressSpace::WorkGroup);
 }
 
 #[test]
-fn variables_and_arguments(rt: HostRuntime) -> Result<(), Fail> {
+fn of_a_local_variable(rt: HostRuntime) {
     let local = LocalVariable {
-        name: named(rt.alloc(), "l")?,
+        name: Some(name(&rt, rt.alloc(), "l")),
         ty: Handle::from_index(1),
         init: Some(at(5)),
     };
-    let copy = local.copy(rt.alloc())?;
+    let copy = local.copy(rt.alloc()).expect(&rt, WANT);
     assert!(rt; is_named(&copy.name, "l") && copy.init == Some(at(5)));
-    let argument = FunctionArgument {
-        name: named(rt.alloc(), "a")?,
-        ty: Handle::from_index(6),
-        binding: None,
-    };
-    let copy = argument.copy(rt.alloc())?;
-    assert!(rt; is_named(&copy.name, "a") && copy.ty.index() == 6);
-    Ok(())
-}
-
-fn compose(alloc: Global) -> Result<Expression, AllocError> {
-    Ok(Expression::Compose {
-        ty: Handle::from_index(1),
-        components: Items::from([at(0), at(1)].to_vec(alloc)?),
-    })
 }
 
 #[test]
-fn expressions(rt: HostRuntime) -> Result<(), Fail> {
-    match compose(rt.alloc())?.copy(rt.alloc())? {
-        Expression::Compose { components, .. } => assert_eq!(rt; components.len(), 2),
-        _ => assert!(rt; false),
+fn of_an_argument(rt: HostRuntime) {
+    let argument = FunctionArgument {
+        name: Some(name(&rt, rt.alloc(), "a")),
+        ty: Handle::from_index(6),
+        binding: None,
+    };
+    let copy = argument.copy(rt.alloc()).expect(&rt, WANT);
+    assert!(rt; is_named(&copy.name, "a") && copy.ty.index() == 6);
+}
+
+fn compose(rt: &impl Abort, alloc: Global) -> Expression {
+    Expression::Compose {
+        ty: Handle::from_index(1),
+        components: handles(rt, alloc),
     }
+}
+
+/// How many components the expression composes.
+fn components(expression: &Expression) -> Option<usize> {
+    match expression {
+        Expression::Compose { components, .. } => Some(components.len()),
+        _ => None,
+    }
+}
+
+#[test]
+fn of_an_expression_with_a_list(rt: HostRuntime) {
+    let composed = compose(&rt, rt.alloc());
+    let copy = composed.copy(rt.alloc()).expect(&rt, WANT);
+    assert!(rt; components(&copy) == Some(2));
+}
+
+/// The operands of a sum or the like.
+fn sides(expression: &Expression) -> Option<(Handle<mark::Expression>, Handle<mark::Expression>)> {
+    match expression {
+        Expression::Binary { left, right, .. } => Some((*left, *right)),
+        _ => None,
+    }
+}
+
+#[test]
+fn of_an_expression_without_a_list(rt: HostRuntime) {
     let sum = Expression::Binary {
         op: BinaryOperator::Add,
         left: at(3),
         right: at(2),
     };
-    match sum.copy(rt.alloc())? {
-        Expression::Binary { left, right, .. } => assert!(rt; left == at(3) && right == at(2)),
-        _ => assert!(rt; false),
-    }
-    Ok(())
+    let copy = sum.copy(rt.alloc()).expect(&rt, WANT);
+    assert!(rt; sides(&copy) == Some((at(3), at(2))));
 }
 
 /// A block of one statement.
-fn block_of(alloc: Global, statement: Statement) -> Result<Block, AllocError> {
+fn block_of(rt: &impl Abort, alloc: Global, statement: Statement) -> Block {
     let mut statements = Vec::new(alloc);
-    statements.push(statement)?;
-    Ok(Block { statements })
+    statements.push(statement).expect(rt, WANT);
+    Block { statements }
 }
 
-/// A branch, in which the first block is a switch of one case and the second a Kill.
-fn branch(alloc: Global) -> Result<Statement, AllocError> {
-    let mut cases = Vec::new(alloc);
-    cases.push(SwitchCase {
+fn case(rt: &impl Abort, alloc: Global) -> SwitchCase {
+    SwitchCase {
         value: SwitchValue::I32(1),
-        body: block_of(alloc, Statement::Break)?,
+        body: block_of(rt, alloc, Statement::Kill),
         fall_through: true,
-    })?;
-    let choice = Statement::Switch {
+    }
+}
+
+/// A switch of one case.
+fn choice(rt: &impl Abort, alloc: Global) -> Statement {
+    let mut cases = Vec::new(alloc);
+    cases.push(case(rt, alloc)).expect(rt, WANT);
+    Statement::Switch {
         selector: at(2),
         cases,
-    };
-    Ok(Statement::If {
-        condition: at(1),
-        accept: block_of(alloc, choice)?,
-        reject: block_of(alloc, Statement::Kill)?,
-    })
+    }
 }
 
 /// Whether the block is one Kill.
@@ -142,54 +177,79 @@ fn is_kill(block: &Block) -> bool {
 }
 
 #[test]
-fn statements(rt: HostRuntime) -> Result<(), Fail> {
-    match branch(rt.alloc())?.copy(rt.alloc())? {
+fn of_a_block(rt: HostRuntime) {
+    let block = block_of(&rt, rt.alloc(), Statement::Kill);
+    let copy = block.copy(rt.alloc()).expect(&rt, WANT);
+    assert!(rt; is_kill(&copy));
+}
+
+#[test]
+fn of_a_case(rt: HostRuntime) {
+    let case = case(&rt, rt.alloc());
+    let copy = case.copy(rt.alloc()).expect(&rt, WANT);
+    assert!(rt; copy.fall_through && is_kill(&copy.body));
+}
+
+/// Whether the statement is a branch on expression 1 whose second block is one Kill.
+fn kills_else(statement: &Statement) -> bool {
+    match statement {
         Statement::If {
             condition,
             reject,
             ..
-        } => assert!(rt; condition == at(1) && is_kill(&reject)),
-        _ => assert!(rt; false),
+        } => *condition == at(1) && is_kill(reject),
+        _ => false,
     }
-    let case = SwitchCase {
-        value: SwitchValue::Default,
-        body: block_of(rt.alloc(), Statement::Kill)?,
-        fall_through: true,
-    };
-    let copy = case.copy(rt.alloc())?;
-    assert!(rt; copy.fall_through && is_kill(&copy.body));
-    assert!(rt; is_kill(&copy.body.copy(rt.alloc())?));
-    Ok(())
 }
 
-fn function(alloc: Global) -> Result<Function, AllocError> {
+#[test]
+fn of_a_branch(rt: HostRuntime) {
+    let choice = choice(&rt, rt.alloc());
+    let branch = Statement::If {
+        condition: at(1),
+        accept: block_of(&rt, rt.alloc(), choice),
+        reject: block_of(&rt, rt.alloc(), Statement::Kill),
+    };
+    let copy = branch.copy(rt.alloc()).expect(&rt, WANT);
+    assert!(rt; kills_else(&copy));
+}
+
+/// A function of one expression.
+fn function(rt: &impl Abort, alloc: Global) -> Function {
     let mut expressions = Arena::new(alloc);
-    expressions.append(compose(alloc)?)?;
-    Ok(Function {
-        name: named(alloc, "f")?,
+    assert!(rt; expressions.len() < 100);
+    expressions.append(compose(rt, alloc)).expect(rt, WANT);
+    Function {
+        name: Some(name(rt, alloc, "f")),
         arguments: Items::from(Vec::new(alloc)),
         result: None,
         local_variables: Arena::new(alloc),
         expressions,
         named_expressions: Map::new(alloc),
-        body: block_of(alloc, Statement::Kill)?,
+        body: block_of(rt, alloc, Statement::Kill),
         diagnostic_filter_leaf: None,
-    })
+    }
 }
 
 #[test]
-fn functions(rt: HostRuntime) -> Result<(), Fail> {
+fn of_a_function(rt: HostRuntime) {
+    let function = function(&rt, rt.alloc());
+    let copy = function.copy(rt.alloc()).expect(&rt, WANT);
+    assert!(rt; is_named(&copy.name, "f") && is_kill(&copy.body));
+    assert!(rt; copy.expressions.len() == 1);
+}
+
+#[test]
+fn of_an_entry_point(rt: HostRuntime) {
     let entry = EntryPoint {
-        name: Name::from(String::from_str(rt.alloc(), "main")?),
+        name: name(&rt, rt.alloc(), "main"),
         stage: ShaderStage::Compute,
-        function: function(rt.alloc())?,
+        function: function(&rt, rt.alloc()),
     };
-    let copy = entry.copy(rt.alloc())?;
-    assert!(rt; copy.name.as_str() == "main" && copy.stage == ShaderStage::Compute);
-    let inside = copy.function.copy(rt.alloc())?;
-    assert!(rt; is_named(&inside.name, "f") && is_kill(&inside.body));
-    assert_eq!(rt; inside.expressions.len(), 1);
-    Ok(())
+    let copy = entry.copy(rt.alloc()).expect(&rt, WANT);
+    assert!(rt; copy.name.as_str() == "main");
+    assert!(rt; copy.stage == ShaderStage::Compute);
+    assert!(rt; copy.function.expressions.len() == 1);
 }
 
 fn special_types(alloc: Global) -> SpecialTypes {
@@ -201,27 +261,43 @@ fn special_types(alloc: Global) -> SpecialTypes {
 }
 
 #[test]
-fn modules(rt: HostRuntime) -> Result<(), Fail> {
-    let mut types = UniqueArena::new(rt.alloc());
-    types.insert(Type {
-        name: None,
-        inner: TypeInner::Scalar(Scalar::F32),
-    })?;
-    let mut functions = Arena::new(rt.alloc());
-    functions.append(function(rt.alloc())?)?;
-    let module = Module {
-        types,
-        special_types: special_types(rt.alloc()).copy(rt.alloc())?,
-        constants: Arena::new(rt.alloc()),
-        overrides: Arena::new(rt.alloc()),
-        global_variables: Arena::new(rt.alloc()),
-        global_expressions: Arena::new(rt.alloc()),
-        functions,
-        entry_points: Items::from(Vec::new(rt.alloc())),
-        diagnostic_filters: Arena::new(rt.alloc()),
-    };
-    let copy = module.copy(rt.alloc())?;
-    assert_eq!(rt; (copy.types.len(), copy.functions.len()), (1, 1));
-    assert!(rt; copy.special_types.ray_vertex_return == Some(Handle::from_index(0)));
-    Ok(())
+fn of_special_types(rt: HostRuntime) {
+    let special = special_types(rt.alloc());
+    let copy = special.copy(rt.alloc()).expect(&rt, WANT);
+    assert!(rt; copy.ray_vertex_return == Some(Handle::from_index(0)));
+    assert!(rt; copy.ray_intersection.is_none());
+}
+
+/// A module with nothing in it but special types.
+fn module(alloc: Global) -> Module {
+    Module {
+        types: UniqueArena::new(alloc),
+        special_types: special_types(alloc),
+        constants: Arena::new(alloc),
+        overrides: Arena::new(alloc),
+        global_variables: Arena::new(alloc),
+        global_expressions: Arena::new(alloc),
+        functions: Arena::new(alloc),
+        entry_points: Items::from(Vec::new(alloc)),
+        diagnostic_filters: Arena::new(alloc),
+    }
+}
+
+/// A module of one type and one function.
+fn module_of_one(rt: &impl Abort, alloc: Global) -> Module {
+    let mut module = module(alloc);
+    add(rt, &mut module.types, TypeInner::Scalar(Scalar::F32));
+    let function = function(rt, alloc);
+    assert!(rt; module.functions.len() < 100);
+    module.functions.append(function).expect(rt, WANT);
+    module
+}
+
+#[test]
+fn of_a_module(rt: HostRuntime) {
+    let module = module_of_one(&rt, rt.alloc());
+    let copy = module.copy(rt.alloc()).expect(&rt, WANT);
+    assert!(rt; copy.types.len() == 1 && copy.functions.len() == 1);
+    let returned = copy.special_types.ray_vertex_return;
+    assert!(rt; returned == Some(Handle::from_index(0)));
 }

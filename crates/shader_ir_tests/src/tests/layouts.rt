@@ -46,19 +46,30 @@ fn held(rt: &impl Abort, layouter: &Layouter, ty: Handle<mark::Type>) -> Figures
     }
 }
 
+/// The layout of a type, or None where it is too large.
+fn laid_out(
+    rt: &impl Abort,
+    layouter: &mut Layouter,
+    ctx: GlobalCtx<'_>,
+    ty: Handle<mark::Type>,
+) -> Option<Figures> {
+    let refused = refusal(rt, layouter, ctx);
+    if refused.is_none() {
+        return Some(held(rt, layouter, ty));
+    }
+    let inner = LayoutErrorInner::TooLarge;
+    assert!(rt; refused == Some(LayoutError { ty, inner }));
+    None
+}
+
 /// Lays out a type behind f32, whose place is 0. No row is wanted of a type that is too large.
 fn expects(rt: &impl Abort, alloc: Global, inner: TypeInner, wanted: Option<Figures>) {
     let mut arenas = Arenas::new(alloc);
     add(rt, &mut arenas.types, TypeInner::Scalar(Scalar::F32));
     let ty = add(rt, &mut arenas.types, inner);
     let mut layouter = Layouter::new(alloc);
-    match refusal(rt, &mut layouter, arenas.ctx()) {
-        None => assert!(rt; Some(held(rt, &layouter, ty)) == wanted),
-        Some(refused) => {
-            let inner = LayoutErrorInner::TooLarge;
-            assert!(rt; refused == LayoutError { ty, inner } && wanted.is_none());
-        }
-    }
+    let found = laid_out(rt, &mut layouter, arenas.ctx(), ty);
+    assert!(rt; found == wanted);
 }
 
 #[test]
