@@ -11,3 +11,4 @@ pub mod CountLemmas
 pub mod AcceptanceLemmas
 pub mod ListCountLemmas
 pub mod ArgumentLemmas
+pub mod NarrowLawLemmas

@@ -6,6 +6,7 @@ pub mod Constructors
 pub mod Counts
 pub mod ListForms
 pub mod ListSet
+pub mod NarrowLaws
 pub mod Regular
 pub mod Remaining
 pub mod Resolutions

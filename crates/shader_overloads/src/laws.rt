@@ -1,5 +1,6 @@
 //! Laws of rules and of the sets of them, each the contract of a function that does nothing.
 ghost use Rattle.shader_overloads.specs.AcceptanceLaws.{AcceptsByKey, AcceptsCanonicalForms};
+ghost use Rattle.shader_overloads.specs.NarrowLaws.{CallsCommute, CallsRepeat};
 ghost use Rattle.shader_overloads.specs.Remaining.{accepts, list_accepts};
 
 /// Whether a rule accepts a type depends on the type's key alone, in regular sets and in lists.
@@ -10,4 +11,10 @@ pub fn acceptance_is_by_key()
     ensures canonical_in_lists { AcceptsCanonicalForms list_accepts }
     ensures key { AcceptsByKey accepts }
     ensures key_in_lists { AcceptsByKey list_accepts }
+{}
+
+/// The calls that narrow a set leave the same rules in whatever order, and repeating one changes nothing.
+pub fn calls_commute()
+    ensures commute { CallsCommute }
+    ensures repeat { CallsRepeat }
 {}
