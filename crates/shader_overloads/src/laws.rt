@@ -1,5 +1,5 @@
 //! Laws of rules and of the sets of them, each the contract of a function that does nothing.
-ghost use Rattle.shader_overloads.specs.AcceptanceLaws.{AcceptsByKey, AcceptsCanonicalForms};
+ghost use Rattle.shader_overloads.specs.AcceptanceLaws.{AcceptancesAgree, AcceptsByKey, AcceptsCanonicalForms};
 ghost use Rattle.shader_overloads.specs.NarrowLaws.{CallsCommute, CallsRepeat};
 ghost use Rattle.shader_overloads.specs.Remaining.{accepts, list_accepts};
 
@@ -17,4 +17,11 @@ pub fn acceptance_is_by_key()
 pub fn calls_commute()
     ensures commute { CallsCommute }
     ensures repeat { CallsRepeat }
+{}
+
+/// The two kinds of sets accept alike on all rules of the builtins, at types whose leaf scalar has a name.
+///
+/// They differ elsewhere: a regular set knows none but the twelve scalars that have names.
+pub fn acceptances_agree()
+    ensures { AcceptancesAgree }
 {}

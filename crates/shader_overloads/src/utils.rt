@@ -1,11 +1,14 @@
 //! What the lists of rules are made with.
-ghost use Rattle.std.specs.Prelude.{◌≡◌, IfOk, map};
+ghost use Rattle.std.specs.Prelude.{◌≡◌, ◌≤◌, IfOk, IsTrue, length, map};
+ghost use Rattle.std.specs.List.{list_all};
 ghost use Rattle.std.specs.Iterator.{YieldsFirst, item_count};
 ghost use Rattle.shader_ir.specs.declared.proc.type_resolution.TypeResolution.TheVariants as resolutions;
 ghost use Rattle.shader_ir.specs.Scalars.{floats};
 ghost use Rattle.shader_overloads.specs.Builtins.{all_floats, rule, shapes};
+ghost use Rattle.shader_overloads.specs.Remaining.{has_no_struct};
 
-use crate::{Conclusion, ConstructorSize, Rule};
+pub use crate::combinations::{PairsLeft, TriplesLeft, pairs, triples};
+use crate::{Conclusion, ConstructorSize, List, Rule};
 use shader_ir::{Items, Scalar, TypeInner, TypeResolution, VectorSize};
 use std::alloc::{AllocError, Global};
 use std::marker::Model;
@@ -35,6 +38,15 @@ fn values(alloc: Global, inners: &[TypeInner]) -> Result<Items<TypeResolution>, 
         arguments.push(TypeResolution::Value(inner.copy(alloc)?))?;
     }
     Ok(Items::from(arguments))
+}
+
+/// A list of these rules.
+pub fn list(rules: Vec<Rule>) -> Result<List, AllocError>
+    requires count { length rules.items ≤ 63 }
+    requires no_struct { IsTrue (list_all has_no_struct rules.items) }
+    ensures { IfOk result (λ set. set ≡ rules.items) }
+{
+    List::from_rules(rules)
 }
 
 /// The floating-point scalars, with that of 32 bits before the others, since calls prefer it.
