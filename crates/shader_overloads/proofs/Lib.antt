@@ -11,3 +11,6 @@ pub mod CountLemmas
 pub mod AcceptanceLemmas
 pub mod ListCountLemmas
 pub mod ArgumentLemmas
+pub mod AgreementLemmas
+pub mod NarrowLawLemmas
+pub mod CombinationLemmas

@@ -61,13 +61,13 @@ same_kind_sym kinds.Bool k = elim k as (λ v. same_kind kinds.Bool v ≡ same_ki
 same_kind_sym kinds.AbstractInt k = elim k as (λ v. same_kind kinds.AbstractInt v ≡ same_kind v kinds.AbstractInt) [ kinds.Sint ↦ refl | kinds.Uint ↦ refl | kinds.Float ↦ refl | kinds.Bool ↦ refl | kinds.AbstractInt ↦ refl | kinds.AbstractFloat ↦ refl ]
 same_kind_sym kinds.AbstractFloat k = elim k as (λ v. same_kind kinds.AbstractFloat v ≡ same_kind v kinds.AbstractFloat) [ kinds.Sint ↦ refl | kinds.Uint ↦ refl | kinds.Float ↦ refl | kinds.Bool ↦ refl | kinds.AbstractInt ↦ refl | kinds.AbstractFloat ↦ refl ]
 
-same_scalar_self : (s : Scalar) → same_scalar s s ≡ true
+pub same_scalar_self : (s : Scalar) → same_scalar s s ≡ true
 same_scalar_self s = and_from _ _ (same_kind_self s.kind) (eq-eqb s.width s.width refl)
 
 same_scalar_sym : (s t : Scalar) → same_scalar s t ≡ same_scalar t s
 same_scalar_sym s t = ap (λ b. b && nat_eq s.width t.width) (same_kind_sym s.kind t.kind) ∙ ap (λ b. same_kind t.kind s.kind && b) (nat_eq_equiv.symm s.width t.width)
 
-same_size_self : (n : VectorSize) → same_size n n ≡ true
+pub same_size_self : (n : VectorSize) → same_size n n ≡ true
 same_size_self Bi = refl
 same_size_self Tri = refl
 same_size_self Quad = refl

@@ -30,10 +30,10 @@ same_code-told (gcons a b) (gcons c d) e =
     let parts = and_parts (same_code a c) (same_code b d) e in
     ap (λ x. gcons x b) (same_code-told a c parts.0) ∙ ap (gcons c) (same_code-told b d parts.1)
 
-same_type-from : (a b : TypeInner) → a ≡ b → same_type a b ≡ true
+pub same_type-from : (a b : TypeInner) → a ≡ b → same_type a b ≡ true
 same_type-from a b e = ap (λ x. same_type a x) (sym e) ∙ same_code-self (inner_coded.code a)
 
-same_type-told : (a b : TypeInner) → same_type a b ≡ true → a ≡ b
+pub same_type-told : (a b : TypeInner) → same_type a b ≡ true → a ≡ b
 same_type-told a b e = inner_coded.inj a b (same_code-told (inner_coded.code a) (inner_coded.code b) e)
 
 -- an equivalent type is taken

@@ -1,10 +1,16 @@
 -- Which types rules tell apart.
-use Rattle.std.specs.Prelude.{◌≡◌, ℕ, Bool, List, Some}
+use Rattle.std.specs.Prelude.{◌≡◌, ℕ, Bool, true, IsTrue, List, Option, Some, None, slice_get}
+use Rattle.std.specs.List.{list_any}
+use Rattle.shader_ir.specs.declared.operators.MathFunction.{MathFunction}
+use Rattle.shader_ir.specs.declared.scalar.Scalar.{Scalar}
 use Rattle.shader_ir.specs.declared.types.«Type».{«Type»}
 use Rattle.shader_ir.specs.declared.types.TypeInner.{TypeInner}
 use Rattle.shader_ir.specs.declared.proc.type_resolution.TypeResolution.{TypeResolution}
 use Rattle.shader_ir.specs.Key.{canonical, inner_of, key_of}
+use Rattle.shader_ir.specs.Scalars.{named_scalars, same_scalar}
 use Rattle.shader_overloads.specs.declared.rule.Rule.{Rule}
+use Rattle.shader_overloads.specs.Builtins.{rules_of}
+use Rattle.shader_overloads.specs.Remaining.{accepts, leaf_scalar, list_accepts}
 
 -- a type and its canonical form are accepted by the same rules
 abbrev pub AcceptsCanonicalForms : (List «Type» → ℕ → TypeInner → Rule → Bool) → Type 0
@@ -17,3 +23,19 @@ AcceptsByKey accepting =
     (types : List «Type») (i : ℕ) (left right : TypeResolution) (ty other : TypeInner) (rule : Rule)
     → inner_of types left ≡ Some ty → inner_of types right ≡ Some other → key_of types left ≡ key_of types right
     → accepting types i ty rule ≡ accepting types i other rule
+
+-- one of the twelve scalars that have names
+abbrev pub is_named : Scalar → Bool
+is_named s = list_any (same_scalar s) named_scalars
+
+-- such a scalar, or none
+abbrev pub is_named_or_none : Option Scalar → Bool
+is_named_or_none None = true
+is_named_or_none (Some s) = is_named s
+
+-- on the rules of the builtins, regular sets and lists accept the same types, as far as scalars with names are at their leaves
+abbrev pub AcceptancesAgree : Type 0
+AcceptancesAgree =
+    (types : List «Type») (function : MathFunction) (place i : ℕ) (ty : TypeInner) (rule : Rule)
+    → IsTrue (is_named_or_none (leaf_scalar ty)) → slice_get (rules_of function) place ≡ Some rule
+    → accepts types i ty rule ≡ list_accepts types i ty rule

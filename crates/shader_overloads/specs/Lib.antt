@@ -2,10 +2,12 @@ pub mod AcceptanceLaws
 pub mod AnySet
 pub mod Bits
 pub mod Builtins
+pub mod Combinations
 pub mod Constructors
 pub mod Counts
 pub mod ListForms
 pub mod ListSet
+pub mod NarrowLaws
 pub mod Regular
 pub mod Remaining
 pub mod Resolutions

@@ -2,6 +2,7 @@
 #![tactic(auto)]
 
 mod any_overload_set;
+mod combinations;
 mod constructor_set;
 pub mod laws;
 mod list;

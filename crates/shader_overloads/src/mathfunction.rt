@@ -12,6 +12,7 @@ ghost use Rattle.shader_overloads.specs.AnySet.{rules_in, acceptance_in};
 ghost use Rattle.shader_overloads.specs.Remaining.{accepts, RulesFit};
 
 use crate::list_forms::{ListForm, by_scalar, by_size};
+use crate::utils::{CONCRETE_FLOAT_SCALARS, FLOAT_SCALARS, SCALAR_OR_VECN};
 use crate::{
     AnyOverloadSet, ConclusionRule, ConstructorSet, ConstructorSize, Regular, ScalarSet, list,
 };
@@ -50,15 +51,6 @@ fn component_wise(arity: usize, scalars: ScalarSet) -> AnyOverloadSet
     )
 }
 
-static FLOATS: [Scalar; 3] = [Scalar::F32, Scalar::F16, Scalar::F64];
-
-static ALL_FLOATS: [Scalar; 4] = [
-    Scalar::ABSTRACT_FLOAT,
-    Scalar::F32,
-    Scalar::F16,
-    Scalar::F64,
-];
-
 static INTEGERS: [Scalar; 6] = [
     Scalar::I32,
     Scalar::U32,
@@ -69,13 +61,6 @@ static INTEGERS: [Scalar; 6] = [
 ];
 
 static VECTORS: [ConstructorSize; 3] = [
-    ConstructorSize::Vector(VectorSize::Bi),
-    ConstructorSize::Vector(VectorSize::Tri),
-    ConstructorSize::Vector(VectorSize::Quad),
-];
-
-static SCALARS_AND_VECTORS: [ConstructorSize; 4] = [
-    ConstructorSize::Scalar,
     ConstructorSize::Vector(VectorSize::Bi),
     ConstructorSize::Vector(VectorSize::Tri),
     ConstructorSize::Vector(VectorSize::Quad),
@@ -125,7 +110,12 @@ fn ldexp(alloc: Global) -> Result<list::List, AllocError>
     ensures rules { IfOk result (λ set. set ≡ ldexp_rules) }
     ensures fits { (types : List «Type») → IfOk result (λ set. RulesFit types set) }
 {
-    let rules = by_scalar(alloc, ListForm::Ldexp, &FLOATS, &SCALARS_AND_VECTORS)?;
+    let rules = by_scalar(
+        alloc,
+        ListForm::Ldexp,
+        &CONCRETE_FLOAT_SCALARS,
+        &SCALAR_OR_VECN,
+    )?;
     list::List::from_rules(rules)
 }
 
@@ -134,7 +124,7 @@ fn outer(alloc: Global) -> Result<list::List, AllocError>
     ensures rules { IfOk result (λ set. set ≡ outer_rules) }
     ensures fits { (types : List «Type») → IfOk result (λ set. RulesFit types set) }
 {
-    let rules = by_size(alloc, ListForm::Outer, &MATRICES, &FLOATS)?;
+    let rules = by_size(alloc, ListForm::Outer, &MATRICES, &CONCRETE_FLOAT_SCALARS)?;
     list::List::from_rules(rules)
 }
 
@@ -143,7 +133,7 @@ fn refract(alloc: Global) -> Result<list::List, AllocError>
     ensures rules { IfOk result (λ set. set ≡ refract_rules) }
     ensures fits { (types : List «Type») → IfOk result (λ set. RulesFit types set) }
 {
-    let rules = by_size(alloc, ListForm::Refract, &VECTORS, &FLOATS)?;
+    let rules = by_size(alloc, ListForm::Refract, &VECTORS, &CONCRETE_FLOAT_SCALARS)?;
     list::List::from_rules(rules)
 }
 
@@ -152,7 +142,7 @@ fn transpose(alloc: Global) -> Result<list::List, AllocError>
     ensures rules { IfOk result (λ set. set ≡ transpose_rules) }
     ensures fits { (types : List «Type») → IfOk result (λ set. RulesFit types set) }
 {
-    let rules = by_size(alloc, ListForm::Transpose, &MATRICES, &ALL_FLOATS)?;
+    let rules = by_size(alloc, ListForm::Transpose, &MATRICES, &FLOAT_SCALARS)?;
     list::List::from_rules(rules)
 }
 
@@ -161,12 +151,7 @@ fn extract_bits(alloc: Global) -> Result<list::List, AllocError>
     ensures rules { IfOk result (λ set. set ≡ extract_bits_rules) }
     ensures fits { (types : List «Type») → IfOk result (λ set. RulesFit types set) }
 {
-    let rules = by_scalar(
-        alloc,
-        ListForm::ExtractBits,
-        &INTEGERS,
-        &SCALARS_AND_VECTORS,
-    )?;
+    let rules = by_scalar(alloc, ListForm::ExtractBits, &INTEGERS, &SCALAR_OR_VECN)?;
     list::List::from_rules(rules)
 }
 
@@ -175,7 +160,7 @@ fn insert_bits(alloc: Global) -> Result<list::List, AllocError>
     ensures rules { IfOk result (λ set. set ≡ insert_bits_rules) }
     ensures fits { (types : List «Type») → IfOk result (λ set. RulesFit types set) }
 {
-    let rules = by_scalar(alloc, ListForm::InsertBits, &INTEGERS, &SCALARS_AND_VECTORS)?;
+    let rules = by_scalar(alloc, ListForm::InsertBits, &INTEGERS, &SCALAR_OR_VECN)?;
     list::List::from_rules(rules)
 }
 
@@ -184,7 +169,7 @@ fn mix(alloc: Global) -> Result<list::List, AllocError>
     ensures rules { IfOk result (λ set. set ≡ mix_rules) }
     ensures fits { (types : List «Type») → IfOk result (λ set. RulesFit types set) }
 {
-    let rules = by_scalar(alloc, ListForm::Mix, &ALL_FLOATS, &SCALARS_AND_VECTORS)?;
+    let rules = by_scalar(alloc, ListForm::Mix, &FLOAT_SCALARS, &SCALAR_OR_VECN)?;
     list::List::from_rules(rules)
 }
 

@@ -12,14 +12,14 @@ use std::alloc::{AllocError, Global};
 use thiserror::Error;
 
 /// A rule of a builtin function.
-#[derive(Drop)]
+#[derive(Debug, Drop)]
 pub struct Rule {
     pub arguments: Items<TypeResolution>,
     pub conclusion: Conclusion,
 }
 
 /// The type of a builtin's result.
-#[derive(Drop)]
+#[derive(Debug, Drop)]
 pub enum Conclusion {
     /// A type that its shape says whole.
     Value(TypeInner),

@@ -1,11 +1,17 @@
 //! What the lists of rules are made with.
-ghost use Rattle.std.specs.Prelude.{◌≡◌, IfOk, map};
+ghost use Rattle.std.specs.Prelude.{◌≡◌, ◌≤◌, IfOk, IsTrue, length, map};
+ghost use Rattle.std.specs.List.{list_all};
+ghost use Rattle.std.specs.Iterator.{YieldsFirst, item_count};
 ghost use Rattle.shader_ir.specs.declared.proc.type_resolution.TypeResolution.TheVariants as resolutions;
-ghost use Rattle.shader_overloads.specs.Builtins.{rule};
+ghost use Rattle.shader_ir.specs.Scalars.{floats};
+ghost use Rattle.shader_overloads.specs.Builtins.{all_floats, rule, shapes};
+ghost use Rattle.shader_overloads.specs.Remaining.{has_no_struct};
 
-use crate::{Conclusion, Rule};
-use shader_ir::{Items, TypeInner, TypeResolution};
+pub use crate::combinations::{PairsLeft, TriplesLeft, pairs, triples};
+use crate::{Conclusion, ConstructorSize, List, Rule};
+use shader_ir::{Items, Scalar, TypeInner, TypeResolution, VectorSize};
 use std::alloc::{AllocError, Global};
+use std::marker::Model;
 
 /// The rule of arguments and a result of these types.
 pub fn rule<const N: usize>(
@@ -32,4 +38,120 @@ fn values(alloc: Global, inners: &[TypeInner]) -> Result<Items<TypeResolution>, 
         arguments.push(TypeResolution::Value(inner.copy(alloc)?))?;
     }
     Ok(Items::from(arguments))
+}
+
+/// A list of these rules.
+pub fn list(rules: Vec<Rule>) -> Result<List, AllocError>
+    requires count { length rules.items ≤ 63 }
+    requires no_struct { IsTrue (list_all has_no_struct rules.items) }
+    ensures { IfOk result (λ set. set ≡ rules.items) }
+{
+    List::from_rules(rules)
+}
+
+/// The floating-point scalars, with that of 32 bits before the others, since calls prefer it.
+pub static FLOAT_SCALARS: [Scalar; 4] = [
+    Scalar::ABSTRACT_FLOAT,
+    Scalar::F32,
+    Scalar::F16,
+    Scalar::F64,
+];
+
+/// Those of them that aren't abstract.
+pub static CONCRETE_FLOAT_SCALARS: [Scalar; 3] = [Scalar::F32, Scalar::F16, Scalar::F64];
+
+/// A scalar itself, and vectors of it.
+pub static SCALAR_OR_VECN: [ConstructorSize; 4] = [
+    ConstructorSize::Scalar,
+    ConstructorSize::Vector(VectorSize::Bi),
+    ConstructorSize::Vector(VectorSize::Tri),
+    ConstructorSize::Vector(VectorSize::Quad),
+];
+
+/// The floating-point scalars, in the order in which calls prefer them.
+pub fn float_scalars() -> FloatScalars
+    ensures { result ≡ all_floats }
+{
+    FloatScalars {
+        left: &FLOAT_SCALARS,
+    }
+}
+
+/// The floating-point scalars of builtins that have no abstract form yet, in the order in which calls prefer them.
+pub fn float_scalars_unimplemented_abstract() -> FloatScalars
+    ensures { result ≡ floats }
+{
+    FloatScalars {
+        left: &CONCRETE_FLOAT_SCALARS,
+    }
+}
+
+/// The type of the scalar, and those of its vectors by size.
+pub fn scalar_or_vecn(scalar: Scalar) -> ScalarOrVecn
+    ensures { result ≡ shapes scalar }
+{
+    ScalarOrVecn {
+        scalar,
+        left: &SCALAR_OR_VECN,
+    }
+}
+
+/// The floating-point scalars that are left to give.
+#[derive(Drop)]
+pub struct FloatScalars {
+    left: &'static [Scalar],
+}
+
+impl Model for FloatScalars {
+    ghost use Rattle.std.specs.Prelude.{List};
+    ghost use Rattle.shader_ir.specs.declared.scalar.Scalar.{Scalar};
+
+    ghost Value = { List Scalar };
+
+    ghost view = { λ scalars. scalars.left.now };
+}
+
+impl Iterator for FloatScalars {
+    type Item = Scalar;
+
+    ghost next_gives = { YieldsFirst (λ scalars. scalars) };
+
+    ghost remaining = { item_count (λ scalars. scalars) };
+
+    fn next(&mut self) -> Option<Scalar> {
+        let (first, others) = self.left.split_first()?;
+        self.left = others;
+        Some(*first)
+    }
+}
+
+/// The types of a scalar and of its vectors that are left to give.
+#[derive(Drop)]
+pub struct ScalarOrVecn {
+    scalar: Scalar,
+    left: &'static [ConstructorSize],
+}
+
+impl Model for ScalarOrVecn {
+    ghost use Rattle.std.specs.Prelude.{List, map};
+    ghost use Rattle.shader_ir.specs.declared.types.TypeInner.{TypeInner};
+    ghost use Rattle.shader_overloads.specs.Constructors.{to_inner};
+
+    ghost Value = { List TypeInner };
+
+    ghost view = { λ types. map (λ size. to_inner size types.scalar) types.left.now };
+}
+
+impl Iterator for ScalarOrVecn {
+    type Item = TypeInner;
+
+    ghost next_gives = { YieldsFirst (λ types. types) };
+
+    ghost remaining = { item_count (λ types. types) };
+
+    fn next(&mut self) -> Option<TypeInner> {
+        let (size, others) = self.left.split_first()?;
+        self.left = others;
+        Some(size.to_inner(self.scalar))
+    }
 }

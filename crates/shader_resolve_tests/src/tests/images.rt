@@ -7,7 +7,6 @@ use shader_ir::{
 };
 use shader_resolve::{ResolveContext, ResolveError};
 use std::process::Abort;
-use std::test::Fail;
 
 const QUAD: VectorSize = VectorSize::Quad;
 
@@ -71,102 +70,98 @@ fn outside() -> TypeResolution {
 }
 
 #[test]
-fn gathers(rt: HostRuntime) -> Result<(), Fail> {
-    let module = module(&rt, rt.alloc())?;
+fn gathers(rt: HostRuntime) {
+    let module = module(&rt, rt.alloc());
     let locals = Arena::new(rt.alloc());
     let context = ResolveContext::with_locals(&module, &locals, &[]);
     gathers_rows(&Rows::new(&rt, &context, rt.alloc()))
 }
 
-fn gathers_rows<R: Abort>(rows: &Rows<'_, R>) -> Result<(), Fail> {
+fn gathers_rows<R: Abort>(rows: &Rows<'_, R>) {
     let gather = SwizzleComponent::Y;
     rows.expects(
         &[depth()],
         sample(Some(gather)),
         Ok(vector(QUAD, Scalar::F32)),
-    )?;
+    );
     rows.expects(
         &[sampled()],
         sample(Some(gather)),
         Ok(vector(QUAD, Scalar::I32)),
-    )?;
+    );
     rows.expects(
         &[of(0)],
         sample(Some(gather)),
         Err(ResolveError::InvalidImage(at(0))),
-    )?;
-    Ok(())
+    );
 }
 
 #[test]
-fn texels(rt: HostRuntime) -> Result<(), Fail> {
-    let module = module(&rt, rt.alloc())?;
+fn texels(rt: HostRuntime) {
+    let module = module(&rt, rt.alloc());
     let locals = Arena::new(rt.alloc());
     let context = ResolveContext::with_locals(&module, &locals, &[]);
     texels_rows(&Rows::new(&rt, &context, rt.alloc()))
 }
 
-fn texels_rows<R: Abort>(rows: &Rows<'_, R>) -> Result<(), Fail> {
-    rows.expects(&[depth()], sample(None), Ok(scalar(Scalar::F32)))?;
-    rows.expects(&[sampled()], load(), Ok(vector(QUAD, Scalar::I32)))?;
-    rows.expects(&[outside()], load(), Ok(vector(QUAD, Scalar::F32)))?;
-    rows.expects(&[of(0)], load(), Err(ResolveError::InvalidImage(at(0))))?;
-    Ok(())
+fn texels_rows<R: Abort>(rows: &Rows<'_, R>) {
+    rows.expects(&[depth()], sample(None), Ok(scalar(Scalar::F32)));
+    rows.expects(&[sampled()], load(), Ok(vector(QUAD, Scalar::I32)));
+    rows.expects(&[outside()], load(), Ok(vector(QUAD, Scalar::F32)));
+    rows.expects(&[of(0)], load(), Err(ResolveError::InvalidImage(at(0))));
 }
 
 #[test]
-fn formats(rt: HostRuntime) -> Result<(), Fail> {
-    let module = module(&rt, rt.alloc())?;
+fn formats(rt: HostRuntime) {
+    let module = module(&rt, rt.alloc());
     let locals = Arena::new(rt.alloc());
     let context = ResolveContext::with_locals(&module, &locals, &[]);
     formats_rows(&Rows::new(&rt, &context, rt.alloc()))
 }
 
-fn formats_rows<R: Abort>(rows: &Rows<'_, R>) -> Result<(), Fail> {
+fn formats_rows<R: Abort>(rows: &Rows<'_, R>) {
     rows.expects(
         &[storage(StorageFormat::R64Uint)],
         load(),
         Ok(vector(QUAD, Scalar::U64)),
-    )?;
+    );
     rows.expects(
         &[storage(StorageFormat::Rgb10a2Uint)],
         load(),
         Ok(vector(QUAD, Scalar::U32)),
-    )?;
+    );
     rows.expects(
         &[storage(StorageFormat::Rgba8Sint)],
         load(),
         Ok(vector(QUAD, Scalar::I32)),
-    )?;
+    );
     rows.expects(
         &[storage(StorageFormat::Bgra8Unorm)],
         load(),
         Ok(vector(QUAD, Scalar::F32)),
-    )?;
-    Ok(())
+    );
 }
 
 #[test]
-fn queries(rt: HostRuntime) -> Result<(), Fail> {
-    let module = module(&rt, rt.alloc())?;
+fn queries(rt: HostRuntime) {
+    let module = module(&rt, rt.alloc());
     let locals = Arena::new(rt.alloc());
     let context = ResolveContext::with_locals(&module, &locals, &[]);
     queries_rows(&Rows::new(&rt, &context, rt.alloc()))
 }
 
-fn queries_rows<R: Abort>(rows: &Rows<'_, R>) -> Result<(), Fail> {
-    rows.expects(&[outside()], extent(), Ok(scalar(Scalar::U32)))?;
+fn queries_rows<R: Abort>(rows: &Rows<'_, R>) {
+    rows.expects(&[outside()], extent(), Ok(scalar(Scalar::U32)));
     rows.expects(
         &[sampled()],
         extent(),
         Ok(vector(VectorSize::Bi, Scalar::U32)),
-    )?;
+    );
     rows.expects(
         &[storage(StorageFormat::R8Unorm)],
         extent(),
         Ok(vector(VectorSize::Tri, Scalar::U32)),
-    )?;
-    rows.expects(&[of(2)], extent(), Err(ResolveError::InvalidImage(at(0))))?;
-    rows.expects(&[], query(ImageQuery::NumLevels), Ok(scalar(Scalar::U32)))?;
-    Ok(())
+    );
+    rows.expects(&[of(2)], extent(), Err(ResolveError::InvalidImage(at(0))));
+    rows.expects(&[], query(ImageQuery::NumLevels), Ok(scalar(Scalar::U32)));
 }

@@ -1,5 +1,5 @@
 //! Rows that ask no operand.
-use crate::tests::rows::{Rows, at, module, of, pointer, scalar, vector};
+use crate::tests::rows::{Rows, WANT, at, module, of, pointer, scalar, vector};
 use shader_arena::{Arena, Handle};
 use shader_ir::{
     AddressSpace, Block, Constant, Expression, Function, FunctionArgument, FunctionResult,
@@ -8,42 +8,40 @@ use shader_ir::{
 use shader_resolve::{ResolveContext, ResolveError};
 use std::alloc::Global;
 use std::process::Abort;
-use std::test::Fail;
 
 fn literal(literal: Literal) -> Expression {
     Expression::Literal(literal)
 }
 
 #[test]
-fn literals(rt: HostRuntime) -> Result<(), Fail> {
-    let module = module(&rt, rt.alloc())?;
+fn literals(rt: HostRuntime) {
+    let module = module(&rt, rt.alloc());
     let locals = Arena::new(rt.alloc());
     let context = ResolveContext::with_locals(&module, &locals, &[]);
     literals_rows(&Rows::new(&rt, &context, rt.alloc()))
 }
 
-fn literals_rows<R: Abort>(rows: &Rows<'_, R>) -> Result<(), Fail> {
-    rows.expects(&[], literal(Literal::F64(0)), Ok(scalar(Scalar::F64)))?;
-    rows.expects(&[], literal(Literal::F16(0)), Ok(scalar(Scalar::F16)))?;
+fn literals_rows<R: Abort>(rows: &Rows<'_, R>) {
+    rows.expects(&[], literal(Literal::F64(0)), Ok(scalar(Scalar::F64)));
+    rows.expects(&[], literal(Literal::F16(0)), Ok(scalar(Scalar::F16)));
     rows.expects(
         &[],
         literal(Literal::AbstractFloat(0)),
         Ok(scalar(Scalar::ABSTRACT_FLOAT)),
-    )?;
-    rows.expects(&[], literal(Literal::U32(0)), Ok(scalar(Scalar::U32)))?;
-    rows.expects(&[], literal(Literal::I64(0)), Ok(scalar(Scalar::I64)))?;
+    );
+    rows.expects(&[], literal(Literal::U32(0)), Ok(scalar(Scalar::U32)));
+    rows.expects(&[], literal(Literal::I64(0)), Ok(scalar(Scalar::I64)));
     rows.expects(
         &[],
         literal(Literal::AbstractInt(0)),
         Ok(scalar(Scalar::ABSTRACT_INT)),
-    )?;
-    rows.expects(&[], literal(Literal::Bool(true)), Ok(scalar(Scalar::BOOL)))?;
-    Ok(())
+    );
+    rows.expects(&[], literal(Literal::Bool(true)), Ok(scalar(Scalar::BOOL)));
 }
 
 #[test]
-fn arguments(rt: HostRuntime) -> Result<(), Fail> {
-    let module = module(&rt, rt.alloc())?;
+fn arguments(rt: HostRuntime) {
+    let module = module(&rt, rt.alloc());
     let locals = Arena::new(rt.alloc());
     let arguments = [FunctionArgument {
         name: None,
@@ -54,47 +52,45 @@ fn arguments(rt: HostRuntime) -> Result<(), Fail> {
     arguments_rows(&Rows::new(&rt, &context, rt.alloc()))
 }
 
-fn arguments_rows<R: Abort>(rows: &Rows<'_, R>) -> Result<(), Fail> {
-    rows.expects(&[], Expression::FunctionArgument(0), Ok(of(1)))?;
+fn arguments_rows<R: Abort>(rows: &Rows<'_, R>) {
+    rows.expects(&[], Expression::FunctionArgument(0), Ok(of(1)));
     rows.expects(
         &[],
         Expression::FunctionArgument(1),
         Err(ResolveError::FunctionArgumentNotFound(1)),
-    )?;
-    Ok(())
+    );
 }
 
 #[test]
-fn results(rt: HostRuntime) -> Result<(), Fail> {
-    let module = module(&rt, rt.alloc())?;
+fn results(rt: HostRuntime) {
+    let module = module(&rt, rt.alloc());
     let locals = Arena::new(rt.alloc());
     let context = ResolveContext::with_locals(&module, &locals, &[]);
     results_rows(&Rows::new(&rt, &context, rt.alloc()))
 }
 
-fn results_rows<R: Abort>(rows: &Rows<'_, R>) -> Result<(), Fail> {
-    rows.expects(&[], Expression::ArrayLength(at(9)), Ok(scalar(Scalar::U32)))?;
+fn results_rows<R: Abort>(rows: &Rows<'_, R>) {
+    rows.expects(&[], Expression::ArrayLength(at(9)), Ok(scalar(Scalar::U32)));
     rows.expects(
         &[],
         Expression::RayQueryProceedResult,
         Ok(scalar(Scalar::BOOL)),
-    )?;
+    );
     rows.expects(
         &[],
         Expression::SubgroupBallotResult,
         Ok(vector(VectorSize::Quad, Scalar::U32)),
-    )?;
+    );
     let intersection = Expression::RayQueryGetIntersection {
         query: at(9),
         committed: true,
     };
-    rows.expects(&[], intersection, Ok(of(5)))?;
+    rows.expects(&[], intersection, Ok(of(5)));
     let positions = Expression::RayQueryVertexPositions {
         query: at(9),
         committed: true,
     };
-    rows.expects(&[], positions, Err(ResolveError::MissingSpecialType))?;
-    Ok(())
+    rows.expects(&[], positions, Err(ResolveError::MissingSpecialType));
 }
 
 fn composed(alloc: Global, ty: Handle<mark::Type>) -> Expression {
@@ -105,71 +101,76 @@ fn composed(alloc: Global, ty: Handle<mark::Type>) -> Expression {
 }
 
 #[test]
-fn named_types(rt: HostRuntime) -> Result<(), Fail> {
-    let module = module(&rt, rt.alloc())?;
+fn named_types(rt: HostRuntime) {
+    let module = module(&rt, rt.alloc());
     let locals = Arena::new(rt.alloc());
     let context = ResolveContext::with_locals(&module, &locals, &[]);
     let made = composed(rt.alloc(), Handle::from_index(2));
     let rows = Rows::new(&rt, &context, rt.alloc());
-    rows.expects(&[], made, Ok(of(2)))?;
+    rows.expects(&[], made, Ok(of(2)));
     named_types_rows(&rows)
 }
 
-fn named_types_rows<R: Abort>(rows: &Rows<'_, R>) -> Result<(), Fail> {
+fn named_types_rows<R: Abort>(rows: &Rows<'_, R>) {
     let ty = Handle::from_index(2);
     let comparison = false;
-    rows.expects(&[], Expression::ZeroValue(ty), Ok(of(2)))?;
-    rows.expects(&[], Expression::AtomicResult { ty, comparison }, Ok(of(2)))?;
+    rows.expects(&[], Expression::ZeroValue(ty), Ok(of(2)));
+    rows.expects(&[], Expression::AtomicResult { ty, comparison }, Ok(of(2)));
     rows.expects(
         &[],
         Expression::WorkGroupUniformLoadResult { ty },
         Ok(of(2)),
-    )?;
-    rows.expects(&[], Expression::SubgroupOperationResult { ty }, Ok(of(2)))?;
-    Ok(())
+    );
+    rows.expects(&[], Expression::SubgroupOperationResult { ty }, Ok(of(2)));
 }
 
-fn add_data(rt: &impl Abort, module: &mut Module) -> Result<(), Fail> {
+fn add_data(rt: &impl Abort, module: &mut Module) {
     let ty = Handle::from_index(2);
     assert!(rt; module.constants.len() < 1000);
-    module.constants.append(Constant {
-        name: None,
-        ty,
-        init: at(0),
-    })?;
+    module
+        .constants
+        .append(Constant {
+            name: None,
+            ty,
+            init: at(0),
+        })
+        .expect(rt, WANT);
     assert!(rt; module.overrides.len() < 1000);
-    module.overrides.append(Override {
-        name: None,
-        ty,
-        init: None,
-    })?;
-    Ok(())
+    module
+        .overrides
+        .append(Override {
+            name: None,
+            ty,
+            init: None,
+        })
+        .expect(rt, WANT);
 }
 
 #[test]
-fn data(rt: HostRuntime) -> Result<(), Fail> {
-    let mut module = module(&rt, rt.alloc())?;
-    add_data(&rt, &mut module)?;
+fn data(rt: HostRuntime) {
+    let mut module = module(&rt, rt.alloc());
+    add_data(&rt, &mut module);
     let mut locals = Arena::new(rt.alloc());
-    locals.append(LocalVariable {
-        name: None,
-        ty: Handle::from_index(2),
-        init: None,
-    })?;
+    locals
+        .append(LocalVariable {
+            name: None,
+            ty: Handle::from_index(2),
+            init: None,
+        })
+        .expect(&rt, WANT);
     let context = ResolveContext::with_locals(&module, &locals, &[]);
     data_rows(&Rows::new(&rt, &context, rt.alloc()))
 }
 
-fn data_rows<R: Abort>(rows: &Rows<'_, R>) -> Result<(), Fail> {
+fn data_rows<R: Abort>(rows: &Rows<'_, R>) {
     let here = pointer(2, AddressSpace::Function);
-    rows.expects(&[], Expression::Constant(Handle::from_index(0)), Ok(of(2)))?;
-    rows.expects(&[], Expression::Override(Handle::from_index(0)), Ok(of(2)))?;
+    rows.expects(&[], Expression::Constant(Handle::from_index(0)), Ok(of(2)));
+    rows.expects(&[], Expression::Override(Handle::from_index(0)), Ok(of(2)));
     rows.expects(
         &[],
         Expression::LocalVariable(Handle::from_index(0)),
         Ok(here),
-    )?;
-    Ok(())
+    );
 }
 
 fn add_function(
@@ -177,84 +178,86 @@ fn add_function(
     alloc: Global,
     module: &mut Module,
     returned: Option<FunctionResult>,
-) -> Result<(), Fail> {
+) {
     assert!(rt; module.functions.len() < 1000);
-    module.functions.append(Function {
-        name: None,
-        arguments: Items::from(Vec::new(alloc)),
-        result: returned,
-        local_variables: Arena::new(alloc),
-        expressions: Arena::new(alloc),
-        named_expressions: Map::new(alloc),
-        body: Block {
-            statements: Vec::new(alloc),
-        },
-        diagnostic_filter_leaf: None,
-    })?;
-    Ok(())
+    module
+        .functions
+        .append(Function {
+            name: None,
+            arguments: Items::from(Vec::new(alloc)),
+            result: returned,
+            local_variables: Arena::new(alloc),
+            expressions: Arena::new(alloc),
+            named_expressions: Map::new(alloc),
+            body: Block {
+                statements: Vec::new(alloc),
+            },
+            diagnostic_filter_leaf: None,
+        })
+        .expect(rt, WANT);
 }
 
 #[test]
-fn calls(rt: HostRuntime) -> Result<(), Fail> {
-    let mut module = module(&rt, rt.alloc())?;
+fn calls(rt: HostRuntime) {
+    let mut module = module(&rt, rt.alloc());
     let result = FunctionResult {
         ty: Handle::from_index(1),
         binding: None,
     };
-    add_function(&rt, rt.alloc(), &mut module, None)?;
-    add_function(&rt, rt.alloc(), &mut module, Some(result))?;
+    add_function(&rt, rt.alloc(), &mut module, None);
+    add_function(&rt, rt.alloc(), &mut module, Some(result));
     let locals = Arena::new(rt.alloc());
     let context = ResolveContext::with_locals(&module, &locals, &[]);
     call_rows(&Rows::new(&rt, &context, rt.alloc()))
 }
 
-fn call_rows<R: Abort>(rows: &Rows<'_, R>) -> Result<(), Fail> {
+fn call_rows<R: Abort>(rows: &Rows<'_, R>) {
     let void = ResolveError::FunctionReturnsVoid;
     rows.expects(
         &[],
         Expression::CallResult(Handle::from_index(0)),
         Err(void),
-    )?;
+    );
     rows.expects(
         &[],
         Expression::CallResult(Handle::from_index(1)),
         Ok(of(1)),
-    )?;
-    Ok(())
+    );
 }
 
-fn add_global(rt: &impl Abort, module: &mut Module, space: AddressSpace) -> Result<(), Fail> {
+fn add_global(rt: &impl Abort, module: &mut Module, space: AddressSpace) {
     assert!(rt; module.global_variables.len() < 1000);
-    module.global_variables.append(GlobalVariable {
-        name: None,
-        space,
-        ty: Handle::from_index(2),
-        init: None,
-    })?;
-    Ok(())
+    module
+        .global_variables
+        .append(GlobalVariable {
+            name: None,
+            space,
+            ty: Handle::from_index(2),
+            init: None,
+        })
+        .expect(rt, WANT);
 }
 
 #[test]
-fn globals(rt: HostRuntime) -> Result<(), Fail> {
-    let mut module = module(&rt, rt.alloc())?;
-    add_global(&rt, &mut module, AddressSpace::Handle)?;
-    add_global(&rt, &mut module, AddressSpace::WorkGroup)?;
+fn globals(rt: HostRuntime) {
+    let mut module = module(&rt, rt.alloc());
+    add_global(&rt, &mut module, AddressSpace::Handle);
+    add_global(&rt, &mut module, AddressSpace::WorkGroup);
     let locals = Arena::new(rt.alloc());
     let context = ResolveContext::with_locals(&module, &locals, &[]);
     global_rows(&Rows::new(&rt, &context, rt.alloc()))
 }
 
-fn global_rows<R: Abort>(rows: &Rows<'_, R>) -> Result<(), Fail> {
+fn global_rows<R: Abort>(rows: &Rows<'_, R>) {
     let there = pointer(2, AddressSpace::WorkGroup);
     rows.expects(
         &[],
         Expression::GlobalVariable(Handle::from_index(0)),
         Ok(of(2)),
-    )?;
+    );
     rows.expects(
         &[],
         Expression::GlobalVariable(Handle::from_index(1)),
         Ok(there),
-    )?;
-    Ok(())
+    );
 }

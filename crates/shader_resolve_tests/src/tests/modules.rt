@@ -1,5 +1,5 @@
 //! Modules with one fault each.
-use crate::tests::rows::empty_module;
+use crate::tests::rows::{WANT, empty_module};
 use shader_arena::{Arena, Handle, Range, UniqueArena};
 use shader_ir::{
     AddressSpace, ArraySize, Block, Count, DiagnosticFilterNode, DiagnosticRule, EntryPoint,
@@ -10,7 +10,6 @@ use shader_ir::{
 use shader_resolve::{ModuleFault, check_module};
 use std::alloc::Global;
 use std::process::Abort;
-use std::test::Fail;
 
 fn at(place: u32) -> Handle<mark::Expression> {
     Handle::from_index(place)
@@ -33,26 +32,27 @@ fn function(
     }
 }
 
-fn add_function(rt: &impl Abort, module: &mut Module, function: Function) -> Result<(), Fail> {
+fn add_function(rt: &impl Abort, module: &mut Module, function: Function) {
     assert!(rt; module.functions.len() < 1000);
-    module.functions.append(function)?;
-    Ok(())
+    module.functions.append(function).expect(rt, WANT);
 }
 
-fn add_type(rt: &impl Abort, module: &mut Module, inner: TypeInner) -> Result<(), Fail> {
+fn add_type(rt: &impl Abort, module: &mut Module, inner: TypeInner) {
     assert!(rt; module.types.len() < 1000);
-    module.types.insert(Type { name: None, inner })?;
-    Ok(())
+    module
+        .types
+        .insert(Type { name: None, inner })
+        .expect(rt, WANT);
 }
 
 /// A module with one function, which has one expression.
-fn with_expression(rt: &impl Abort, alloc: Global, expression: Expression) -> Result<Module, Fail> {
+fn with_expression(rt: &impl Abort, alloc: Global, expression: Expression) -> Module {
     let mut made = empty_module(alloc);
     let mut one = function(alloc, Vec::new(alloc), Vec::new(alloc));
     assert!(rt; one.expressions.len() < 1000);
-    one.expressions.append(expression)?;
-    add_function(rt, &mut made, one)?;
-    Ok(made)
+    one.expressions.append(expression).expect(rt, WANT);
+    add_function(rt, &mut made, one);
+    made
 }
 
 fn call(alloc: Global) -> Statement {
@@ -63,32 +63,28 @@ fn call(alloc: Global) -> Statement {
     }
 }
 
-fn one_statement(alloc: Global, statement: Statement) -> Result<Vec<Statement>, Fail> {
+fn one_statement(rt: &impl Abort, alloc: Global, statement: Statement) -> Vec<Statement> {
     let mut statements = Vec::new(alloc);
-    statements.push(statement)?;
-    Ok(statements)
+    statements.push(statement).expect(rt, WANT);
+    statements
 }
 
 #[test]
-fn accepts_the_empty_module(rt: HostRuntime) -> Result<(), Fail> {
+fn accepts_the_empty_module(rt: HostRuntime) {
     assert!(rt; check_module(&empty_module(rt.alloc())) == Ok(()));
-    Ok(())
 }
 
 #[test]
-fn names_a_global_that_is_not_there(rt: HostRuntime) -> Result<(), Fail> {
+fn names_a_global_that_is_not_there(rt: HostRuntime) {
     let expression = Expression::GlobalVariable(Handle::from_index(0));
-    let module = with_expression(&rt, rt.alloc(), expression)?;
+    let module = with_expression(&rt, rt.alloc(), expression);
     assert!(rt; check_module(&module) == Err(ModuleFault::HandleOutOfRange));
-    Ok(())
 }
 
 #[test]
-fn names_an_array_of_itself(rt: HostRuntime) -> Result<(), Fail> {
+fn names_an_array_of_itself(rt: HostRuntime) {
     let mut module = empty_module(rt.alloc());
-    let Some(count) = Count::new(1) else {
-        return Ok(());
-    };
+    let count = Count::new(1).expect(&rt, "a count");
     add_type(
         &rt,
         &mut module,
@@ -97,44 +93,43 @@ fn names_an_array_of_itself(rt: HostRuntime) -> Result<(), Fail> {
             size: ArraySize::Constant(count),
             stride: 4,
         },
-    )?;
+    );
     assert!(rt; check_module(&module) == Err(ModuleFault::TypeNotEarlier));
-    Ok(())
 }
 
 #[test]
-fn names_an_operand_of_itself(rt: HostRuntime) -> Result<(), Fail> {
+fn names_an_operand_of_itself(rt: HostRuntime) {
     let expression = Expression::Unary {
         op: UnaryOperator::Negate,
         expr: at(0),
     };
-    let module = with_expression(&rt, rt.alloc(), expression)?;
+    let module = with_expression(&rt, rt.alloc(), expression);
     assert!(rt; check_module(&module) == Err(ModuleFault::OperandNotEarlier));
-    Ok(())
 }
 
 #[test]
-fn names_a_function_that_calls_itself(rt: HostRuntime) -> Result<(), Fail> {
+fn names_a_function_that_calls_itself(rt: HostRuntime) {
     let alloc = rt.alloc();
     let mut module = empty_module(alloc);
-    let body = one_statement(alloc, call(alloc))?;
-    add_function(&rt, &mut module, function(alloc, Vec::new(alloc), body))?;
+    let body = one_statement(&rt, alloc, call(alloc));
+    add_function(&rt, &mut module, function(alloc, Vec::new(alloc), body));
     assert!(rt; check_module(&module) == Err(ModuleFault::CalleeNotEarlier));
-    Ok(())
 }
 
 #[test]
-fn names_a_call_inside_blocks(rt: HostRuntime) -> Result<(), Fail> {
+fn names_a_call_inside_blocks(rt: HostRuntime) {
     let alloc = rt.alloc();
     let mut module = empty_module(alloc);
     let mut cases = Vec::new(alloc);
-    cases.push(SwitchCase {
-        value: SwitchValue::Default,
-        body: Block {
-            statements: one_statement(alloc, call(alloc))?,
-        },
-        fall_through: false,
-    })?;
+    cases
+        .push(SwitchCase {
+            value: SwitchValue::Default,
+            body: Block {
+                statements: one_statement(&rt, alloc, call(alloc)),
+            },
+            fall_through: false,
+        })
+        .expect(&rt, WANT);
     let switch = Statement::Switch {
         selector: at(0),
         cases,
@@ -144,57 +139,61 @@ fn names_a_call_inside_blocks(rt: HostRuntime) -> Result<(), Fail> {
             statements: Vec::new(alloc),
         },
         continuing: Block {
-            statements: one_statement(alloc, switch)?,
+            statements: one_statement(&rt, alloc, switch),
         },
         break_if: None,
     };
-    let mut one = function(alloc, Vec::new(alloc), one_statement(alloc, inside)?);
+    let mut one = function(alloc, Vec::new(alloc), one_statement(&rt, alloc, inside));
     assert!(rt; one.expressions.len() < 1000);
-    one.expressions.append(Expression::SubgroupBallotResult)?;
-    add_function(&rt, &mut module, one)?;
+    one.expressions
+        .append(Expression::SubgroupBallotResult)
+        .expect(&rt, WANT);
+    add_function(&rt, &mut module, one);
     assert!(rt; check_module(&module) == Err(ModuleFault::CalleeNotEarlier));
-    Ok(())
 }
 
 /// A call of function 0 without arguments, where it takes one.
 #[test]
-fn names_a_call_with_too_few_arguments(rt: HostRuntime) -> Result<(), Fail> {
+fn names_a_call_with_too_few_arguments(rt: HostRuntime) {
     let alloc = rt.alloc();
     let mut module = empty_module(alloc);
-    add_type(&rt, &mut module, TypeInner::Scalar(Scalar::F32))?;
+    add_type(&rt, &mut module, TypeInner::Scalar(Scalar::F32));
     let mut arguments = Vec::new(alloc);
-    arguments.push(FunctionArgument {
-        name: None,
-        ty: Handle::from_index(0),
-        binding: None,
-    })?;
+    arguments
+        .push(FunctionArgument {
+            name: None,
+            ty: Handle::from_index(0),
+            binding: None,
+        })
+        .expect(&rt, WANT);
     add_function(
         &rt,
         &mut module,
         function(alloc, arguments, Vec::new(alloc)),
-    )?;
+    );
     assert!(rt; check_module(&module) == Ok(()));
-    let body = one_statement(alloc, call(alloc))?;
-    add_function(&rt, &mut module, function(alloc, Vec::new(alloc), body))?;
+    let body = one_statement(&rt, alloc, call(alloc));
+    add_function(&rt, &mut module, function(alloc, Vec::new(alloc), body));
     assert!(rt; check_module(&module) == Err(ModuleFault::ArgumentCount));
-    Ok(())
 }
 
 #[test]
-fn names_a_filter_that_is_its_parent(rt: HostRuntime) -> Result<(), Fail> {
+fn names_a_filter_that_is_its_parent(rt: HostRuntime) {
     let mut module = empty_module(rt.alloc());
     assert!(rt; module.diagnostic_filters.len() < 1000);
-    module.diagnostic_filters.append(DiagnosticFilterNode {
-        severity: Severity::Off,
-        rule: DiagnosticRule::Other,
-        parent: Some(Handle::from_index(0)),
-    })?;
+    module
+        .diagnostic_filters
+        .append(DiagnosticFilterNode {
+            severity: Severity::Off,
+            rule: DiagnosticRule::Other,
+            parent: Some(Handle::from_index(0)),
+        })
+        .expect(&rt, WANT);
     assert!(rt; check_module(&module) == Err(ModuleFault::FilterNotEarlier));
-    Ok(())
 }
 
 #[test]
-fn names_an_argument_of_a_value_pointer(rt: HostRuntime) -> Result<(), Fail> {
+fn names_an_argument_of_a_value_pointer(rt: HostRuntime) {
     let alloc = rt.alloc();
     let mut module = empty_module(alloc);
     add_type(
@@ -205,89 +204,92 @@ fn names_an_argument_of_a_value_pointer(rt: HostRuntime) -> Result<(), Fail> {
             scalar: Scalar::F32,
             space: AddressSpace::Function,
         },
-    )?;
+    );
     assert!(rt; check_module(&module) == Ok(()));
     let mut arguments = Vec::new(alloc);
-    arguments.push(FunctionArgument {
-        name: None,
-        ty: Handle::from_index(0),
-        binding: None,
-    })?;
+    arguments
+        .push(FunctionArgument {
+            name: None,
+            ty: Handle::from_index(0),
+            binding: None,
+        })
+        .expect(&rt, WANT);
     add_function(
         &rt,
         &mut module,
         function(alloc, arguments, Vec::new(alloc)),
-    )?;
+    );
     assert!(rt; check_module(&module) == Err(ModuleFault::ValuePointerArgument));
-    Ok(())
 }
 
 #[test]
-fn names_an_emit_past_the_expressions(rt: HostRuntime) -> Result<(), Fail> {
+fn names_an_emit_past_the_expressions(rt: HostRuntime) {
     let alloc = rt.alloc();
     let mut module = empty_module(alloc);
-    let body = one_statement(alloc, Statement::Emit(Range::new(at(0), at(1))))?;
-    add_function(&rt, &mut module, function(alloc, Vec::new(alloc), body))?;
+    let body = one_statement(&rt, alloc, Statement::Emit(Range::new(at(0), at(1))));
+    add_function(&rt, &mut module, function(alloc, Vec::new(alloc), body));
     assert!(rt; check_module(&module) == Err(ModuleFault::EmitRange));
-    Ok(())
 }
 
 /// To an entry point all functions are earlier, and a backward range emits nothing.
 #[test]
-fn accepts_an_entry_point_that_calls(rt: HostRuntime) -> Result<(), Fail> {
+fn accepts_an_entry_point_that_calls(rt: HostRuntime) {
     let alloc = rt.alloc();
     let mut module = empty_module(alloc);
-    let nothing = one_statement(alloc, Statement::Emit(Range::new(at(7), at(0))))?;
-    add_function(&rt, &mut module, function(alloc, Vec::new(alloc), nothing))?;
+    let nothing = one_statement(&rt, alloc, Statement::Emit(Range::new(at(7), at(0))));
+    add_function(&rt, &mut module, function(alloc, Vec::new(alloc), nothing));
     let mut entry_points = Vec::new(alloc);
-    let body = one_statement(alloc, call(alloc))?;
-    entry_points.push(EntryPoint {
-        name: Name::from("main".to_string(alloc)?),
-        stage: ShaderStage::Compute,
-        function: function(alloc, Vec::new(alloc), body),
-    })?;
+    let body = one_statement(&rt, alloc, call(alloc));
+    entry_points
+        .push(EntryPoint {
+            name: Name::from("main".to_string(alloc).expect(&rt, WANT)),
+            stage: ShaderStage::Compute,
+            function: function(alloc, Vec::new(alloc), body),
+        })
+        .expect(&rt, WANT);
     module.entry_points = Items::from(entry_points);
     assert!(rt; check_module(&module) == Ok(()));
-    Ok(())
 }
 
 /// A global expression has no locals, and no function is earlier.
 #[test]
-fn names_faults_of_global_expressions(rt: HostRuntime) -> Result<(), Fail> {
+fn names_faults_of_global_expressions(rt: HostRuntime) {
     let alloc = rt.alloc();
     let mut local = empty_module(alloc);
     assert!(rt; local.global_expressions.len() < 1000);
     local
         .global_expressions
-        .append(Expression::LocalVariable(Handle::from_index(0)))?;
+        .append(Expression::LocalVariable(Handle::from_index(0)))
+        .expect(&rt, WANT);
     assert!(rt; check_module(&local) == Err(ModuleFault::HandleOutOfRange));
     let mut called = empty_module(alloc);
     add_function(
         &rt,
         &mut called,
         function(alloc, Vec::new(alloc), Vec::new(alloc)),
-    )?;
+    );
     assert!(rt; called.global_expressions.len() < 1000);
     called
         .global_expressions
-        .append(Expression::CallResult(Handle::from_index(0)))?;
+        .append(Expression::CallResult(Handle::from_index(0)))
+        .expect(&rt, WANT);
     assert!(rt; check_module(&called) == Err(ModuleFault::CalleeNotEarlier));
-    Ok(())
 }
 
 /// A call of a function that isn't there.
 #[test]
-fn names_a_callee_that_is_not_there(rt: HostRuntime) -> Result<(), Fail> {
+fn names_a_callee_that_is_not_there(rt: HostRuntime) {
     let alloc = rt.alloc();
     let mut module = empty_module(alloc);
-    let body = one_statement(alloc, call(alloc))?;
+    let body = one_statement(&rt, alloc, call(alloc));
     let mut entry_points = Vec::new(alloc);
-    entry_points.push(EntryPoint {
-        name: Name::from("main".to_string(alloc)?),
-        stage: ShaderStage::Compute,
-        function: function(alloc, Vec::new(alloc), body),
-    })?;
+    entry_points
+        .push(EntryPoint {
+            name: Name::from("main".to_string(alloc).expect(&rt, WANT)),
+            stage: ShaderStage::Compute,
+            function: function(alloc, Vec::new(alloc), body),
+        })
+        .expect(&rt, WANT);
     module.entry_points = Items::from(entry_points);
     assert!(rt; check_module(&module) == Err(ModuleFault::HandleOutOfRange));
-    Ok(())
 }

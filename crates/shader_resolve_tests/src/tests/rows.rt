@@ -6,9 +6,11 @@ use shader_ir::{
     SpecialTypes, StructMember, Type, TypeInner, TypeResolution, VectorSize, mark,
 };
 use shader_resolve::{ResolveContext, ResolveError};
-use std::alloc::{AllocError, Global};
+use std::alloc::Global;
 use std::process::Abort;
-use std::test::Fail;
+
+/// What a test says that fails for want of memory alone.
+pub const WANT: &str = "want of memory";
 
 pub type Resolved = Result<TypeResolution, ResolveError>;
 
@@ -26,39 +28,24 @@ impl<'a, R: Abort> Rows<'a, R> {
     }
 
     /// Asserts the answer for an expression whose operands' types are held. Want of memory is no answer, but ends the test.
-    pub fn expects(
-        &self,
-        held: &[TypeResolution],
-        expr: Expression,
-        wanted: Resolved,
-    ) -> Result<(), Fail> {
+    pub fn expects(&self, held: &[TypeResolution], expr: Expression, wanted: Resolved) {
         let answer = resolve_held(self.context, self.alloc, held, &expr);
-        if answer == Some(Err(ResolveError::OutOfMemory)) {
-            return Err(Fail::from(AllocError));
-        }
+        assert!(self.rt;
+            answer != Some(Err(ResolveError::OutOfMemory)),
+            "want of memory"
+        );
         assert!(self.rt; answer == Some(wanted));
-        Ok(())
     }
 
     /// Asserts that the operands don't go together under the operation's name.
-    pub fn expects_incompatible(
-        &self,
-        held: &[TypeResolution],
-        expr: Expression,
-        name: &str,
-    ) -> Result<(), Fail> {
-        let words = name.to_string(self.alloc)?;
+    pub fn expects_incompatible(&self, held: &[TypeResolution], expr: Expression, name: &str) {
+        let words = name.to_string(self.alloc).expect(self.rt, WANT);
         self.expects(held, expr, Err(ResolveError::IncompatibleOperands(words)))
     }
 
     /// Asserts that no rule of the builtin takes the arguments.
-    pub fn expects_invalid(
-        &self,
-        held: &[TypeResolution],
-        expr: Expression,
-        name: &str,
-    ) -> Result<(), Fail> {
-        let words = name.to_string(self.alloc)?;
+    pub fn expects_invalid(&self, held: &[TypeResolution], expr: Expression, name: &str) {
+        let words = name.to_string(self.alloc).expect(self.rt, WANT);
         self.expects(
             held,
             expr,
@@ -114,10 +101,12 @@ pub fn image(dim: ImageDimension, class: ImageClass) -> TypeResolution {
     })
 }
 
-pub fn add_type(rt: &impl Abort, module: &mut Module, inner: TypeInner) -> Result<(), Fail> {
+pub fn add_type(rt: &impl Abort, module: &mut Module, inner: TypeInner) {
     assert!(rt; module.types.len() < 1000);
-    module.types.insert(Type { name: None, inner })?;
-    Ok(())
+    module
+        .types
+        .insert(Type { name: None, inner })
+        .expect(rt, WANT);
 }
 
 /// A module of nothing, which takes no memory.
@@ -140,7 +129,7 @@ pub fn empty_module(alloc: Global) -> Module {
 }
 
 /// A module whose types are vec3 f32, vec2 f32, f32, an atomic u32, an array of the first, and a struct of it.
-pub fn module(rt: &impl Abort, alloc: Global) -> Result<Module, Fail> {
+pub fn module(rt: &impl Abort, alloc: Global) -> Module {
     let mut module = empty_module(alloc);
     module.special_types.ray_intersection = Some(Handle::from_index(5));
     let size = VectorSize::Tri;
@@ -148,31 +137,33 @@ pub fn module(rt: &impl Abort, alloc: Global) -> Result<Module, Fail> {
         size,
         scalar: Scalar::F32,
     };
-    add_type(rt, &mut module, inner)?;
+    add_type(rt, &mut module, inner);
     let inner = TypeInner::Vector {
         size: VectorSize::Bi,
         scalar: Scalar::F32,
     };
-    add_type(rt, &mut module, inner)?;
-    add_type(rt, &mut module, TypeInner::Scalar(Scalar::F32))?;
-    add_type(rt, &mut module, TypeInner::Atomic(Scalar::U32))?;
+    add_type(rt, &mut module, inner);
+    add_type(rt, &mut module, TypeInner::Scalar(Scalar::F32));
+    add_type(rt, &mut module, TypeInner::Atomic(Scalar::U32));
     let inner = TypeInner::Array {
         base: Handle::from_index(0),
         size: ArraySize::Dynamic,
         stride: 16,
     };
-    add_type(rt, &mut module, inner)?;
+    add_type(rt, &mut module, inner);
     let mut members = Vec::new(alloc);
-    members.push(StructMember {
-        name: None,
-        ty: Handle::from_index(0),
-        binding: None,
-        offset: 0,
-    })?;
+    members
+        .push(StructMember {
+            name: None,
+            ty: Handle::from_index(0),
+            binding: None,
+            offset: 0,
+        })
+        .expect(rt, WANT);
     let inner = TypeInner::Struct {
         members: Items::from(members),
         span: 16,
     };
-    add_type(rt, &mut module, inner)?;
-    Ok(module)
+    add_type(rt, &mut module, inner);
+    module
 }

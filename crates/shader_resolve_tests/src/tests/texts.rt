@@ -1,20 +1,19 @@
 //! The texts of errors.
+use crate::tests::rows::WANT;
 use shader_arena::Handle;
 use shader_overloads::MissingSpecialType;
 use shader_resolve::ResolveError;
 use std::alloc::Global;
 use std::process::Abort;
-use std::test::Fail;
 
-fn expects(rt: &impl Abort, alloc: Global, error: ResolveError, text: &str) -> Result<(), Fail> {
-    assert!(rt; error.to_string(alloc)?.as_str() == text);
-    let copy = error.copy(alloc)?;
-    assert!(rt; copy == error && copy.to_string(alloc)?.as_str() == text);
-    Ok(())
+fn expects(rt: &impl Abort, alloc: Global, error: ResolveError, text: &str) {
+    assert!(rt; error.to_string(alloc).expect(rt, WANT).as_str() == text);
+    let copy = error.copy(alloc).expect(rt, WANT);
+    assert!(rt; copy == error && copy.to_string(alloc).expect(rt, WANT).as_str() == text);
 }
 
 #[test]
-fn texts_of_places(rt: HostRuntime) -> Result<(), Fail> {
+fn texts_of_places(rt: HostRuntime) {
     let alloc = rt.alloc();
     let past = ResolveError::OutOfBoundsIndex {
         expr: Handle::from_index(2),
@@ -25,7 +24,7 @@ fn texts_of_places(rt: HostRuntime) -> Result<(), Fail> {
         alloc,
         past,
         "Index 3 is out of bounds for expression [2]",
-    )?;
+    );
     let access = ResolveError::InvalidAccess {
         expr: Handle::from_index(3),
         indexed: true,
@@ -35,7 +34,7 @@ fn texts_of_places(rt: HostRuntime) -> Result<(), Fail> {
         alloc,
         access,
         "Invalid access into expression [3], indexed: true",
-    )?;
+    );
     let sub_access = ResolveError::InvalidSubAccess {
         ty: Handle::from_index(4),
         indexed: false,
@@ -45,44 +44,44 @@ fn texts_of_places(rt: HostRuntime) -> Result<(), Fail> {
         alloc,
         sub_access,
         "Invalid sub-access into type [4], indexed: false",
-    )?;
+    );
     let scalar = ResolveError::InvalidScalar(Handle::from_index(5));
-    expects(&rt, alloc, scalar, "Invalid scalar [5]")?;
+    expects(&rt, alloc, scalar, "Invalid scalar [5]");
     let vector = ResolveError::InvalidVector(Handle::from_index(6));
-    expects(&rt, alloc, vector, "Invalid vector [6]")?;
+    expects(&rt, alloc, vector, "Invalid vector [6]");
     let pointer = ResolveError::InvalidPointer(Handle::from_index(7));
-    expects(&rt, alloc, pointer, "Invalid pointer [7]")?;
+    expects(&rt, alloc, pointer, "Invalid pointer [7]");
     let image = ResolveError::InvalidImage(Handle::from_index(0));
     expects(&rt, alloc, image, "Invalid image [0]")
 }
 
 #[test]
-fn texts_of_words(rt: HostRuntime) -> Result<(), Fail> {
+fn texts_of_words(rt: HostRuntime) {
     let alloc = rt.alloc();
     let function = ResolveError::FunctionNotDefined {
-        name: "main".to_string(alloc)?,
+        name: "main".to_string(alloc).expect(&rt, WANT),
     };
-    expects(&rt, alloc, function, "Function main not defined")?;
+    expects(&rt, alloc, function, "Function main not defined");
     let void = ResolveError::FunctionReturnsVoid;
-    expects(&rt, alloc, void, "Function without return type")?;
-    let operands = ResolveError::IncompatibleOperands("As".to_string(alloc)?);
-    expects(&rt, alloc, operands, "Incompatible operands: As")?;
+    expects(&rt, alloc, void, "Function without return type");
+    let operands = ResolveError::IncompatibleOperands("As".to_string(alloc).expect(&rt, WANT));
+    expects(&rt, alloc, operands, "Incompatible operands: As");
     let argument = ResolveError::FunctionArgumentNotFound(9);
-    expects(&rt, alloc, argument, "Function argument 9 doesn't exist")?;
+    expects(&rt, alloc, argument, "Function argument 9 doesn't exist");
     let special = ResolveError::MissingSpecialType;
     expects(
         &rt,
         alloc,
         special,
         "Special type is not registered within the module",
-    )?;
-    let builtin = ResolveError::BuiltinArgumentsInvalid("Max".to_string(alloc)?);
+    );
+    let builtin = ResolveError::BuiltinArgumentsInvalid("Max".to_string(alloc).expect(&rt, WANT));
     expects(
         &rt,
         alloc,
         builtin,
         "Call to builtin Max has incorrect or ambiguous arguments",
-    )?;
+    );
     assert!(rt; ResolveError::from(MissingSpecialType) == ResolveError::MissingSpecialType);
     expects(&rt, alloc, ResolveError::OutOfMemory, "OutOfMemory")
 }

@@ -1,0 +1,268 @@
+-- Regular sets and lists accept alike on the rules of the builtins.
+use Rattle.std.proofs.Common.{◌≡◌, ◌∙◌, ap, sym, refl, ℕ, zero, suc, Bool, true, false, not, cond, ◌&&◌, ◌||◌, List, [], ◌∷◌, Option, Some, None, slice_get}
+use Rattle.std.specs.Option.{option_and_then}
+use Rattle.std.specs.List.{list_all, list_any}
+use Rattle.std.specs.Option.{is_some}
+use Rattle.std.proofs.lemmas.Bool.{and_from, and_parts, both_ways, eqb-true}
+use Rattle.shader_ir.specs.declared.operators.MathFunction.{MathFunction}
+use Rattle.shader_ir.specs.declared.operators.MathFunction.TheVariants as f
+use Rattle.shader_ir.specs.declared.scalar.Scalar as s
+use Rattle.shader_ir.specs.declared.scalar.ScalarKind.{ScalarKind}
+use Rattle.shader_ir.specs.declared.scalar.ScalarKind.TheVariants as kinds
+use Rattle.shader_ir.specs.declared.types.«Type».{«Type»}
+use Rattle.shader_ir.specs.declared.types.AddressSpace.{AddressSpace}
+use Rattle.shader_ir.specs.declared.types.TypeInner.{TypeInner}
+use Rattle.shader_ir.specs.declared.types.TypeInner.TheVariants.{Scalar, Vector, Matrix, Pointer}
+use Rattle.shader_ir.specs.declared.proc.type_resolution.TypeResolution.{TypeResolution}
+use Rattle.shader_ir.specs.declared.proc.type_resolution.TypeResolution.TheVariants.{Handle, Value}
+use Rattle.shader_ir.specs.Conversion.{conversion, same_size, scalar_conversion, scalar_converts, scalar_converts-named, kind_converts}
+use Rattle.shader_ir.specs.Key.{canonical, inner_of, pointer_at, pointer_to}
+use Rattle.shader_ir.specs.Scalars.{is_convertible, named_scalars, same_kind, same_scalar, scalar}
+use Rattle.shader_ir.specs.TypeTree.{tree_of}
+use Rattle.shader_overloads.specs.declared.rule.Rule.{Rule}
+use Rattle.shader_overloads.specs.AcceptanceLaws.{AcceptancesAgree, is_named, is_named_or_none}
+use Rattle.shader_overloads.specs.Builtins.{rules_of, ldexp_rules, outer_rules, refract_rules, transpose_rules, extract_bits_rules, insert_bits_rules, mix_rules}
+use Rattle.shader_overloads.specs.Remaining.{leaf_scalar, list_takes, some_list_takes, some_takes, takes}
+use Rattle.shader_overloads.specs.Rules.{regular_rules}
+use Rattle.shader_overloads.specs.SameType.{same_type}
+use Rattle.shader_overloads.proofs.SetLemmas.{same_scalar_self, same_size_self}
+use Rattle.shader_overloads.proofs.TakesLemmas.{same_type-told}
+
+-- ---- scalars
+
+same_kind_told : (j k : ScalarKind) → same_kind j k ≡ true → j ≡ k
+same_kind_told kinds.Sint kinds.Sint h = refl
+same_kind_told kinds.Uint kinds.Uint h = refl
+same_kind_told kinds.Float kinds.Float h = refl
+same_kind_told kinds.Bool kinds.Bool h = refl
+same_kind_told kinds.AbstractInt kinds.AbstractInt h = refl
+same_kind_told kinds.AbstractFloat kinds.AbstractFloat h = refl
+same_kind_told j k h = absurd (both_ways false refl h)
+
+same_scalar_told : (a b : s.Scalar) → same_scalar a b ≡ true → a ≡ b
+same_scalar_told a b h =
+    let parts = and_parts (same_kind a.kind b.kind) _ h in
+    ap (λ k. scalar k a.width) (same_kind_told a.kind b.kind parts.0) ∙ ap (λ w. scalar b.kind w) (eqb-true a.width b.width parts.1)
+
+has_all_step : (p : s.Scalar → Bool) (a b : s.Scalar) (all : List s.Scalar) (found : Bool) → same_scalar a b ≡ found → (found || list_any (same_scalar a) all) ≡ true → p b ≡ true → (list_any (same_scalar a) all ≡ true → p a ≡ true) → p a ≡ true
+has_all_step p a b all true e h here later = ap p (same_scalar_told a b e) ∙ here
+has_all_step p a b all false e h here later = later h
+
+-- what holds of all scalars of a list holds of each that it has
+has_all : (p : s.Scalar → Bool) (a : s.Scalar) (all : List s.Scalar) → list_any (same_scalar a) all ≡ true → list_all p all ≡ true → p a ≡ true
+has_all p a [] any each = absurd (both_ways false refl any)
+has_all p a (b ∷ all) any each =
+    let parts = and_parts (p b) (list_all p all) each in
+    has_all_step p a b all (same_scalar a b) refl any parts.0 (λ later. has_all p a all later parts.1)
+
+decided : (a b : Bool) → cond a b (not b) ≡ true → a ≡ b
+decided true true h = refl
+decided true false h = absurd (both_ways false refl h)
+decided false true h = absurd (both_ways false refl h)
+decided false false h = refl
+
+-- of scalars with names, those convert that are listed
+converts_named : (a b : s.Scalar) → is_named a ≡ true → is_named b ≡ true → scalar_converts a b ≡ is_convertible a b
+converts_named a b m n =
+    let from = has_all (λ from. list_all (λ to. cond (scalar_converts from to) (is_convertible from to) (not (is_convertible from to))) named_scalars) a named_scalars m scalar_converts-named in
+    decided _ _ (has_all (λ to. cond (scalar_converts a to) (is_convertible a to) (not (is_convertible a to))) b named_scalars n from)
+
+converts_self : (a b : s.Scalar) → a ≡ b → scalar_converts a b ≡ true
+converts_self a b e = ap (scalar_converts a) (sym e) ∙ ap (λ v. v || kind_converts a.kind a.kind) (same_scalar_self a)
+
+-- ---- types
+
+absorbed : (a p : Bool) → (a ≡ true → p ≡ true) → (a || p) ≡ p
+absorbed true p h = sym (h refl)
+absorbed false p h = refl
+
+is_some_cond : {X : Type 0} (v : Bool) (x : X) → is_some (cond v (Some x) None) ≡ v
+is_some_cond true x = refl
+is_some_cond false x = refl
+
+some_conversion : (a b : s.Scalar) → is_some (scalar_conversion (Some a) (Some b)) ≡ scalar_converts a b
+some_conversion a b =
+    let pair : s.Scalar × s.Scalar = (a, b) in
+    is_some_cond (scalar_converts a b) pair
+
+shaped_conversion : (same : Bool) (a b : s.Scalar) → is_some (cond same (scalar_conversion (Some a) (Some b)) None) ≡ (same && scalar_converts a b)
+shaped_conversion true a b = some_conversion a b
+shaped_conversion false a b = refl
+
+and_assoc : (a b c : Bool) → (a && b && c) ≡ ((a && b) && c)
+and_assoc true b c = refl
+and_assoc false b c = refl
+
+mixed : (a : Bool) → (a ≡ true → ⊥) → false ≡ (a || false)
+mixed true other = absurd (other refl)
+mixed false other = refl
+
+-- a scalar, vector or matrix of a scalar that has a name
+abbrev pub is_named_inner : TypeInner → Bool
+is_named_inner (Scalar a) = is_named a
+is_named_inner (Vector n a) = is_named a
+is_named_inner (Matrix m n a) = is_named a
+is_named_inner _ = false
+
+abbrev pub is_named_argument : TypeResolution → Bool
+is_named_argument (Handle handle) = false
+is_named_argument (Value inner) = is_named_inner inner
+
+abbrev pub is_named_rule : Rule → Bool
+is_named_rule rule = list_all is_named_argument rule.arguments
+
+pointer_to-unnamed : (base : ℕ) (space : AddressSpace) (inner : TypeInner) → is_named_inner (pointer_to base space inner) ≡ false
+pointer_to-unnamed base space (Scalar a) = refl
+pointer_to-unnamed base space (Vector n a) = refl
+pointer_to-unnamed base space inner = refl
+
+pointer_at-unnamed : (base : ℕ) (space : AddressSpace) (found : Option «Type») → is_named_inner (pointer_at base space found) ≡ false
+pointer_at-unnamed base space (Some type) = pointer_to-unnamed base space type.inner
+pointer_at-unnamed base space None = refl
+
+all_at : {X : Type 0} (p : X → Bool) (xs : List X) (k : ℕ) (x : X) → list_all p xs ≡ true → slice_get xs k ≡ Some x → p x ≡ true
+all_at p [] k x h at = absurd (cc)
+all_at p (y ∷ xs) zero x h at = let same : y ≡ x = cc in ap p (sym same) ∙ (and_parts (p y) (list_all p xs) h).0
+all_at p (y ∷ xs) (suc k) x h at = all_at p xs k x (and_parts (p y) (list_all p xs) h).1 at
+
+module _ (all : List «Type») where
+  -- a pointer is no type of a builtin's argument
+  pointer_other : (base : ℕ) (space : AddressSpace) (inner : TypeInner) → is_named_inner inner ≡ true → same_type (pointer_at base space (slice_get all base)) inner ≡ true → ⊥
+  pointer_other base space inner n e =
+      both_ways (is_named_inner inner) (sym (ap is_named_inner (same_type-told _ inner e)) ∙ pointer_at-unnamed base space (slice_get all base)) n
+
+  other : (ty inner : TypeInner) → is_named_inner ty ≡ false → is_named_inner inner ≡ true → same_type ty inner ≡ true → ⊥
+  other ty inner unnamed n e = both_ways (is_named_inner inner) (sym (ap is_named_inner (same_type-told ty inner e)) ∙ unnamed) n
+
+  inner_agrees : (ty inner : TypeInner) → is_named_or_none (leaf_scalar ty) ≡ true → is_named_inner inner ≡ true → takes ty inner ≡ list_takes all ty inner
+  inner_agrees (Scalar a) (Scalar b) m n =
+      sym (converts_named a b m n) ∙ sym (some_conversion a b)
+      ∙ sym (absorbed (same_type (Scalar a) (Scalar b)) _ (λ e. let told = same_type-told (Scalar a) (Scalar b) e in let same : a ≡ b = cc in some_conversion a b ∙ converts_self a b same))
+  inner_agrees (Scalar a) (Vector q b) m n = mixed _ (λ e. let told = same_type-told (Scalar a) (Vector q b) e in absurd (cc))
+  inner_agrees (Scalar a) (Matrix p q b) m n = mixed _ (λ e. let told = same_type-told (Scalar a) (Matrix p q b) e in absurd (cc))
+  inner_agrees (Vector p a) (Scalar b) m n = mixed _ (λ e. let told = same_type-told (Vector p a) (Scalar b) e in absurd (cc))
+  inner_agrees (Vector p a) (Vector q b) m n =
+      ap (λ v. same_size p q && v) (sym (converts_named a b m n)) ∙ sym (shaped_conversion (same_size p q) a b)
+      ∙ sym (absorbed (same_type (Vector p a) (Vector q b)) _ (λ e.
+      let told = same_type-told (Vector p a) (Vector q b) e in
+      let size : p ≡ q = cc in
+      let same : a ≡ b = cc in
+      shaped_conversion (same_size p q) a b ∙ and_from _ _ (ap (same_size p) (sym size) ∙ same_size_self p) (converts_self a b same)))
+  inner_agrees (Vector p a) (Matrix q r b) m n = mixed _ (λ e. let told = same_type-told (Vector p a) (Matrix q r b) e in absurd (cc))
+  inner_agrees (Matrix p q a) (Scalar b) m n = mixed _ (λ e. let told = same_type-told (Matrix p q a) (Scalar b) e in absurd (cc))
+  inner_agrees (Matrix p q a) (Vector r b) m n = mixed _ (λ e. let told = same_type-told (Matrix p q a) (Vector r b) e in absurd (cc))
+  inner_agrees (Matrix p q a) (Matrix c r b) m n =
+      ap (λ v. same_size p c && same_size q r && v) (sym (converts_named a b m n)) ∙ and_assoc (same_size p c) (same_size q r) (scalar_converts a b)
+      ∙ sym (shaped_conversion (same_size p c && same_size q r) a b)
+      ∙ sym (absorbed (same_type (Matrix p q a) (Matrix c r b)) _ (λ e.
+      let told = same_type-told (Matrix p q a) (Matrix c r b) e in
+      let columns : p ≡ c = cc in
+      let rows : q ≡ r = cc in
+      let same : a ≡ b = cc in
+      shaped_conversion (same_size p c && same_size q r) a b
+      ∙ and_from _ _ (and_from _ _ (ap (same_size p) (sym columns) ∙ same_size_self p) (ap (same_size q) (sym rows) ∙ same_size_self q)) (converts_self a b same)))
+  inner_agrees (Pointer base space) (Scalar b) m n = mixed _ (pointer_other base space (Scalar b) n)
+  inner_agrees (Pointer base space) (Vector q b) m n = mixed _ (pointer_other base space (Vector q b) n)
+  inner_agrees (Pointer base space) (Matrix p q b) m n = mixed _ (pointer_other base space (Matrix p q b) n)
+  inner_agrees ty (Scalar b) m n = mixed _ (other ty (Scalar b) refl n)
+  inner_agrees ty (Vector q b) m n = mixed _ (other ty (Vector q b) refl n)
+  inner_agrees ty (Matrix p q b) m n = mixed _ (other ty (Matrix p q b) refl n)
+  inner_agrees ty inner m n = absurd (both_ways false refl n)
+
+  argument_agrees : (ty : TypeInner) (argument : TypeResolution) → is_named_or_none (leaf_scalar ty) ≡ true → is_named_argument argument ≡ true → some_takes ty (inner_of all argument) ≡ some_list_takes all ty (inner_of all argument)
+  argument_agrees ty (Handle handle) m n = absurd (both_ways false refl n)
+  argument_agrees ty (Value inner) m n = inner_agrees ty inner m n
+
+  found_agrees : (ty : TypeInner) (arguments : List TypeResolution) (i : ℕ) (found : Option TypeResolution) → slice_get arguments i ≡ found → is_named_or_none (leaf_scalar ty) ≡ true → list_all is_named_argument arguments ≡ true
+      → some_takes ty (option_and_then (inner_of all) found) ≡ some_list_takes all ty (option_and_then (inner_of all) found)
+  found_agrees ty arguments i None at m n = refl
+  found_agrees ty arguments i (Some argument) at m n = argument_agrees ty argument m (all_at is_named_argument arguments i argument n at)
+
+-- ---- the builtins
+
+-- all arguments of the rules of the builtins are over scalars that have names
+rules_named : (function : MathFunction) → list_all is_named_rule (rules_of function) ≡ true
+unfolding regular_rules named_scalars ldexp_rules outer_rules refract_rules transpose_rules extract_bits_rules insert_bits_rules mix_rules
+rules_named f.Abs = refl
+rules_named f.Sign = refl
+rules_named f.Min = refl
+rules_named f.Max = refl
+rules_named f.Clamp = refl
+rules_named f.Sin = refl
+rules_named f.Cos = refl
+rules_named f.Tan = refl
+rules_named f.Asin = refl
+rules_named f.Acos = refl
+rules_named f.Atan = refl
+rules_named f.Sinh = refl
+rules_named f.Cosh = refl
+rules_named f.Tanh = refl
+rules_named f.Asinh = refl
+rules_named f.Acosh = refl
+rules_named f.Atanh = refl
+rules_named f.Saturate = refl
+rules_named f.Radians = refl
+rules_named f.Degrees = refl
+rules_named f.Ceil = refl
+rules_named f.Floor = refl
+rules_named f.Round = refl
+rules_named f.Fract = refl
+rules_named f.Trunc = refl
+rules_named f.Exp = refl
+rules_named f.Exp2 = refl
+rules_named f.Log = refl
+rules_named f.Log2 = refl
+rules_named f.Sqrt = refl
+rules_named f.InverseSqrt = refl
+rules_named f.Atan2 = refl
+rules_named f.Pow = refl
+rules_named f.Step = refl
+rules_named f.Fma = refl
+rules_named f.SmoothStep = refl
+rules_named f.CountTrailingZeros = refl
+rules_named f.CountLeadingZeros = refl
+rules_named f.CountOneBits = refl
+rules_named f.ReverseBits = refl
+rules_named f.FirstTrailingBit = refl
+rules_named f.FirstLeadingBit = refl
+rules_named f.Pack4x8snorm = refl
+rules_named f.Pack4x8unorm = refl
+rules_named f.Pack2x16snorm = refl
+rules_named f.Pack2x16unorm = refl
+rules_named f.Pack2x16float = refl
+rules_named f.Pack4xI8 = refl
+rules_named f.Pack4xI8Clamp = refl
+rules_named f.Pack4xU8 = refl
+rules_named f.Pack4xU8Clamp = refl
+rules_named f.Unpack4x8snorm = refl
+rules_named f.Unpack4x8unorm = refl
+rules_named f.Unpack2x16snorm = refl
+rules_named f.Unpack2x16unorm = refl
+rules_named f.Unpack2x16float = refl
+rules_named f.Unpack4xI8 = refl
+rules_named f.Unpack4xU8 = refl
+rules_named f.Dot4I8Packed = refl
+rules_named f.Dot4U8Packed = refl
+rules_named f.Dot = refl
+rules_named f.Cross = refl
+rules_named f.Length = refl
+rules_named f.Normalize = refl
+rules_named f.Inverse = refl
+rules_named f.Determinant = refl
+rules_named f.QuantizeToF16 = refl
+rules_named f.Modf = refl
+rules_named f.Frexp = refl
+rules_named f.Distance = refl
+rules_named f.FaceForward = refl
+rules_named f.Reflect = refl
+rules_named f.Ldexp = refl
+rules_named f.Outer = refl
+rules_named f.Refract = refl
+rules_named f.Transpose = refl
+rules_named f.ExtractBits = refl
+rules_named f.InsertBits = refl
+rules_named f.Mix = refl
+
+pub acceptances_agree : AcceptancesAgree
+acceptances_agree all function place i ty rule named at =
+    found_agrees all ty rule.arguments i (slice_get rule.arguments i) refl named (all_at is_named_rule (rules_of function) place rule (rules_named function) at)

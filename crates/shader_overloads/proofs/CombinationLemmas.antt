@@ -1,0 +1,26 @@
+-- When no combination is left.
+use Rattle.std.proofs.Common.{◌≡◌, ◌∙◌, ◌++◌, ap, refl, List, [], ◌∷◌, map}
+use Rattle.shader_overloads.specs.Combinations.{pairs_left, pairs_of, triples_left, triples_of}
+
+pairs_with_none : {X Y : Type 0} (xs : List X) → pairs_of {Y = Y} xs [] ≡ []
+pairs_with_none [] = refl
+pairs_with_none (x ∷ xs) = pairs_with_none xs
+
+no_pairs : {X Y : Type 0} (xs : List X) → pairs_left {Y = Y} xs [] [] ≡ []
+no_pairs [] = refl
+no_pairs (x ∷ xs) = pairs_with_none xs
+
+-- the first item has no partner left, and so has no other
+pub pairs_done : {X Y : Type 0} (xs : List X) (partners ys : List Y) → partners ≡ [] → ys ≡ [] → pairs_left xs partners ys ≡ []
+pairs_done xs partners ys e f = ap (λ ps. pairs_left xs ps ys) e ∙ ap (pairs_left xs []) f ∙ no_pairs xs
+
+triples_with_none : {X Y Z : Type 0} (xs : List X) (ys : List Y) (zs : List Z) → pairs_of ys zs ≡ [] → triples_of xs ys zs ≡ []
+triples_with_none [] ys zs e = refl
+triples_with_none (x ∷ xs) ys zs e = ap (λ ps. map (λ pair. (x, pair.0, pair.1)) ps ++ triples_of xs ys zs) e ∙ triples_with_none xs ys zs e
+
+no_triples : {X Y Z : Type 0} (xs : List X) (ys : List Y) (zs : List Z) → pairs_of ys zs ≡ [] → triples_left xs [] ys zs ≡ []
+no_triples [] ys zs e = refl
+no_triples (x ∷ xs) ys zs e = triples_with_none xs ys zs e
+
+pub triples_done : {X Y Z : Type 0} (xs : List X) (partners : List (Y × Z)) (ys : List Y) (zs : List Z) → partners ≡ [] → pairs_of ys zs ≡ [] → triples_left xs partners ys zs ≡ []
+triples_done xs partners ys zs e f = ap (λ ps. triples_left xs ps ys zs) e ∙ no_triples xs ys zs f

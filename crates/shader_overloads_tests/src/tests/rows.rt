@@ -1,0 +1,174 @@
+//! Regular sets, narrowed by arguments in turn.
+
+use crate::tests::{MAT3X3, Made, SCALAR, VEC2, VEC3, concludes, inner, is_rule};
+use shader_ir::Scalar;
+use shader_overloads::{ConclusionRule, ConstructorSet, Regular, ScalarSet};
+use std::alloc::{AllocError, Global};
+use std::test::Fail;
+
+/// Two arguments, and the conclusion where a rule is left.
+static OF_TWO: [(Made, Made, Option<Made>); 17] = [
+    (
+        (SCALAR, Scalar::F32),
+        (SCALAR, Scalar::F32),
+        Some((SCALAR, Scalar::F32)),
+    ),
+    (
+        (SCALAR, Scalar::ABSTRACT_FLOAT),
+        (SCALAR, Scalar::F32),
+        Some((SCALAR, Scalar::F32)),
+    ),
+    (
+        (SCALAR, Scalar::F32),
+        (SCALAR, Scalar::ABSTRACT_INT),
+        Some((SCALAR, Scalar::F32)),
+    ),
+    (
+        (SCALAR, Scalar::U32),
+        (SCALAR, Scalar::U32),
+        Some((SCALAR, Scalar::U32)),
+    ),
+    (
+        (SCALAR, Scalar::U32),
+        (SCALAR, Scalar::ABSTRACT_INT),
+        Some((SCALAR, Scalar::U32)),
+    ),
+    (
+        (SCALAR, Scalar::ABSTRACT_INT),
+        (SCALAR, Scalar::U32),
+        Some((SCALAR, Scalar::U32)),
+    ),
+    (
+        (VEC3, Scalar::F32),
+        (VEC3, Scalar::F32),
+        Some((VEC3, Scalar::F32)),
+    ),
+    (
+        (VEC2, Scalar::ABSTRACT_INT),
+        (VEC2, Scalar::U32),
+        Some((VEC2, Scalar::U32)),
+    ),
+    (
+        (VEC3, Scalar::ABSTRACT_INT),
+        (VEC3, Scalar::F32),
+        Some((VEC3, Scalar::F32)),
+    ),
+    ((SCALAR, Scalar::BOOL), (SCALAR, Scalar::BOOL), None),
+    ((SCALAR, Scalar::F32), (SCALAR, Scalar::F64), None),
+    ((SCALAR, Scalar::F32), (VEC2, Scalar::F32), None),
+    ((VEC2, Scalar::F32), (VEC3, Scalar::F32), None),
+    ((VEC3, Scalar::F32), (VEC3, Scalar::F64), None),
+    ((SCALAR, Scalar::F32), (VEC3, Scalar::F32), None),
+    (
+        (SCALAR, Scalar::ABSTRACT_FLOAT),
+        (SCALAR, Scalar::U32),
+        None,
+    ),
+    ((SCALAR, Scalar::I32), (SCALAR, Scalar::U32), None),
+];
+
+#[tactic(auto, unfolding(shader_overloads::specs::Constructors::all_constructors))]
+fn scalars_of_one() -> Regular {
+    Regular::new(
+        1,
+        ConstructorSet::SCALAR,
+        ScalarSet::NUMERIC,
+        ConclusionRule::ArgumentType,
+    )
+}
+
+#[tactic(auto, unfolding(shader_overloads::specs::Constructors::all_constructors))]
+fn of_one() -> Regular {
+    Regular::new(
+        1,
+        ConstructorSet::SCALAR_OR_VECN,
+        ScalarSet::NUMERIC,
+        ConclusionRule::ArgumentType,
+    )
+}
+
+#[tactic(auto, unfolding(shader_overloads::specs::Constructors::all_constructors))]
+fn of_two() -> Regular {
+    Regular::new(
+        2,
+        ConstructorSet::SCALAR_OR_VECN,
+        ScalarSet::NUMERIC,
+        ConclusionRule::ArgumentType,
+    )
+}
+
+/// Whether the preferred rule of the set concludes so, or the set is empty where none is wanted.
+fn prefers(alloc: Global, set: &Regular, wanted: Option<Made>) -> Result<bool, AllocError> {
+    if set.is_empty() {
+        return Ok(wanted.is_none());
+    }
+    let rule = set.most_preferred(alloc)?;
+    match wanted {
+        Some(wanted) => Ok(concludes(&rule, wanted)),
+        None => Ok(false),
+    }
+}
+
+#[test]
+fn one_argument_narrows_scalars(rt: HostRuntime) -> Result<(), Fail> {
+    let set = scalars_of_one();
+    let unsigned = set.arg(0, &inner((SCALAR, Scalar::U32)));
+    assert!(rt; prefers(rt.alloc(), &unsigned, Some((SCALAR, Scalar::U32)))?);
+    assert!(rt; set.arg(0, &inner((SCALAR, Scalar::BOOL))).is_empty());
+    Ok(())
+}
+
+#[test]
+fn one_argument_narrows_vectors(rt: HostRuntime) -> Result<(), Fail> {
+    let set = of_one();
+    let double = set.arg(0, &inner((VEC3, Scalar::F64)));
+    assert!(rt; prefers(rt.alloc(), &double, Some((VEC3, Scalar::F64)))?);
+    assert!(rt; set.arg(0, &inner((VEC3, Scalar::BOOL))).is_empty());
+    assert!(rt; set.arg(0, &inner((MAT3X3, Scalar::F32))).is_empty());
+    Ok(())
+}
+
+#[test]
+fn two_arguments_narrow(rt: HostRuntime) -> Result<(), Fail> {
+    for row in &OF_TWO {
+        let left = of_two().arg(0, &inner(row.0)).arg(1, &inner(row.1));
+        assert!(rt; prefers(rt.alloc(), &left, row.2)?);
+    }
+    Ok(())
+}
+
+/// The constructors first, and then the scalars.
+static LISTED: [Made; 4] = [
+    (VEC2, Scalar::ABSTRACT_FLOAT),
+    (VEC2, Scalar::F32),
+    (VEC3, Scalar::ABSTRACT_FLOAT),
+    (VEC3, Scalar::F32),
+];
+
+#[tactic(auto, unfolding(shader_overloads::specs::Constructors::all_constructors))]
+fn vectors_of_floats() -> Regular {
+    Regular::new(
+        2,
+        ConstructorSet::VEC2 | ConstructorSet::VEC3,
+        ScalarSet::ABSTRACT_FLOAT | ScalarSet::F32,
+        ConclusionRule::ArgumentType,
+    )
+}
+
+#[test]
+fn rules_are_listed_by_constructors(rt: HostRuntime) -> Result<(), Fail> {
+    let rules = vectors_of_floats().overload_list(rt.alloc())?;
+    assert_eq!(rt; rules.len(), 4);
+    for (rule, made) in rules.iter().zip(LISTED.iter()) {
+        assert!(rt; is_rule(rule, *made, *made, *made));
+    }
+    Ok(())
+}
+
+#[test]
+fn a_copy_is_equal(rt: HostRuntime) -> Result<(), Fail> {
+    let copy = vectors_of_floats().copy();
+    assert_eq!(rt; copy.overload_list(rt.alloc())?.len(), 4);
+    assert!(rt; Regular::EMPTY.is_empty());
+    Ok(())
+}
