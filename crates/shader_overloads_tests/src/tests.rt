@@ -5,10 +5,10 @@ mod rows;
 mod sets;
 mod texts;
 
+pub use crate::made::{Made, inner};
 use shader_arena::{Arena, UniqueArena};
 use shader_ir::{
-    Constant, Expression, GlobalCtx, Override, Scalar, Type, TypeInner, TypeResolution, VectorSize,
-    mark,
+    Constant, Expression, GlobalCtx, Override, Type, TypeResolution, VectorSize, mark,
 };
 use shader_overloads::{Conclusion, ConstructorSize, Rule};
 use std::alloc::Global;
@@ -23,13 +23,6 @@ pub const MAT3X3: ConstructorSize = ConstructorSize::Matrix {
     columns: VectorSize::Tri,
     rows: VectorSize::Tri,
 };
-
-/// A type by its constructor and its scalar.
-pub type Made = (ConstructorSize, Scalar);
-
-pub fn inner(made: Made) -> TypeInner {
-    made.0.to_inner(made.1)
-}
 
 pub fn is_type(resolution: &TypeResolution, wanted: Made) -> bool {
     match resolution {
