@@ -1,9 +1,12 @@
 -- What is known of the name of each builtin.
-use Rattle.std.proofs.Common.{◌≡◌, false, Some, refl}
+use Rattle.std.proofs.Common.{◌≡◌, ℕ, ◌∙◌, ◌++◌, false, List, Option, Some, refl, sym, ap}
 use Rattle.std.specs.List.{list_any}
+use Rattle.std.specs.Option.{option_or}
+use Rattle.std.specs.Str.{bytes_eq}
+use Rattle.std.proofs.lemmas.List.Folds.{find-append}
 use Rattle.shader_ir.specs.declared.operators.MathFunction.{MathFunction}
 use Rattle.shader_ir.specs.declared.operators.MathFunction.TheVariants as f
-use Rattle.typer.specs.Builtins.{builtin_of, builtin_text}
+use Rattle.typer.specs.Builtins.{builtin_of, builtin_text, named_in}
 use Rattle.typer.proofs.Separators.{is_break}
 
 -- a name names its builtin, and has no space and no end of line
@@ -92,3 +95,12 @@ builtin_facts function = elim function as (λ g. NameFacts g) [
   | f.Unpack4xI8 ↦ (refl, refl)
   | f.Unpack4xU8 ↦ (refl, refl)
 ]
+
+-- what is found among the builtins before a group, or else in the group
+pub found_next : (word : List ℕ) (before group : List MathFunction) (found next both : Option MathFunction) → found ≡ named_in before word → next ≡ named_in group word
+    → both ≡ option_or found next → both ≡ named_in (before ++ group) word
+found_next word before group found next both first second is =
+    is
+    ∙ ap (λ o. option_or o next) first
+    ∙ ap (option_or (named_in before word)) second
+    ∙ sym (find-append (λ function. bytes_eq (builtin_text function) word) before group)
