@@ -293,11 +293,16 @@ fn module_of_one(rt: &impl Abort, alloc: Global) -> Module {
     module
 }
 
+fn is_module_of_one(module: &Module) -> bool {
+    let returned = module.special_types.ray_vertex_return;
+    module.types.len() == 1
+        && module.functions.len() == 1
+        && returned == Some(Handle::from_index(0))
+}
+
 #[test]
 fn of_a_module(rt: HostRuntime) {
     let module = module_of_one(&rt, rt.alloc());
     let copy = module.copy(rt.alloc()).expect(&rt, WANT);
-    assert!(rt; copy.types.len() == 1 && copy.functions.len() == 1);
-    let returned = copy.special_types.ray_vertex_return;
-    assert!(rt; returned == Some(Handle::from_index(0)));
+    assert!(rt; is_module_of_one(&copy));
 }

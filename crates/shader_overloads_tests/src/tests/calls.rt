@@ -1,8 +1,4 @@
 //! Sets of builtins, narrowed by calls, through the trait.
-ghost use Rattle.std.specs.Prelude.{List};
-ghost use Rattle.shader_ir.specs.declared.types.«Type».{«Type»};
-ghost use Rattle.shader_overloads.specs.Remaining.{RulesFit};
-
 use crate::tests::{Arenas, Made, SCALAR, VEC2, concludes, inner, is_rule, is_type};
 use shader_ir::{GlobalCtx, MathFunction, Scalar, TypeResolution, types_backward};
 use shader_overloads::{AnyOverloadSet, MathOverloads, OverloadSet, Rule, SetCall, narrow};
@@ -38,33 +34,27 @@ fn tell<S: OverloadSet>(
     }))
 }
 
-/// What is told of a set after its second argument was an integer literal, and all arguments are concrete.
-fn tell_narrowed<S: OverloadSet, R: Abort>(
-    rt: &R,
+/// What is told of the set of a builtin after its second argument was an integer literal, and all arguments are concrete.
+fn narrowed(
+    rt: &impl Abort,
     alloc: Global,
-    set: S,
-) -> Result<Option<Told>, AllocError>
-    requires { (types : List «Type») → RulesFit types (S.rules set) }
-{
+    function: MathFunction,
+) -> Result<AnyOverloadSet, AllocError> {
     let arenas = Arenas::new(alloc);
     assert!(rt; types_backward(&arenas.types));
     let calls = [
         SetCall::Arg(1, inner((SCALAR, Scalar::ABSTRACT_INT))),
         SetCall::ConcreteOnly,
     ];
-    let left = narrow(alloc, set, &calls, &arenas.types)?;
-    tell(alloc, &left, arenas.ctx())
+    narrow(alloc, function.overloads(alloc)?, &calls, &arenas.types)
 }
 
-/// The same, of the set of a builtin by its own kind.
-fn tell_kind<R: Abort>(
-    rt: &R,
-    alloc: Global,
-    function: MathFunction,
-) -> Result<Option<Told>, AllocError> {
-    match function.overloads(alloc)? {
-        AnyOverloadSet::List(set) => tell_narrowed(rt, alloc, set),
-        AnyOverloadSet::Regular(set) => tell_narrowed(rt, alloc, set),
+/// The same, told by the set's own kind.
+fn tell_kind(alloc: Global, set: &AnyOverloadSet) -> Result<Option<Told>, AllocError> {
+    let arenas = Arenas::new(alloc);
+    match set {
+        AnyOverloadSet::List(set) => tell(alloc, set, arenas.ctx()),
+        AnyOverloadSet::Regular(set) => tell(alloc, set, arenas.ctx()),
     }
 }
 
@@ -86,7 +76,8 @@ fn is_ldexp_of_scalars(told: &Told) -> bool {
 
 #[test]
 fn a_list_narrows_by_its_second_argument(rt: HostRuntime) -> Result<(), Fail> {
-    let told = tell_kind(&rt, rt.alloc(), MathFunction::Ldexp)?.expect(&rt, "a rule is left");
+    let left = narrowed(&rt, rt.alloc(), MathFunction::Ldexp)?;
+    let told = tell_kind(rt.alloc(), &left)?.expect(&rt, "a rule is left");
     assert!(rt; is_ldexp_of_scalars(&told));
     assert!(rt; concludes(&told.preferred, (SCALAR, Scalar::F32)));
     assert!(rt; told.least == 2 && told.greatest == 2 && told.second.len() == 3);
@@ -95,7 +86,8 @@ fn a_list_narrows_by_its_second_argument(rt: HostRuntime) -> Result<(), Fail> {
 
 #[test]
 fn a_regular_set_narrows_by_its_second_argument(rt: HostRuntime) -> Result<(), Fail> {
-    let told = tell_kind(&rt, rt.alloc(), MathFunction::Max)?.expect(&rt, "a rule is left");
+    let left = narrowed(&rt, rt.alloc(), MathFunction::Max)?;
+    let told = tell_kind(rt.alloc(), &left)?.expect(&rt, "a rule is left");
     assert_eq!(rt; told.rules.len(), 9);
     assert!(rt; concludes(&told.preferred, (SCALAR, Scalar::I32)));
     assert!(rt; told.least == 2 && told.greatest == 2 && told.second.len() == 9);
@@ -103,12 +95,13 @@ fn a_regular_set_narrows_by_its_second_argument(rt: HostRuntime) -> Result<(), F
 }
 
 #[test]
-fn a_set_of_either_kind_narrows(rt: HostRuntime) -> Result<(), Fail> {
-    let set = MathFunction::Ldexp.overloads(rt.alloc())?;
-    let told = tell_narrowed(&rt, rt.alloc(), set)?.expect(&rt, "a rule is left");
+fn a_set_of_either_kind_is_told_alike(rt: HostRuntime) -> Result<(), Fail> {
+    let arenas = Arenas::new(rt.alloc());
+    let left = narrowed(&rt, rt.alloc(), MathFunction::Ldexp)?;
+    let told = tell(rt.alloc(), &left, arenas.ctx())?.expect(&rt, "a rule is left");
     assert!(rt; is_ldexp_of_scalars(&told));
-    let set = MathFunction::Step.overloads(rt.alloc())?;
-    let told = tell_narrowed(&rt, rt.alloc(), set)?.expect(&rt, "a rule is left");
+    let left = narrowed(&rt, rt.alloc(), MathFunction::Step)?;
+    let told = tell(rt.alloc(), &left, arenas.ctx())?.expect(&rt, "a rule is left");
     assert!(rt; concludes(&told.preferred, (SCALAR, Scalar::F32)));
     assert_eq!(rt; told.rules.len(), 3);
     Ok(())
