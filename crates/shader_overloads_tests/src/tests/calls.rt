@@ -1,6 +1,7 @@
 //! Sets of builtins, narrowed by calls, through the trait.
 use crate::tests::{Arenas, Made, SCALAR, VEC2, concludes, inner, is_rule, is_type};
-use shader_ir::{GlobalCtx, MathFunction, Scalar, TypeResolution, types_backward};
+use shader_arena::UniqueArena;
+use shader_ir::{GlobalCtx, MathFunction, Scalar, Type, TypeResolution, mark, types_backward};
 use shader_overloads::{AnyOverloadSet, MathOverloads, OverloadSet, Rule, SetCall, narrow};
 use std::alloc::{AllocError, Global};
 use std::process::Abort;
@@ -39,22 +40,26 @@ fn narrowed(
     rt: &impl Abort,
     alloc: Global,
     function: MathFunction,
+    types: &UniqueArena<Type, mark::Type>,
 ) -> Result<AnyOverloadSet, AllocError> {
-    let arenas = Arenas::new(alloc);
-    assert!(rt; types_backward(&arenas.types));
+    assert!(rt; types_backward(types));
     let calls = [
         SetCall::Arg(1, inner((SCALAR, Scalar::ABSTRACT_INT))),
         SetCall::ConcreteOnly,
     ];
-    narrow(alloc, function.overloads(alloc)?, &calls, &arenas.types)
+    let set = function.overloads(alloc)?;
+    narrow(alloc, set, &calls, types)
 }
 
 /// The same, told by the set's own kind.
-fn tell_kind(alloc: Global, set: &AnyOverloadSet) -> Result<Option<Told>, AllocError> {
-    let arenas = Arenas::new(alloc);
+fn tell_kind(
+    alloc: Global,
+    set: &AnyOverloadSet,
+    ctx: GlobalCtx<'_>,
+) -> Result<Option<Told>, AllocError> {
     match set {
-        AnyOverloadSet::List(set) => tell(alloc, set, arenas.ctx()),
-        AnyOverloadSet::Regular(set) => tell(alloc, set, arenas.ctx()),
+        AnyOverloadSet::List(set) => tell(alloc, set, ctx),
+        AnyOverloadSet::Regular(set) => tell(alloc, set, ctx),
     }
 }
 
@@ -76,8 +81,9 @@ fn is_ldexp_of_scalars(told: &Told) -> bool {
 
 #[test]
 fn a_list_narrows_by_its_second_argument(rt: HostRuntime) -> Result<(), Fail> {
-    let left = narrowed(&rt, rt.alloc(), MathFunction::Ldexp)?;
-    let told = tell_kind(rt.alloc(), &left)?.expect(&rt, "a rule is left");
+    let arenas = Arenas::new(rt.alloc());
+    let left = narrowed(&rt, rt.alloc(), MathFunction::Ldexp, &arenas.types)?;
+    let told = tell_kind(rt.alloc(), &left, arenas.ctx())?.expect(&rt, "a rule is left");
     assert!(rt; is_ldexp_of_scalars(&told));
     assert!(rt; concludes(&told.preferred, (SCALAR, Scalar::F32)));
     assert!(rt; told.least == 2 && told.greatest == 2 && told.second.len() == 3);
@@ -86,8 +92,9 @@ fn a_list_narrows_by_its_second_argument(rt: HostRuntime) -> Result<(), Fail> {
 
 #[test]
 fn a_regular_set_narrows_by_its_second_argument(rt: HostRuntime) -> Result<(), Fail> {
-    let left = narrowed(&rt, rt.alloc(), MathFunction::Max)?;
-    let told = tell_kind(rt.alloc(), &left)?.expect(&rt, "a rule is left");
+    let arenas = Arenas::new(rt.alloc());
+    let left = narrowed(&rt, rt.alloc(), MathFunction::Max, &arenas.types)?;
+    let told = tell_kind(rt.alloc(), &left, arenas.ctx())?.expect(&rt, "a rule is left");
     assert_eq!(rt; told.rules.len(), 9);
     assert!(rt; concludes(&told.preferred, (SCALAR, Scalar::I32)));
     assert!(rt; told.least == 2 && told.greatest == 2 && told.second.len() == 9);
@@ -97,10 +104,10 @@ fn a_regular_set_narrows_by_its_second_argument(rt: HostRuntime) -> Result<(), F
 #[test]
 fn a_set_of_either_kind_is_told_alike(rt: HostRuntime) -> Result<(), Fail> {
     let arenas = Arenas::new(rt.alloc());
-    let left = narrowed(&rt, rt.alloc(), MathFunction::Ldexp)?;
+    let left = narrowed(&rt, rt.alloc(), MathFunction::Ldexp, &arenas.types)?;
     let told = tell(rt.alloc(), &left, arenas.ctx())?.expect(&rt, "a rule is left");
     assert!(rt; is_ldexp_of_scalars(&told));
-    let left = narrowed(&rt, rt.alloc(), MathFunction::Step)?;
+    let left = narrowed(&rt, rt.alloc(), MathFunction::Step, &arenas.types)?;
     let told = tell(rt.alloc(), &left, arenas.ctx())?.expect(&rt, "a rule is left");
     assert!(rt; concludes(&told.preferred, (SCALAR, Scalar::F32)));
     assert_eq!(rt; told.rules.len(), 3);
