@@ -4,8 +4,6 @@ use Rattle.std.specs.Option.{option_and_then}
 use Rattle.std.specs.List.{list_all, list_any}
 use Rattle.std.specs.Option.{is_some}
 use Rattle.std.proofs.lemmas.Bool.{and_from, and_parts, both_ways, eqb-true}
-use Rattle.shader_ir.specs.declared.operators.MathFunction.{MathFunction}
-use Rattle.shader_ir.specs.declared.operators.MathFunction.TheVariants as f
 use Rattle.shader_ir.specs.declared.scalar.Scalar as s
 use Rattle.shader_ir.specs.declared.scalar.ScalarKind.{ScalarKind}
 use Rattle.shader_ir.specs.declared.scalar.ScalarKind.TheVariants as kinds
@@ -19,12 +17,11 @@ use Rattle.shader_ir.specs.Conversion.{conversion, same_size, scalar_conversion,
 use Rattle.shader_ir.specs.Key.{canonical, inner_of, pointer_at, pointer_to}
 use Rattle.shader_ir.specs.Scalars.{is_convertible, named_scalars, same_kind, same_scalar, scalar}
 use Rattle.shader_ir.specs.TypeTree.{tree_of}
-use Rattle.shader_overloads.specs.declared.rule.Rule.{Rule}
 use Rattle.shader_overloads.specs.AcceptanceLaws.{AcceptancesAgree, is_named, is_named_or_none}
-use Rattle.shader_overloads.specs.Builtins.{rules_of, ldexp_rules, outer_rules, refract_rules, transpose_rules, extract_bits_rules, insert_bits_rules, mix_rules}
+use Rattle.shader_overloads.specs.Builtins.{rules_of}
 use Rattle.shader_overloads.specs.Remaining.{leaf_scalar, list_takes, some_list_takes, some_takes, takes}
-use Rattle.shader_overloads.specs.Rules.{regular_rules}
 use Rattle.shader_overloads.specs.SameType.{same_type}
+use Rattle.shader_overloads.proofs.BuiltinLemmas.{is_named_inner, is_named_argument, is_named_rule, rules_named}
 use Rattle.shader_overloads.proofs.SetLemmas.{same_scalar_self, same_size_self}
 use Rattle.shader_overloads.proofs.TakesLemmas.{same_type-told}
 
@@ -97,20 +94,6 @@ mixed : (a : Bool) → (a ≡ true → ⊥) → false ≡ (a || false)
 mixed true other = absurd (other refl)
 mixed false other = refl
 
--- a scalar, vector or matrix of a scalar that has a name
-abbrev pub is_named_inner : TypeInner → Bool
-is_named_inner (Scalar a) = is_named a
-is_named_inner (Vector n a) = is_named a
-is_named_inner (Matrix m n a) = is_named a
-is_named_inner _ = false
-
-abbrev pub is_named_argument : TypeResolution → Bool
-is_named_argument (Handle handle) = false
-is_named_argument (Value inner) = is_named_inner inner
-
-abbrev pub is_named_rule : Rule → Bool
-is_named_rule rule = list_all is_named_argument rule.arguments
-
 pointer_to-unnamed : (base : ℕ) (space : AddressSpace) (inner : TypeInner) → is_named_inner (pointer_to base space inner) ≡ false
 pointer_to-unnamed base space (Scalar a) = refl
 pointer_to-unnamed base space (Vector n a) = refl
@@ -177,91 +160,6 @@ module _ (all : List «Type») where
       → some_takes ty (option_and_then (inner_of all) found) ≡ some_list_takes all ty (option_and_then (inner_of all) found)
   found_agrees ty arguments i None at m n = refl
   found_agrees ty arguments i (Some argument) at m n = argument_agrees ty argument m (all_at is_named_argument arguments i argument n at)
-
--- ---- the builtins
-
--- all arguments of the rules of the builtins are over scalars that have names
-rules_named : (function : MathFunction) → list_all is_named_rule (rules_of function) ≡ true
-unfolding regular_rules named_scalars ldexp_rules outer_rules refract_rules transpose_rules extract_bits_rules insert_bits_rules mix_rules
-rules_named f.Abs = refl
-rules_named f.Sign = refl
-rules_named f.Min = refl
-rules_named f.Max = refl
-rules_named f.Clamp = refl
-rules_named f.Sin = refl
-rules_named f.Cos = refl
-rules_named f.Tan = refl
-rules_named f.Asin = refl
-rules_named f.Acos = refl
-rules_named f.Atan = refl
-rules_named f.Sinh = refl
-rules_named f.Cosh = refl
-rules_named f.Tanh = refl
-rules_named f.Asinh = refl
-rules_named f.Acosh = refl
-rules_named f.Atanh = refl
-rules_named f.Saturate = refl
-rules_named f.Radians = refl
-rules_named f.Degrees = refl
-rules_named f.Ceil = refl
-rules_named f.Floor = refl
-rules_named f.Round = refl
-rules_named f.Fract = refl
-rules_named f.Trunc = refl
-rules_named f.Exp = refl
-rules_named f.Exp2 = refl
-rules_named f.Log = refl
-rules_named f.Log2 = refl
-rules_named f.Sqrt = refl
-rules_named f.InverseSqrt = refl
-rules_named f.Atan2 = refl
-rules_named f.Pow = refl
-rules_named f.Step = refl
-rules_named f.Fma = refl
-rules_named f.SmoothStep = refl
-rules_named f.CountTrailingZeros = refl
-rules_named f.CountLeadingZeros = refl
-rules_named f.CountOneBits = refl
-rules_named f.ReverseBits = refl
-rules_named f.FirstTrailingBit = refl
-rules_named f.FirstLeadingBit = refl
-rules_named f.Pack4x8snorm = refl
-rules_named f.Pack4x8unorm = refl
-rules_named f.Pack2x16snorm = refl
-rules_named f.Pack2x16unorm = refl
-rules_named f.Pack2x16float = refl
-rules_named f.Pack4xI8 = refl
-rules_named f.Pack4xI8Clamp = refl
-rules_named f.Pack4xU8 = refl
-rules_named f.Pack4xU8Clamp = refl
-rules_named f.Unpack4x8snorm = refl
-rules_named f.Unpack4x8unorm = refl
-rules_named f.Unpack2x16snorm = refl
-rules_named f.Unpack2x16unorm = refl
-rules_named f.Unpack2x16float = refl
-rules_named f.Unpack4xI8 = refl
-rules_named f.Unpack4xU8 = refl
-rules_named f.Dot4I8Packed = refl
-rules_named f.Dot4U8Packed = refl
-rules_named f.Dot = refl
-rules_named f.Cross = refl
-rules_named f.Length = refl
-rules_named f.Normalize = refl
-rules_named f.Inverse = refl
-rules_named f.Determinant = refl
-rules_named f.QuantizeToF16 = refl
-rules_named f.Modf = refl
-rules_named f.Frexp = refl
-rules_named f.Distance = refl
-rules_named f.FaceForward = refl
-rules_named f.Reflect = refl
-rules_named f.Ldexp = refl
-rules_named f.Outer = refl
-rules_named f.Refract = refl
-rules_named f.Transpose = refl
-rules_named f.ExtractBits = refl
-rules_named f.InsertBits = refl
-rules_named f.Mix = refl
 
 pub acceptances_agree : AcceptancesAgree
 acceptances_agree all function place i ty rule named at =

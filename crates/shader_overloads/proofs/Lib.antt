@@ -7,6 +7,7 @@ pub mod MaskLemmas
 pub mod TreeLemmas
 pub mod TakesLemmas
 pub mod FormLemmas
+pub mod BuiltinLemmas
 pub mod CountLemmas
 pub mod AcceptanceLemmas
 pub mod ListCountLemmas

@@ -2,6 +2,7 @@ pub mod AcceptanceLaws
 pub mod AnySet
 pub mod Bits
 pub mod Builtins
+pub mod BuiltinGroups
 pub mod Combinations
 pub mod Constructors
 pub mod Counts

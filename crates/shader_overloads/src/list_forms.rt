@@ -4,7 +4,7 @@ ghost use Rattle.std.specs.List.{flat_map};
 ghost use Rattle.shader_overloads.specs.Builtins.{rule};
 ghost use Rattle.shader_overloads.specs.ListForms.{rows};
 
-use crate::utils::rule;
+use crate::utils::{pairs, rule};
 use crate::{ConstructorSize, Rule};
 use shader_ir::{Scalar, TypeInner};
 use std::alloc::{AllocError, Global};
@@ -31,8 +31,8 @@ pub fn by_scalar(
     ensures { IfOk result (λ rules. rules.items ≡ flat_map (λ scalar. flat_map (λ size. rows form size scalar) sizes.now) scalars.now) }
 {
     let mut rules = Vec::new(alloc);
-    for scalar in scalars {
-        push_sizes(alloc, &mut rules, form, *scalar, sizes)?;
+    for (scalar, size) in pairs(scalars, sizes) {
+        push_rows(alloc, &mut rules, form, size, scalar)?;
     }
     Ok(rules)
 }
@@ -47,40 +47,10 @@ pub fn by_size(
     ensures { IfOk result (λ rules. rules.items ≡ flat_map (λ size. flat_map (rows form size) scalars.now) sizes.now) }
 {
     let mut rules = Vec::new(alloc);
-    for size in sizes {
-        push_scalars(alloc, &mut rules, form, *size, scalars)?;
+    for (size, scalar) in pairs(sizes, scalars) {
+        push_rows(alloc, &mut rules, form, size, scalar)?;
     }
     Ok(rules)
-}
-
-fn push_sizes(
-    alloc: Global,
-    rules: &mut Vec<Rule>,
-    form: ListForm,
-    scalar: Scalar,
-    sizes: &[ConstructorSize],
-) -> Result<(), AllocError>
-    ensures { OnOk result (rules.new.items ≡ rules.old.items ++ flat_map (λ size. rows form size scalar) sizes.now) }
-{
-    for size in sizes {
-        push_rows(alloc, rules, form, *size, scalar)?;
-    }
-    Ok(())
-}
-
-fn push_scalars(
-    alloc: Global,
-    rules: &mut Vec<Rule>,
-    form: ListForm,
-    size: ConstructorSize,
-    scalars: &[Scalar],
-) -> Result<(), AllocError>
-    ensures { OnOk result (rules.new.items ≡ rules.old.items ++ flat_map (rows form size) scalars.now) }
-{
-    for scalar in scalars {
-        push_rows(alloc, rules, form, size, *scalar)?;
-    }
-    Ok(())
 }
 
 /// Appends the rules of one constructor and one scalar.

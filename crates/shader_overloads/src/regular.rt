@@ -62,7 +62,7 @@ impl Regular {
         requires conclude { IsTrue (list_all (can_conclude conclude) (constructors_in constructors)) }
         ensures { result ≡ regular_rules arity conclude (constructors_in constructors) (scalars_in scalars) }
     {
-        Regular {
+        Self {
             arity,
             constructors,
             scalars,

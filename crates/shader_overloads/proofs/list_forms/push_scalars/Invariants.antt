@@ -1,8 +1,0 @@
-use Rattle.std.proofs.Common.{◌≡◌, ◌++◌, take}
-use Rattle.std.specs.List.{flat_map}
-use Rattle.shader_overloads.specs.ListForms.{rows}
-use Rattle.shader_overloads.proofs.list_forms.push_scalars.Given as goal
-
--- the rules of the scalars so far
-abbrev pub invariant-loop-scalar : goal.invariant-loop-scalar
-invariant-loop-scalar l = l.rules.items ≡ l.fn.rules.items ++ flat_map (rows l.form l.size) (take l.scalar-index l.scalars)

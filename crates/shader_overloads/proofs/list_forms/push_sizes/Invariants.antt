@@ -1,8 +1,0 @@
-use Rattle.std.proofs.Common.{◌≡◌, ◌++◌, take}
-use Rattle.std.specs.List.{flat_map}
-use Rattle.shader_overloads.specs.ListForms.{rows}
-use Rattle.shader_overloads.proofs.list_forms.push_sizes.Given as goal
-
--- the rules of the constructors so far
-abbrev pub invariant-loop-size : goal.invariant-loop-size
-invariant-loop-size l = l.rules.items ≡ l.fn.rules.items ++ flat_map (λ size. rows l.form size l.scalar) (take l.size-index l.sizes)
