@@ -13,10 +13,9 @@ use Rattle.shader_ir.specs.declared.types.TypeInner.{TypeInner}
 use Rattle.shader_ir.specs.declared.types.TypeInner.TheVariants.{Scalar, Vector, Matrix, Pointer}
 use Rattle.shader_ir.specs.declared.proc.type_resolution.TypeResolution.{TypeResolution}
 use Rattle.shader_ir.specs.declared.proc.type_resolution.TypeResolution.TheVariants.{Handle, Value}
-use Rattle.shader_ir.specs.Conversion.{conversion, same_size, scalar_conversion, scalar_converts, scalar_converts-named, kind_converts}
-use Rattle.shader_ir.specs.Key.{canonical, inner_of, pointer_at, pointer_to}
+use Rattle.shader_ir.specs.Conversion.{same_size, scalar_conversion, scalar_converts, scalar_converts-named, kind_converts}
+use Rattle.shader_ir.specs.Key.{inner_of, pointer_at, pointer_to}
 use Rattle.shader_ir.specs.Scalars.{is_convertible, named_scalars, same_kind, same_scalar, scalar}
-use Rattle.shader_ir.specs.TypeTree.{tree_of}
 use Rattle.shader_overloads.specs.AcceptanceLaws.{AcceptancesAgree, is_named, is_named_or_none}
 use Rattle.shader_overloads.specs.Builtins.{rules_of}
 use Rattle.shader_overloads.specs.Remaining.{leaf_scalar, list_takes, some_list_takes, some_takes, takes}

@@ -1,5 +1,5 @@
 -- What holds of each builtin: the arguments of its rules, and the group that it is in.
-use Rattle.std.proofs.Common.{◌≡◌, ◌∙◌, ap, zero, suc, Bool, true, false, not, List, [], ◌∷◌, Option, Some, None, refl, arith}
+use Rattle.std.proofs.Common.{◌≡◌, ◌∙◌, ap, zero, suc, Bool, true, false, not, List, [], ◌∷◌, Option, Some, refl, arith}
 use Rattle.std.specs.List.{All, list_all}
 use Rattle.std.specs.Option.{option_or}
 use Rattle.std.proofs.lemmas.Bool.{and_parts, both_ways}

@@ -1,5 +1,5 @@
 -- How many arguments the rules have that are left of a list.
-use Rattle.std.proofs.Common.{◌≡◌, ◌≤◌, ◌<◌, ◌∙◌, ℕ, zero, suc, Bool, true, false, List, [], ◌∷◌, length, sym, ap, arith, subst, inl, inr, ◌⊎◌, Some, slice_get, min, max, refl, add-one}
+use Rattle.std.proofs.Common.{◌≡◌, ◌≤◌, ◌<◌, ◌∙◌, ℕ, zero, suc, Bool, true, false, List, [], ◌∷◌, length, sym, ap, arith, subst, inl, inr, ◌⊎◌, Some, slice_get, min, max, refl}
 use Rattle.std.proofs.Math.Nat.{min-eq_left, min-eq_right, max-eq_left, max-eq_right}
 use Rattle.std.proofs.lemmas.Bool.{both_ways, cases_lt, cases_eq}
 use Rattle.shader_overloads.specs.declared.rule.Rule.{Rule}

@@ -1,5 +1,5 @@
 -- The rules of a regular set under a filter.
-use Rattle.std.proofs.Common.{◌≡◌, ◌≢◌, ℕ, zero, suc, ◌<◌, ◌≤◌, Bool, true, false, cond, not, ◌&&◌, List, [], ◌∷◌, length, map, refl, sym, ◌∙◌, ap, arith, inl, inr, ◌⊎◌, Some, None, slice_get, replicate, IfOk, Result, Ok, Err, Option}
+use Rattle.std.proofs.Common.{◌≡◌, ℕ, zero, suc, ◌<◌, ◌≤◌, Bool, true, false, cond, ◌&&◌, List, [], ◌∷◌, map, refl, sym, ◌∙◌, ap, arith, inl, inr, ◌⊎◌, Some, None, slice_get, replicate, IfOk, Result, Ok, Err, Option}
 use Rattle.std.specs.List.{filter, flat_map, list_all}
 use Rattle.std.specs.Option.{option_and_then}
 use Rattle.std.proofs.lemmas.Bool.{and_from, and_parts}
@@ -11,7 +11,7 @@ use Rattle.shader_ir.specs.declared.types.TypeInner.TheVariants as types
 use Rattle.shader_ir.specs.declared.proc.type_resolution.TypeResolution.TheVariants as resolutions
 use Rattle.shader_ir.specs.Conversion.{same_size}
 use Rattle.shader_ir.specs.Key.{inner_of}
-use Rattle.shader_ir.specs.Scalars.{is_convertible, named_scalars}
+use Rattle.shader_ir.specs.Scalars.{is_convertible}
 use Rattle.shader_overloads.specs.declared.constructor_set.ConstructorSize.{ConstructorSize}
 use Rattle.shader_overloads.specs.declared.constructor_set.ConstructorSize.TheVariants as sizes
 use Rattle.shader_overloads.specs.declared.regular.ConclusionRule.{ConclusionRule}

@@ -1,5 +1,5 @@
 -- Sets of scalars and of constructors, joined and met.
-use Rattle.std.proofs.Common.{◌≡◌, ◌≢◌, ◌+◌, ℕ, ◌<◌, Bool, true, false, ◌&&◌, ◌||◌, List, [], ◌∷◌, length, refl, sym, ◌∙◌, ap, arith, inl, inr, ◌⊎◌, bit_and, nat_eq, min, max}
+use Rattle.std.proofs.Common.{◌≡◌, ℕ, ◌<◌, Bool, true, ◌&&◌, ◌||◌, refl, ◌∙◌, ap, arith, inl, inr, ◌⊎◌, bit_and, nat_eq, min, max}
 use Rattle.std.specs.List.{filter}
 use Rattle.std.specs.Int.{bit_at}
 use Rattle.std.specs.Int.RustNames.{bit_or}
@@ -17,7 +17,7 @@ use Rattle.shader_overloads.specs.declared.constructor_set.ConstructorSize.{Cons
 use Rattle.shader_overloads.specs.declared.constructor_set.ConstructorSize.TheVariants as sizes
 use Rattle.shader_overloads.specs.declared.constructor_set.ConstructorSet.{ConstructorSet}
 use Rattle.shader_overloads.specs.declared.scalar_set.ScalarSet.{ScalarSet}
-use Rattle.shader_overloads.specs.Bits.{has_bit, items_where}
+use Rattle.shader_overloads.specs.Bits.{has_bit}
 use Rattle.shader_overloads.specs.ScalarSets.{scalars_in, has_scalar}
 use Rattle.shader_overloads.specs.Constructors.{constructors_in, has_constructor, all_constructors, same_constructor}
 use Rattle.shader_overloads.proofs.ListLemmas.{Places, items_where-and, items_where-filtered, places_from_list, places_of_members, places_of_either, filter_same_places}

@@ -1,5 +1,5 @@
 -- What an argument of a list takes.
-use Rattle.std.proofs.Common.{◌≡◌, ◌==◌, ◌∙◌, ap, sym, refl, ℕ, Bool, true, false, ◌&&◌, ◌||◌, List, Option, Some, nat_eq}
+use Rattle.std.proofs.Common.{◌≡◌, ◌∙◌, ap, sym, refl, true, false, ◌||◌, List, Some}
 use Rattle.std.specs.Option.{is_some}
 use Rattle.std.proofs.lemmas.Bool.{and_from, and_parts, both_ways, eq-eqb, eqb-true, false_from_ne_true}
 use base.Stored.{Gv, gnil, gnum, gcons}
@@ -9,7 +9,7 @@ use Rattle.shader_ir.specs.declared.proc.type_resolution.TypeResolution.{TypeRes
 use Rattle.shader_ir.specs.Conversion.{conversion}
 use Rattle.shader_ir.specs.Key.{canonical, inner_of}
 use Rattle.shader_ir.specs.TypeTree.{tree_of}
-use Rattle.shader_overloads.specs.Remaining.{list_takes, some_list_takes}
+use Rattle.shader_overloads.specs.Remaining.{some_list_takes}
 use Rattle.shader_overloads.specs.SameType.{inner_coded, same_code, same_type}
 
 same_code-self : (g : Gv) → same_code g g ≡ true

@@ -1,8 +1,7 @@
 -- The constructors of types from scalars, and sets of them.
-use Rattle.std.specs.Prelude.{ℕ, Bool, true, false, ◌&&◌, List, [], ◌∷◌}
+use Rattle.std.specs.Prelude.{Bool, true, false, ◌&&◌, List, [], ◌∷◌}
 use Rattle.std.specs.List.{list_any}
 use Rattle.shader_ir.specs.declared.scalar.Scalar.{Scalar}
-use Rattle.shader_ir.specs.declared.scalar.VectorSize.{VectorSize}
 use Rattle.shader_ir.specs.declared.scalar.VectorSize.TheVariants.{Bi, Tri, Quad}
 use Rattle.shader_ir.specs.declared.types.TypeInner.{TypeInner}
 use Rattle.shader_ir.specs.declared.types.TypeInner.TheVariants as types

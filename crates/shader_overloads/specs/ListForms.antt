@@ -1,7 +1,6 @@
 -- The rules that each list of the builtins has of one constructor and one scalar.
 use Rattle.std.specs.Prelude.{List, [], ◌∷◌}
 use Rattle.shader_ir.specs.declared.scalar.Scalar.{Scalar}
-use Rattle.shader_ir.specs.declared.scalar.VectorSize.TheVariants.{Bi, Tri, Quad}
 use Rattle.shader_ir.specs.declared.types.TypeInner.TheVariants as types
 use Rattle.shader_overloads.specs.declared.constructor_set.ConstructorSize.{ConstructorSize}
 use Rattle.shader_overloads.specs.declared.constructor_set.ConstructorSize.TheVariants as sizes

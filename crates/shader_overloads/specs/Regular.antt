@@ -1,9 +1,7 @@
 -- What the parts of a regular set mean.
-use Rattle.std.specs.Prelude.{ℕ, ◌≡◌, ◌<◌, ◌⊎◌, List, [], IsTrue}
+use Rattle.std.specs.Prelude.{◌≡◌, ◌<◌, ◌⊎◌, List, [], IsTrue}
 use Rattle.std.specs.List.{list_all}
 use Rattle.shader_overloads.specs.declared.rule.Rule.{Rule}
-use Rattle.shader_overloads.specs.declared.constructor_set.ConstructorSet.{ConstructorSet}
-use Rattle.shader_overloads.specs.declared.scalar_set.ScalarSet.{ScalarSet}
 use Rattle.shader_overloads.specs.declared.regular.Regular.TheInside.{Inside}
 use Rattle.shader_overloads.specs.Constructors.{constructors_in}
 use Rattle.shader_overloads.specs.ScalarSets.{scalars_in}

@@ -1,5 +1,5 @@
 -- Which rules accept an argument, and the rules that remain after the calls on a set.
-use Rattle.std.specs.Prelude.{◌≡◌, ℕ, ◌<◌, Bool, true, false, not, ◌&&◌, ◌||◌, List, filter, slice_get, length, All, Option, Some, None, option_and_then, is_some, IfSome}
+use Rattle.std.specs.Prelude.{ℕ, Bool, true, false, not, ◌&&◌, ◌||◌, List, filter, slice_get, length, All, Option, Some, None, option_and_then, is_some, IfSome}
 use Rattle.std.specs.List.{list_all}
 use Rattle.shader_ir.specs.declared.scalar.Scalar as s
 use Rattle.shader_ir.specs.declared.types.«Type».{«Type»}
