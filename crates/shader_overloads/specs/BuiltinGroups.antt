@@ -35,7 +35,7 @@ abbrev pub same_function : MathFunction → MathFunction → Bool
 same_function = functions.ghosts.eq
 
 abbrev pub is_among : List MathFunction → MathFunction → Bool
-is_among functions function = list_any (same_function function) functions
+is_among group function = list_any (same_function function) group
 
 -- whether the overload set of a builtin is a list
 abbrev pub is_listed : MathFunction → Bool
