@@ -13,7 +13,7 @@ fn expects(rt: &impl Abort, alloc: Global, error: ResolveError, text: &str) {
 }
 
 #[test]
-fn texts_of_places(rt: HostRuntime) {
+fn texts_of_accesses(rt: HostRuntime) {
     let alloc = rt.alloc();
     let past = ResolveError::OutOfBoundsIndex {
         expr: Handle::from_index(2),
@@ -45,6 +45,11 @@ fn texts_of_places(rt: HostRuntime) {
         sub_access,
         "Invalid sub-access into type [4], indexed: false",
     );
+}
+
+#[test]
+fn texts_of_operands(rt: HostRuntime) {
+    let alloc = rt.alloc();
     let scalar = ResolveError::InvalidScalar(Handle::from_index(5));
     expects(&rt, alloc, scalar, "Invalid scalar [5]");
     let vector = ResolveError::InvalidVector(Handle::from_index(6));
