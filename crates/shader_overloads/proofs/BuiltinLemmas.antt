@@ -1,7 +1,7 @@
 -- What holds of each builtin: the arguments of its rules, and the group that it is in.
-use Rattle.std.proofs.Common.{◌≡◌, ◌∙◌, ap, zero, suc, Bool, true, false, not, List, [], ◌∷◌, Option, Some, refl, arith}
+use Rattle.std.proofs.Common.{◌≡◌, ◌∙◌, ap, zero, suc, Bool, true, false, not, List, [], ◌∷◌, Option, Some, None, refl, arith}
 use Rattle.std.specs.List.{All, list_all}
-use Rattle.std.specs.Option.{option_or}
+use Rattle.std.specs.Option.{MatchOption, option_or}
 use Rattle.std.proofs.lemmas.Bool.{and_parts, both_ways}
 use Rattle.shader_ir.specs.declared.operators.MathFunction.{MathFunction}
 use Rattle.shader_ir.specs.declared.operators.MathFunction.TheVariants as f
@@ -140,7 +140,7 @@ rules_fit list function = record {
 
 -- ---- the groups
 
-abbrev rules_among : List MathFunction → MathFunction → Option (List Rule)
+abbrev pub rules_among : List MathFunction → MathFunction → Option (List Rule)
 rules_among group function = rules_if (is_among group function) function
 
 -- a builtin is in one of the groups, or its set is a list
@@ -150,9 +150,11 @@ pub groups_joined : (function : MathFunction)
 groups_joined f.Ldexp = refl
 groups_joined _ = refl
 
--- the first of two, where each is told
-pub first_of : {X : Type 0} (left right found next joined : Option X) → found ≡ left → next ≡ right → joined ≡ option_or found next → joined ≡ option_or left right
-first_of left right found next joined e f is = is ∙ ap (λ o. option_or o next) e ∙ ap (option_or left) f
+-- the first of two, where P is what is known when the former gives none
+pub first_of : {P : Type 0} {X : Type 0} (left right found joined : Option X) → found ≡ left
+    → MatchOption found P (λ x. joined ≡ Some x) → (P → joined ≡ right) → joined ≡ option_or left right
+first_of left right None joined first is next = next is ∙ ap (λ o. option_or o right) first
+first_of left right (Some x) joined first is next = is ∙ ap (λ o. option_or o right) first
 
 pub some_rules : (function : MathFunction) (test : Bool) (rules : List Rule) → Some rules ≡ rules_if test function → rules ≡ rules_of function
 some_rules function true rules found = cc

@@ -187,11 +187,11 @@ fn regular_set(function: MathFunction) -> Option<Regular>
     ensures { result ≡ rules_if (not (is_listed function)) function }
 {
     float_set(function)
-        .or(number_set(function))
-        .or(packing_set(function))
-        .or(geometric_set(function))
-        .or(matrix_set(function))
-        .or(splitting_set(function))
+        .or_else(|| number_set(function))
+        .or_else(|| packing_set(function))
+        .or_else(|| geometric_set(function))
+        .or_else(|| matrix_set(function))
+        .or_else(|| splitting_set(function))
 }
 
 /// The overload sets of builtin functions.
