@@ -103,7 +103,7 @@ fn parse_arguments(
 ) -> Result<Option<(MathFunction, Vec<SpelledType>)>, AllocError>
     ensures { IfOk result (λ named. option_map (λ n. (n.0, n.1.items)) named ≡ named_from words.entry) }
 {
-    let Some(function) = words.next().and_then(builtin_from_word) else {
+    let Some(function) = words.next().and_then(|name| builtin_from_word(name)) else {
         return Ok(None);
     };
     match parse_types(alloc, words)? {
