@@ -1,7 +1,7 @@
 //! The answer to all lines.
 
-use crate::calls::calls_from_words;
 use crate::narrowing::{describe, rules_left};
+use crate::step::calls_from_words;
 use shader_arena::UniqueArena;
 use shader_text::{Pieces, builtin_from_word};
 use std::alloc::{AllocError, Global};

@@ -2,7 +2,6 @@
 #![tactic(auto)]
 
 mod answer;
-mod calls;
 mod narrowing;
 mod step;
 

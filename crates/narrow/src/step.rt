@@ -1,12 +1,20 @@
-//! One step of narrowing, as a word asks for it.
+//! The steps of narrowing that words ask for, and the calls on a set that they stand for.
+
+ghost use Rattle.std.specs.Prelude.{◌≡◌, ◌<◌, length, All, IfOk, IfSome, OnOk};
+ghost use Rattle.std.specs.List.{AllZip};
+ghost use Rattle.std.specs.Option.{option_map};
+ghost use Rattle.shader_arena.specs.declared.arena.TheConstants.{MOST_ITEMS};
+ghost use Rattle.shader_overloads.specs.Remaining.{CallFits};
+ghost use Rattle.shader_text.specs.Placements.{AreFlat, KeepsTypes};
+ghost use Rattle.narrow.specs.Steps.{AreCallsOf, IsCallOf, argument_of, step_of, steps_of};
 
 use shader_arena::UniqueArena;
 use shader_ir::{Type, mark};
 use shader_overloads::SetCall;
-use shader_text::{SpelledType, index_of, number_from_word, place};
-use std::alloc::AllocError;
+use shader_text::{Pieces, SpelledType, index_of, number_from_word, place};
+use std::alloc::{AllocError, Global};
 
-/// What a word asks for.
+/// One step of narrowing.
 #[derive(Clone, Copy, Debug, PartialEq, Eq)]
 pub enum Step {
     /// An argument of this place and type is supplied.
@@ -16,12 +24,6 @@ pub enum Step {
 }
 
 impl Step {
-    ghost use Rattle.std.specs.Prelude.{◌≡◌, ◌<◌, ◌≤◌, ◌+◌, length, IfOk};
-    ghost use Rattle.shader_arena.specs.declared.arena.TheConstants.{MOST_ITEMS};
-    ghost use Rattle.shader_overloads.specs.Remaining.{CallFits};
-    ghost use Rattle.shader_text.specs.Placements.{AreFlat};
-    ghost use Rattle.narrow.specs.Steps.{IsCallOf, argument_of, step_of};
-
     /// The argument that `I=TYPE` supplies.
     fn argument_from_word(word: &[u8]) -> Option<Step>
         ensures { result ≡ argument_of word.now }
@@ -43,14 +45,11 @@ impl Step {
     }
 
     /// The step as a call on a set. The base of an array goes into the arena.
-    pub fn to_call(
-        self,
-        types: &mut UniqueArena<Type, mark::Type>,
-    ) -> Result<SetCall, AllocError>
+    pub fn to_call(self, types: &mut UniqueArena<Type, mark::Type>) -> Result<SetCall, AllocError>
         requires room { length types.old < MOST_ITEMS }
         requires flat { AreFlat types.old }
         ensures flat { IfOk result (λ _. AreFlat types.new) }
-        ensures longer { IfOk result (λ _. length types.old ≤ length types.new) }
+        ensures kept { IfOk result (λ _. KeepsTypes types.old types.new) }
         ensures fits { IfOk result (CallFits types.new) }
         ensures call { IfOk result (IsCallOf types.new self) }
     {
@@ -61,5 +60,65 @@ impl Step {
             }
             Step::ConcreteOnly => Ok(SetCall::ConcreteOnly),
         }
+    }
+}
+
+/// The steps that the words ask for, if each asks for one.
+fn steps_from_words(alloc: Global, words: Pieces<'_>) -> Result<Option<Vec<Step>>, AllocError>
+    ensures { IfOk result (λ steps. option_map (λ v. v.items) steps ≡ steps_of words.entry) }
+{
+    let mut steps = Vec::new(alloc);
+    for word in words {
+        let Some(step) = Step::from_word(word) else {
+            return Ok(None);
+        };
+        steps.push(step)?;
+    }
+    Ok(Some(steps))
+}
+
+/// The steps as calls on a set. Their types stand in the arena.
+///
+/// # Errors
+///
+/// Want of memory, or of room in the arena.
+fn calls_of(
+    alloc: Global,
+    steps: &[Step],
+    types: &mut UniqueArena<Type, mark::Type>,
+) -> Result<Vec<SetCall>, AllocError>
+    requires { AreFlat types.old }
+    ensures flat { OnOk result (AreFlat types.new) }
+    ensures fit { IfOk result (λ calls. All (CallFits types.new) calls.items) }
+    ensures calls { IfOk result (λ calls. AllZip (IsCallOf types.new) steps.now calls.items) }
+{
+    let mut calls = Vec::new(alloc);
+    for step in steps {
+        if types.is_full() {
+            return Err(AllocError);
+        }
+        calls.push(step.to_call(types)?)?;
+    }
+    Ok(calls)
+}
+
+/// The calls that the words stand for, if each stands for one. Their types stand in the arena.
+///
+/// # Errors
+///
+/// Want of memory, or of room in the arena.
+pub fn calls_from_words(
+    alloc: Global,
+    words: Pieces<'_>,
+    types: &mut UniqueArena<Type, mark::Type>,
+) -> Result<Option<Vec<SetCall>>, AllocError>
+    requires { AreFlat types.old }
+    ensures flat { OnOk result (AreFlat types.new) }
+    ensures fit { IfOk result (λ calls. IfSome calls (λ made. All (CallFits types.new) made.items)) }
+    ensures calls { IfOk result (λ calls. AreCallsOf types.new (steps_of words.entry) (option_map (λ v. v.items) calls)) }
+{
+    match steps_from_words(alloc, words)? {
+        Some(steps) => Ok(Some(calls_of(alloc, steps.as_slice(), types)?)),
+        None => Ok(None),
     }
 }

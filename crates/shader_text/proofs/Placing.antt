@@ -1,5 +1,5 @@
 -- Spelled types in an arena.
-use Rattle.std.proofs.Common.{rules, ◌≡◌, ℕ, zero, suc, ◌+◌, Bool, true, false, cond, ◌∙◌, List, [], ◌∷◌, ◌++◌, Some, length, refl, ap, subst, arith}
+use Rattle.std.proofs.Common.{rules, ◌≡◌, ℕ, zero, suc, ◌+◌, Bool, true, false, cond, List, [], ◌∷◌, ◌++◌, Some, length, refl, ap, subst, arith}
 use Rattle.std.specs.Prelude.{All, slice_get}
 use Rattle.std.specs.List.{list_any, position_or_len}
 use Rattle.std.proofs.lemmas.Bool.{and_parts}
@@ -16,7 +16,9 @@ use Rattle.shader_ir.specs.declared.types.TypeInner.TheVariants as inners
 use Rattle.shader_ir.specs.TypeTree.{IsBackward, PointsBelow, type_handles}
 use Rattle.shader_text.specs.declared.types.PlainType.{PlainType}
 use Rattle.shader_text.specs.declared.types.PlainType.TheVariants.{Scalar, Vector, Matrix}
-use Rattle.shader_text.specs.Placements.{AreFlat, unnamed}
+use Rattle.shader_text.specs.declared.types.SpelledType.{SpelledType}
+use Rattle.shader_text.specs.declared.types.SpelledType.TheVariants.{Plain, Array}
+use Rattle.shader_text.specs.Placements.{AreFlat, IsPlaced, KeepsTypes, unnamed}
 use Rattle.shader_text.specs.Types.{inner_of}
 
 -- ---- an unnamed plain type equals itself alone
@@ -68,6 +70,11 @@ pub base_placed : (old new : List «Type») (p : PlainType) (i : TypeInner) (han
     → slice_get new handle ≡ Some (unnamed (inner_of p))
 base_placed old new p i handle is at inserted =
     rw (inserted, at, is) (inserted_at (type.ghosts.eq (unnamed (inner_of p))) (unnamed (inner_of p)) old (same_type p))
+
+-- a placed type stays placed
+pub stays_placed : (old new : List «Type») (spelled : SpelledType) (i : TypeInner) → KeepsTypes old new → IsPlaced old spelled i → IsPlaced new spelled i
+stays_placed old new (Plain p) i keeps placed = placed
+stays_placed old new (Array base count stride) i keeps placed = (placed.0, keeps.kept placed.0 (unnamed (inner_of base)) placed.1, placed.2)
 
 -- ---- flat types
 

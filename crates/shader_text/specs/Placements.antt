@@ -1,5 +1,5 @@
 -- Spelled types in an arena of the IR.
-use Rattle.std.specs.Prelude.{◌≡◌, ◌≤◌, ℕ, List, [], ◌∷◌, length, All, Option, Some, None, slice_get}
+use Rattle.std.specs.Prelude.{◌≡◌, ◌≤◌, ℕ, List, [], ◌∷◌, length, All, Some, None, slice_get}
 use Rattle.shader_ir.specs.declared.types.«Type».{«Type»}
 use Rattle.shader_ir.specs.declared.types.ArraySize.TheVariants.{Constant}
 use Rattle.shader_ir.specs.declared.types.TypeInner.{TypeInner}

@@ -13,6 +13,7 @@ use Rattle.shader_text.specs.declared.types.SpelledType.{SpelledType}
 use Rattle.shader_text.specs.declared.types.SpelledType.TheVariants.{Plain, Array}
 use Rattle.shader_text.specs.Placements.{IsPlaced, KeepsTypes, unnamed}
 use Rattle.shader_text.specs.Types.{inner_of}
+use Rattle.shader_text.proofs.Placing.{stays_placed}
 use Rattle.typer.specs.Conversions.{conversion_of, plain_tree}
 
 no_trees : (depth : ℕ) (types : List «Type») (p : PlainType) → tree_within depth types (inner_of p) ≡ plain_tree p
@@ -57,10 +58,6 @@ same_conversion types (Array base count stride) (Plain (Scalar t)) a b _ _ = ref
 same_conversion types (Array base count stride) (Plain (Vector n t)) a b _ _ = refl
 same_conversion types (Array base count stride) (Plain (Matrix c r t)) a b _ _ = refl
 same_conversion types (Array base count stride) (Array goal n bytes) a b _ _ = refl
-
-stays_placed : (old new : List «Type») (spelled : SpelledType) (i : TypeInner) → KeepsTypes old new → IsPlaced old spelled i → IsPlaced new spelled i
-stays_placed old new (Plain p) i keeps placed = placed
-stays_placed old new (Array base count stride) i keeps placed = (placed.0, keeps.kept placed.0 (unnamed (inner_of base)) placed.1, placed.2)
 
 -- the conversion of two placed types is that of the spelled ones
 pub conversion_is : (old new : List «Type») (from to : SpelledType) (a b : TypeInner) → IsPlaced old from a → KeepsTypes old new → IsPlaced new to b
