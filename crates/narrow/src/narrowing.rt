@@ -54,7 +54,10 @@ pub fn describe(
     write!(text, "{rules} | {least}..{greatest}")?;
     for i in 0..=greatest {
         let allowed = left.allowed_args(alloc, i, ctx)?;
-        write!(text, " | {}", ArgumentsText(allowed.as_slice()))?;
+        write!(text, " |")?;
+        if !allowed.is_empty() {
+            write!(text, " {}", ArgumentsText(allowed.as_slice()))?;
+        }
     }
     Ok(text)
 }

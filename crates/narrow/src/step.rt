@@ -15,7 +15,7 @@ use shader_text::{Pieces, SpelledType, index_of, number_from_word, place};
 use std::alloc::{AllocError, Global};
 
 /// One step of narrowing.
-#[derive(Clone, Copy, Debug, PartialEq, Eq)]
+#[derive(Drop)]
 pub enum Step {
     /// An argument of this place and type is supplied.
     Argument(u32, SpelledType),
@@ -45,18 +45,18 @@ impl Step {
     }
 
     /// The step as a call on a set. The base of an array goes into the arena.
-    pub fn to_call(self, types: &mut UniqueArena<Type, mark::Type>) -> Result<SetCall, AllocError>
+    pub fn to_call(&self, types: &mut UniqueArena<Type, mark::Type>) -> Result<SetCall, AllocError>
         requires room { length types.old < MOST_ITEMS }
         requires flat { AreFlat types.old }
         ensures flat { IfOk result (λ _. AreFlat types.new) }
         ensures kept { IfOk result (λ _. KeepsTypes types.old types.new) }
         ensures fits { IfOk result (CallFits types.new) }
-        ensures call { IfOk result (IsCallOf types.new self) }
+        ensures call { IfOk result (IsCallOf types.new self.now) }
     {
         match self {
             Step::Argument(i, spelled) => {
-                let inner = place(types, spelled)?;
-                Ok(SetCall::Arg(i as usize, inner))
+                let inner = place(types, *spelled)?;
+                Ok(SetCall::Arg(*i as usize, inner))
             }
             Step::ConcreteOnly => Ok(SetCall::ConcreteOnly),
         }
