@@ -1,12 +1,11 @@
 //! The steps of narrowing that words ask for, and the calls on a set that they stand for.
 
-ghost use Rattle.std.specs.Prelude.{◌≡◌, ◌<◌, length, All, IfOk, IfSome, OnOk};
-ghost use Rattle.std.specs.List.{AllZip};
-ghost use Rattle.std.specs.Option.{option_map};
+ghost use Rattle.std.specs.Prelude.{◌≡◌, ◌<◌, length, All, IfOk, IfSome, IsTrue, OnOk};
+ghost use Rattle.std.specs.List.{AllZip, list_any};
 ghost use Rattle.shader_arena.specs.declared.arena.TheConstants.{MOST_ITEMS};
 ghost use Rattle.shader_overloads.specs.Remaining.{CallFits};
 ghost use Rattle.shader_text.specs.Placements.{AreFlat, KeepsTypes};
-ghost use Rattle.narrow.specs.Steps.{AreCallsOf, IsCallOf, argument_of, step_of, steps_of};
+ghost use Rattle.narrow.specs.Steps.{IsCallOf, StandsFor, argument_of, has_no_step, step_of};
 
 use shader_arena::UniqueArena;
 use shader_ir::{Type, mark};
@@ -15,7 +14,7 @@ use shader_text::{Pieces, SpelledType, index_of, number_from_word, place};
 use std::alloc::{AllocError, Global};
 
 /// One step of narrowing.
-#[derive(Drop)]
+#[derive(Clone, Copy, Debug, PartialEq, Eq)]
 pub enum Step {
     /// An argument of this place and type is supplied.
     Argument(u32, SpelledType),
@@ -45,61 +44,22 @@ impl Step {
     }
 
     /// The step as a call on a set. The base of an array goes into the arena.
-    pub fn to_call(&self, types: &mut UniqueArena<Type, mark::Type>) -> Result<SetCall, AllocError>
+    pub fn to_call(self, types: &mut UniqueArena<Type, mark::Type>) -> Result<SetCall, AllocError>
         requires room { length types.old < MOST_ITEMS }
         requires flat { AreFlat types.old }
         ensures flat { IfOk result (λ _. AreFlat types.new) }
         ensures kept { IfOk result (λ _. KeepsTypes types.old types.new) }
         ensures fits { IfOk result (CallFits types.new) }
-        ensures call { IfOk result (IsCallOf types.new self.now) }
+        ensures call { IfOk result (IsCallOf types.new self) }
     {
         match self {
             Step::Argument(i, spelled) => {
-                let inner = place(types, *spelled)?;
-                Ok(SetCall::Arg(*i as usize, inner))
+                let inner = place(types, spelled)?;
+                Ok(SetCall::Arg(i as usize, inner))
             }
             Step::ConcreteOnly => Ok(SetCall::ConcreteOnly),
         }
     }
-}
-
-/// The steps that the words ask for, if each asks for one.
-fn steps_from_words(alloc: Global, words: Pieces<'_>) -> Result<Option<Vec<Step>>, AllocError>
-    ensures { IfOk result (λ steps. option_map (λ v. v.items) steps ≡ steps_of words.entry) }
-{
-    let mut steps = Vec::new(alloc);
-    for word in words {
-        let Some(step) = Step::from_word(word) else {
-            return Ok(None);
-        };
-        steps.push(step)?;
-    }
-    Ok(Some(steps))
-}
-
-/// The steps as calls on a set. Their types stand in the arena.
-///
-/// # Errors
-///
-/// Want of memory, or of room in the arena.
-fn calls_of(
-    alloc: Global,
-    steps: &[Step],
-    types: &mut UniqueArena<Type, mark::Type>,
-) -> Result<Vec<SetCall>, AllocError>
-    requires { AreFlat types.old }
-    ensures flat { OnOk result (AreFlat types.new) }
-    ensures fit { IfOk result (λ calls. All (CallFits types.new) calls.items) }
-    ensures calls { IfOk result (λ calls. AllZip (IsCallOf types.new) steps.now calls.items) }
-{
-    let mut calls = Vec::new(alloc);
-    for step in steps {
-        if types.is_full() {
-            return Err(AllocError);
-        }
-        calls.push(step.to_call(types)?)?;
-    }
-    Ok(calls)
 }
 
 /// The calls that the words stand for, if each stands for one. Their types stand in the arena.
@@ -115,10 +75,18 @@ pub fn calls_from_words(
     requires { AreFlat types.old }
     ensures flat { OnOk result (AreFlat types.new) }
     ensures fit { IfOk result (λ calls. IfSome calls (λ made. All (CallFits types.new) made.items)) }
-    ensures calls { IfOk result (λ calls. AreCallsOf types.new (steps_of words.entry) (option_map (λ v. v.items) calls)) }
+    ensures calls { IfOk result (λ calls. IfSome calls (λ made. AllZip (StandsFor types.new) words.entry made.items)) }
+    ensures none { IfOk result (λ calls. calls ≡ None → IsTrue (list_any has_no_step words.entry)) }
 {
-    match steps_from_words(alloc, words)? {
-        Some(steps) => Ok(Some(calls_of(alloc, steps.as_slice(), types)?)),
-        None => Ok(None),
+    let mut calls = Vec::new(alloc);
+    for word in words {
+        let Some(step) = Step::from_word(word) else {
+            return Ok(None);
+        };
+        if types.is_full() {
+            return Err(AllocError);
+        }
+        calls.push(step.to_call(types)?)?;
     }
+    Ok(Some(calls))
 }
