@@ -1,5 +1,5 @@
 -- Calls whose types stand in an arena that grows.
-use Rattle.std.proofs.Common.{◌≡◌, ◌∙◌, ℕ, ◌++◌, ◌||◌, All, Bool, true, false, IsTrue, List, [], ◌∷◌, Some, None, get_or, length, ap, sym, refl, subst, append_assoc, arith}
+use Rattle.std.proofs.Common.{◌≡◌, ◌∙◌, ℕ, ◌++◌, ◌||◌, All, Bool, true, false, IsTrue, List, [], ◌∷◌, Some, None, get_or, ap, sym, refl, subst, append_assoc, arith}
 use Rattle.std.specs.List.{AllZip, list_any}
 use Rattle.std.proofs.lemmas.List.{append-nil}
 use Rattle.std.proofs.lemmas.List.Folds.{list_any-append}

@@ -1,6 +1,5 @@
-use Rattle.std.proofs.Common.{◌≡◌, ◌∙◌, [], sym, subst}
-use Rattle.shader_overloads.specs.declared.overload_set.SetCall.{SetCall}
-use Rattle.narrow.proofs.Supplies.{all_taken, empty_taken, fit_more, none_fit, one_stray, one_taken}
+use Rattle.std.proofs.Common.{◌∙◌, sym}
+use Rattle.narrow.proofs.Supplies.{empty_taken, fit_more, none_fit, one_taken}
 use Rattle.narrow.proofs.step.calls_from_words.Goals as goal
 
 pub loop-word-init : goal.loop-word-init
