@@ -1,7 +1,7 @@
 -- What is known of the name of each builtin.
-use Rattle.std.proofs.Common.{◌≡◌, ℕ, ◌∙◌, ◌++◌, false, List, Option, Some, refl, sym, ap}
+use Rattle.std.proofs.Common.{◌≡◌, ℕ, ◌∙◌, ◌++◌, false, List, Option, Some, None, refl, sym, ap}
 use Rattle.std.specs.List.{list_any}
-use Rattle.std.specs.Option.{option_or}
+use Rattle.std.specs.Option.{MatchOption, option_or}
 use Rattle.std.specs.Str.{bytes_eq}
 use Rattle.std.proofs.lemmas.List.Folds.{find-append}
 use Rattle.shader_ir.specs.declared.operators.MathFunction.{MathFunction}
@@ -96,11 +96,14 @@ builtin_facts function = elim function as (λ g. NameFacts g) [
   | f.Unpack4xU8 ↦ (refl, refl)
 ]
 
--- what is found among the builtins before a group, or else in the group
-pub found_next : (word : List ℕ) (before group : List MathFunction) (found next both : Option MathFunction) → found ≡ named_in before word → next ≡ named_in group word
-    → both ≡ option_or found next → both ≡ named_in (before ++ group) word
-found_next word before group found next both first second is =
+-- What is found among the builtins before a group, or else in the group. P is what is known where nothing was found before.
+pub found_next : {P : Type 0} (word : List ℕ) (before group : List MathFunction) (found both : Option MathFunction) → found ≡ named_in before word
+    → MatchOption found P (λ function. both ≡ Some function) → (P → both ≡ named_in group word) → both ≡ named_in (before ++ group) word
+found_next word before group None both first is next =
+    next is
+    ∙ ap (λ (o : Option MathFunction). option_or o (named_in group word)) first
+    ∙ sym (find-append (λ function. bytes_eq (builtin_text function) word) before group)
+found_next word before group (Some function) both first is next =
     is
-    ∙ ap (λ o. option_or o next) first
-    ∙ ap (option_or (named_in before word)) second
+    ∙ ap (λ (o : Option MathFunction). option_or o (named_in group word)) first
     ∙ sym (find-append (λ function. bytes_eq (builtin_text function) word) before group)
