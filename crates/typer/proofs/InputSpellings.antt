@@ -15,7 +15,7 @@ use Rattle.typer.specs.Lines.{lines_of, without_empty_last}
 use Rattle.typer.specs.Requests.{IsWritableRequest, request_of, request_text}
 use Rattle.typer.proofs.LineSteps.{has_piece, kept}
 use Rattle.typer.proofs.RequestSpellings.{request_is, request_line, request_named}
-use Rattle.typer.proofs.Separators.{is_end, split_front}
+use Rattle.shader_text.proofs.Separators.{is_end, split_front}
 
 -- the first line of a text
 first_line : (line rest : List ℕ) → list_any is_end line ≡ false → lines_of (line ++ 10 ∷ rest) ≡ line ∷ lines_of rest

@@ -21,15 +21,15 @@ use Rattle.shader_ir.specs.declared.types.ArraySize.TheVariants as sizes
 use Rattle.shader_ir.specs.declared.types.«Type».{«Type»}
 use Rattle.shader_ir.specs.declared.types.TypeInner.{TypeInner}
 use Rattle.shader_ir.specs.declared.types.TypeInner.TheVariants as inners
-use Rattle.typer.specs.declared.types.PlainType.{PlainType}
-use Rattle.typer.specs.declared.types.PlainType.TheVariants.{Scalar, Vector, Matrix}
-use Rattle.typer.specs.declared.types.SpelledType.{SpelledType}
-use Rattle.typer.specs.declared.types.SpelledType.TheVariants.{Plain, Array}
-use Rattle.typer.specs.Calls.{own_inner, own_types}
-use Rattle.typer.specs.Conversions.{tree_of_spelled, unnamed}
+use Rattle.shader_text.specs.declared.types.PlainType.{PlainType}
+use Rattle.shader_text.specs.declared.types.PlainType.TheVariants.{Scalar, Vector, Matrix}
+use Rattle.shader_text.specs.declared.types.SpelledType.{SpelledType}
+use Rattle.shader_text.specs.declared.types.SpelledType.TheVariants.{Plain, Array}
+use Rattle.shader_text.specs.Placements.{own_inner, own_types, unnamed}
+use Rattle.typer.specs.Conversions.{tree_of_spelled}
 use Rattle.typer.specs.Layouts.{layout_of_spelled, plain_width, spelled_size, spelled_width}
-use Rattle.typer.specs.Types.{inner_of}
-use Rattle.typer.proofs.Placing.{array_is, plain_is}
+use Rattle.shader_text.specs.Types.{inner_of}
+use Rattle.typer.proofs.PlacedTrees.{array_is, plain_is}
 
 -- where the arenas stand in memory doesn't matter
 abbrev pub context : List «Type» → List Constant → List Override → List Expression → GlobalCtx

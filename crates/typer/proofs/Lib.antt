@@ -1,14 +1,8 @@
 mod AnswerSteps
 mod Appending
-mod BuiltinFacts
-mod Decimals
-mod Found
 mod InputSpellings
 mod Laying
 mod LineSteps
-mod Placing
+mod PlacedTrees
 mod RequestSpellings
-mod Separators
-mod Splits
 mod Supplied
-mod TypeSpellings

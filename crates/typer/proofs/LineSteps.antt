@@ -2,7 +2,7 @@
 use Rattle.std.proofs.Common.{◌≡◌, ℕ, ◌+◌, Bool, true, false, cond, eqb, Some, None, List, [], ◌∷◌, length, take, drop, refl, sym, subst, ap, ◌∙◌}
 use Rattle.std.specs.List.{slice_split, onto_first, position}
 use Rattle.typer.specs.Lines.{lines_of, without_empty_last}
-use Rattle.typer.proofs.Splits.{split_at, split_whole}
+use Rattle.shader_text.proofs.Splits.{split_at, split_whole}
 
 abbrev pub HasPiece : List (List ℕ) → Type 0
 HasPiece pieces = (first : List ℕ) × (more : List (List ℕ)) × (pieces ≡ first ∷ more)

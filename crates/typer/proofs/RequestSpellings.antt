@@ -9,16 +9,16 @@ use Rattle.typer.specs.declared.request.Kind.{Kind}
 use Rattle.typer.specs.declared.request.Kind.TheVariants as kinds
 use Rattle.typer.specs.declared.request.Request.{Request}
 use Rattle.typer.specs.declared.request.Request.TheVariants.{Call, Rules, Layout, Convert}
-use Rattle.typer.specs.declared.types.SpelledType.{SpelledType}
-use Rattle.typer.specs.Builtins.{builtin_of, builtin_text}
+use Rattle.shader_text.specs.declared.types.SpelledType.{SpelledType}
+use Rattle.shader_text.specs.Builtins.{builtin_of, builtin_text}
 use Rattle.typer.specs.Laws.{RequestsAreSpelled}
 use Rattle.typer.specs.Requests.{AreWritableTypes, IsWritableRequest, all_kinds, call_from, call_with, convert_from, kind_of, kind_text, layout_from, named_from, request_from, request_of, request_text, request_with, request_words, rules_from, types_of}
-use Rattle.typer.specs.Builtins.{named_builtins}
-use Rattle.typer.specs.Types.{type_of, type_text}
-use Rattle.typer.proofs.BuiltinFacts.{builtin_facts}
-use Rattle.typer.proofs.Found.{found_is, mapped}
-use Rattle.typer.proofs.Separators.{AreSolid, is_break, is_end, is_space, no_end, no_space, quiet_append, split_joined}
-use Rattle.typer.proofs.TypeSpellings.{type_is, type_named, type_quiet}
+use Rattle.shader_text.specs.Builtins.{named_builtins}
+use Rattle.shader_text.specs.Types.{type_of, type_text}
+use Rattle.shader_text.proofs.BuiltinFacts.{builtin_facts}
+use Rattle.shader_text.proofs.Found.{found_is, mapped}
+use Rattle.shader_text.proofs.Separators.{AreSolid, is_break, is_end, is_space, no_end, no_space, quiet_append, split_joined}
+use Rattle.shader_text.proofs.TypeSpellings.{type_is, type_named, type_quiet}
 
 -- ---- words without spaces and ends of lines
 

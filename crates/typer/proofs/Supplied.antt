@@ -7,7 +7,7 @@ use Rattle.shader_ir.specs.declared.operators.MathFunction.{MathFunction}
 use Rattle.shader_ir.specs.declared.types.«Type».{«Type»}
 use Rattle.shader_overloads.specs.declared.rule.Rule.{Rule}
 use Rattle.shader_overloads.specs.Remaining.{RuleFits, RulesFit}
-use Rattle.typer.specs.declared.types.SpelledType.{SpelledType}
+use Rattle.shader_text.specs.declared.types.SpelledType.{SpelledType}
 use Rattle.typer.specs.Calls.{takes_all, takes_argument}
 
 at_rule : (p : Rule → Bool) (b c : Bool) (rule : Rule) (kept both : List Rule) → p rule ≡ c → filter p kept ≡ both

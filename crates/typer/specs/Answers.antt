@@ -19,8 +19,8 @@ use Rattle.typer.specs.Conversions.{conversion_of}
 use Rattle.typer.specs.Layouts.{layout_of_spelled}
 use Rattle.typer.specs.Lines.{lines_of}
 use Rattle.typer.specs.Requests.{request_of}
-use Rattle.typer.specs.Scalars.{scalar_text}
-use Rattle.typer.specs.Texts.{conclusion_text, rule_text}
+use Rattle.shader_text.specs.Scalars.{scalar_text}
+use Rattle.shader_text.specs.Texts.{conclusion_text, rule_text}
 
 abbrev pub reply_text : Reply → List ℕ
 reply_text (replies.Conclusion conclusion) = conclusion_text conclusion

@@ -1,26 +1,11 @@
 -- Calls of builtins: the rules that remain, and what the preferred one concludes.
 use Rattle.std.specs.Prelude.{◌+◌, ◌&&◌, ℕ, Bool, true, List, [], ◌∷◌, filter, Option, Some, None}
 use Rattle.shader_ir.specs.declared.operators.MathFunction.{MathFunction}
-use Rattle.shader_ir.specs.declared.types.«Type».{«Type»}
-use Rattle.shader_ir.specs.declared.types.ArraySize.TheVariants.{Constant}
-use Rattle.shader_ir.specs.declared.types.TypeInner.{TypeInner}
-use Rattle.shader_ir.specs.declared.types.TypeInner.TheVariants as inner
 use Rattle.shader_overloads.specs.declared.rule.Conclusion.{Conclusion}
 use Rattle.shader_overloads.specs.declared.rule.Rule.{Rule}
 use Rattle.shader_overloads.specs.Builtins.{acceptance_of, rules_of}
-use Rattle.typer.specs.declared.types.SpelledType.{SpelledType}
-use Rattle.typer.specs.declared.types.SpelledType.TheVariants.{Plain, Array}
-use Rattle.typer.specs.Conversions.{unnamed}
-use Rattle.typer.specs.Types.{inner_of}
-
--- a type in an arena of its own, which holds the base of an array and nothing else
-abbrev pub own_types : SpelledType → List «Type»
-own_types (Plain plain) = []
-own_types (Array base count stride) = unnamed (inner_of base) ∷ []
-
-abbrev pub own_inner : SpelledType → TypeInner
-own_inner (Plain plain) = inner_of plain
-own_inner (Array base count stride) = inner.Array 0 (Constant count) stride
+use Rattle.shader_text.specs.declared.types.SpelledType.{SpelledType}
+use Rattle.shader_text.specs.Placements.{own_inner, own_types}
 
 -- whether a rule takes the type as the argument of a place
 abbrev pub takes_argument : MathFunction → ℕ → SpelledType → Rule → Bool

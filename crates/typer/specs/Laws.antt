@@ -1,23 +1,11 @@
--- Laws of the spellings, and of whole inputs by what they spell.
+-- Laws of requests, and of whole inputs by what they spell.
 use Rattle.std.specs.Prelude.{◌≡◌, ◌≢◌, ◌==◌, ◌+◌, ℕ, false, List, [], ◌∷◌, ◌++◌, length, Some, codes}
 use Rattle.std.specs.List.{flat_map, list_any}
 use Rattle.std.specs.Fmt.{decimal}
 use Rattle.typer.specs.declared.answer.Outcome.TheVariants.{Done, BadLine}
 use Rattle.typer.specs.declared.request.Request.{Request}
-use Rattle.typer.specs.declared.types.SpelledType.{SpelledType}
 use Rattle.typer.specs.Answers.{reply_text, reply_of, answer_of}
 use Rattle.typer.specs.Requests.{request_text, request_of, IsWritableRequest}
-use Rattle.typer.specs.Types.{type_text, type_of, IsWritable}
-
--- a word spells a type exactly where it is the type's text
-abbrev pub TypesAreSpelled : Type 0
-TypesAreSpelled = (word : List ℕ) (t : SpelledType)
-    → (type_of word ≡ Some t → (word ≡ type_text t) × IsWritable t)
-    × (word ≡ type_text t → IsWritable t → type_of word ≡ Some t)
-
--- no text spells two types
-abbrev pub TypesAreDistinct : Type 0
-TypesAreDistinct = (t u : SpelledType) → IsWritable t → IsWritable u → type_text t ≡ type_text u → t ≡ u
 
 -- a line makes a request exactly where it is the request's text
 abbrev pub RequestsAreSpelled : Type 0

@@ -6,10 +6,10 @@ use Rattle.shader_ir.specs.Alignments.{vector_alignment, vector_count}
 use Rattle.shader_ir.specs.Layout.{alignment_of}
 use Rattle.shader_ir.specs.Sizes.{array_bytes}
 use Rattle.shader_ir.specs.declared.proc.layouter.TypeLayout.{TypeLayout}
-use Rattle.typer.specs.declared.types.PlainType.{PlainType}
-use Rattle.typer.specs.declared.types.PlainType.TheVariants.{Scalar, Vector, Matrix}
-use Rattle.typer.specs.declared.types.SpelledType.{SpelledType}
-use Rattle.typer.specs.declared.types.SpelledType.TheVariants.{Plain, Array}
+use Rattle.shader_text.specs.declared.types.PlainType.{PlainType}
+use Rattle.shader_text.specs.declared.types.PlainType.TheVariants.{Scalar, Vector, Matrix}
+use Rattle.shader_text.specs.declared.types.SpelledType.{SpelledType}
+use Rattle.shader_text.specs.declared.types.SpelledType.TheVariants.{Plain, Array}
 use Rattle.typer.specs.Conversions.{tree_of_spelled}
 
 -- the width in bytes of the scalar that a type is built of

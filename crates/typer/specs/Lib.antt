@@ -1,15 +1,8 @@
 pub mod Answers
-pub mod Builtins
 pub mod Calls
 pub mod Conversions
-pub mod Cuts
 pub mod Laws
 pub mod Layouts
 pub mod Lines
-pub mod Numbers
-pub mod Pieces
 pub mod Requests
 pub mod Runs
-pub mod Scalars
-pub mod Texts
-pub mod Types

@@ -8,9 +8,9 @@ use Rattle.typer.specs.declared.request.Kind.{Kind}
 use Rattle.typer.specs.declared.request.Kind.TheVariants as kinds
 use Rattle.typer.specs.declared.request.Request.{Request}
 use Rattle.typer.specs.declared.request.Request.TheVariants.{Call, Rules, Layout, Convert}
-use Rattle.typer.specs.declared.types.SpelledType.{SpelledType}
-use Rattle.typer.specs.Builtins.{builtin_of, builtin_text}
-use Rattle.typer.specs.Types.{type_text, type_of, IsWritable}
+use Rattle.shader_text.specs.declared.types.SpelledType.{SpelledType}
+use Rattle.shader_text.specs.Builtins.{builtin_of, builtin_text}
+use Rattle.shader_text.specs.Types.{type_text, type_of, IsWritable}
 
 -- ---- how requests are written
 

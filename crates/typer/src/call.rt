@@ -4,13 +4,13 @@ ghost use Rattle.std.specs.Prelude.{◌≡◌, List, IfOk, filter};
 ghost use Rattle.shader_ir.specs.declared.types.«Type».{«Type»};
 ghost use Rattle.shader_overloads.specs.AnySet.{acceptance_in, rules_in};
 ghost use Rattle.shader_overloads.specs.Remaining.{RulesFit};
-ghost use Rattle.typer.specs.Calls.{conclusion_of, own_inner, own_types, rules_left};
+ghost use Rattle.shader_text.specs.Placements.{own_inner, own_types};
+ghost use Rattle.typer.specs.Calls.{conclusion_of, rules_left};
 
-use crate::conversion::place;
-use crate::types::SpelledType;
 use shader_arena::{Arena, UniqueArena};
 use shader_ir::{GlobalCtx, Items, MathFunction};
 use shader_overloads::{AnyOverloadSet, Conclusion, MathOverloads, OverloadSet, Rule};
+use shader_text::{SpelledType, place};
 use std::alloc::{AllocError, Global};
 
 /// The rules that take the type as argument `i`.

@@ -1,16 +1,6 @@
-//! Laws of the spellings, and of whole inputs by what they spell.
+//! Laws of requests, and of whole inputs by what they spell.
 
-ghost use Rattle.typer.specs.Laws.{BadLinesEndAnswers, LastLinesMayLackEnds, RequestsAreAnswered, RequestsAreSpelled, TypesAreDistinct, TypesAreSpelled};
-
-/// A word spells a type exactly where it is the type's text.
-pub fn types_are_spelled()
-    ensures { TypesAreSpelled }
-{}
-
-/// No text spells two types.
-pub fn types_are_distinct()
-    ensures { TypesAreDistinct }
-{}
+ghost use Rattle.typer.specs.Laws.{BadLinesEndAnswers, LastLinesMayLackEnds, RequestsAreAnswered, RequestsAreSpelled};
 
 /// A line makes a request exactly where it is the request's text.
 pub fn requests_are_spelled()

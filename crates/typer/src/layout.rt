@@ -4,10 +4,9 @@ ghost use Rattle.std.specs.Prelude.{◌≡◌, IfOk, IfSome};
 ghost use Rattle.shader_ir.specs.Layout.{HasStride};
 ghost use Rattle.typer.specs.Layouts.{layout_of_spelled};
 
-use crate::conversion::place;
-use crate::types::SpelledType;
 use shader_arena::{Arena, UniqueArena};
 use shader_ir::{GlobalCtx, Layouter, Type, TypeLayout, UpdateError};
+use shader_text::{SpelledType, place};
 use std::alloc::{AllocError, Global};
 
 /// The layout of the type, where it has one.

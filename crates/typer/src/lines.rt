@@ -1,4 +1,4 @@
-use crate::bytes::index_of;
+use shader_text::index_of;
 
 /// The lines of a text, from the first on. The last may lack its end.
 #[derive(Drop)]

@@ -2,8 +2,6 @@
 #![tactic(auto)]
 
 mod answer;
-mod builtins;
-mod bytes;
 mod call;
 mod conversion;
 mod laws;
@@ -11,21 +9,15 @@ mod layout;
 mod lines;
 #[cfg(test)]
 mod memory;
-mod numbers;
-mod pieces;
 mod reading;
 mod reply;
 mod request;
 mod running;
-mod scalars;
-mod shape;
 mod sink;
 mod source;
 mod status;
 #[cfg(test)]
 mod tests;
-mod texts;
-mod types;
 mod writing;
 
 use crate::running::run;

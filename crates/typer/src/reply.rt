@@ -4,11 +4,9 @@ use crate::call::{conclusion, remaining_rules};
 use crate::conversion::conversion;
 use crate::layout::layout;
 use crate::request::{Request, parse_request};
-use crate::scalars::ScalarText;
-use crate::texts::{ConclusionText, RulesText};
-use crate::types::SpelledType;
 use shader_ir::{Alignment, Items, MathFunction, Scalar, TypeLayout};
 use shader_overloads::{Conclusion, Rule};
+use shader_text::{ConclusionText, RulesText, ScalarText, SpelledType};
 use std::alloc::{AllocError, Global};
 use std::fmt;
 

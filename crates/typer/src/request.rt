@@ -2,13 +2,10 @@
 
 ghost use Rattle.std.specs.Prelude.{◌≡◌, IfOk};
 ghost use Rattle.std.specs.Option.{option_map};
-ghost use Rattle.typer.specs.Pieces.{pieces_left};
 ghost use Rattle.typer.specs.Requests.{call_from, convert_from, kind_of, layout_from, named_from, request_from, request_of, rules_from, types_of};
 
-use crate::builtins::builtin_from_word;
-use crate::pieces::Pieces;
-use crate::types::SpelledType;
 use shader_ir::{Items, MathFunction};
+use shader_text::{Pieces, SpelledType, builtin_from_word};
 use std::alloc::{AllocError, Global};
 
 /// What a line asks for, by its first word.
@@ -62,7 +59,7 @@ impl Kind {
 
 /// The request for a layout, if the words spell one type.
 fn parse_layout(mut words: Pieces<'_>) -> Option<Request>
-    ensures { result ≡ layout_from (pieces_left words.entry) }
+    ensures { result ≡ layout_from words.entry }
 {
     let word = words.next()?;
     if words.next().is_some() {
@@ -73,7 +70,7 @@ fn parse_layout(mut words: Pieces<'_>) -> Option<Request>
 
 /// The request for a conversion between two types, if the words spell two.
 fn parse_convert(mut words: Pieces<'_>) -> Option<Request>
-    ensures { result ≡ convert_from (pieces_left words.entry) }
+    ensures { result ≡ convert_from words.entry }
 {
     let from = words.next()?;
     let to = words.next()?;
@@ -87,7 +84,7 @@ fn parse_convert(mut words: Pieces<'_>) -> Option<Request>
 
 /// The types that the words spell, if each spells one.
 fn parse_types(alloc: Global, words: Pieces<'_>) -> Result<Option<Vec<SpelledType>>, AllocError>
-    ensures { IfOk result (λ types. option_map (λ v. v.items) types ≡ types_of (pieces_left words.entry)) }
+    ensures { IfOk result (λ types. option_map (λ v. v.items) types ≡ types_of words.entry) }
 {
     let mut types = Vec::new(alloc);
     for word in words {
@@ -104,9 +101,9 @@ fn parse_arguments(
     alloc: Global,
     mut words: Pieces<'_>,
 ) -> Result<Option<(MathFunction, Vec<SpelledType>)>, AllocError>
-    ensures { IfOk result (λ named. option_map (λ n. (n.0, n.1.items)) named ≡ named_from (pieces_left words.entry)) }
+    ensures { IfOk result (λ named. option_map (λ n. (n.0, n.1.items)) named ≡ named_from words.entry) }
 {
-    let Some(function) = words.next().and_then(builtin_from_word) else {
+    let Some(function) = words.next().and_then(|name| builtin_from_word(name)) else {
         return Ok(None);
     };
     match parse_types(alloc, words)? {
@@ -117,7 +114,7 @@ fn parse_arguments(
 
 /// The request for a call's type, if the words name a builtin and spell a type at least.
 fn parse_call(alloc: Global, words: Pieces<'_>) -> Result<Option<Request>, AllocError>
-    ensures { IfOk result (λ request. request ≡ call_from (pieces_left words.entry)) }
+    ensures { IfOk result (λ request. request ≡ call_from words.entry) }
 {
     let Some((function, arguments)) = parse_arguments(alloc, words)? else {
         return Ok(None);
@@ -130,7 +127,7 @@ fn parse_call(alloc: Global, words: Pieces<'_>) -> Result<Option<Request>, Alloc
 
 /// The request for rules, if the words name a builtin and spell types.
 fn parse_rules(alloc: Global, words: Pieces<'_>) -> Result<Option<Request>, AllocError>
-    ensures { IfOk result (λ request. request ≡ rules_from (pieces_left words.entry)) }
+    ensures { IfOk result (λ request. request ≡ rules_from words.entry) }
 {
     let Some((function, arguments)) = parse_arguments(alloc, words)? else {
         return Ok(None);
@@ -140,7 +137,7 @@ fn parse_rules(alloc: Global, words: Pieces<'_>) -> Result<Option<Request>, Allo
 
 /// The request that the words make.
 fn parse_words(alloc: Global, mut words: Pieces<'_>) -> Result<Option<Request>, AllocError>
-    ensures { IfOk result (λ request. request ≡ request_from (pieces_left words.entry)) }
+    ensures { IfOk result (λ request. request ≡ request_from words.entry) }
 {
     let Some(kind) = words.next().and_then(Kind::from_word) else {
         return Ok(None);

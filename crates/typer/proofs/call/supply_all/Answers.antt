@@ -2,8 +2,9 @@ use Rattle.std.proofs.Common.{◌≡◌, ◌∙◌, List, sym, ap, arith}
 use Rattle.std.specs.List.{filter}
 use Rattle.std.proofs.lemmas.List.{drop_all}
 use Rattle.shader_overloads.specs.AnySet.{rules_in}
-use Rattle.typer.specs.declared.types.SpelledType.{SpelledType}
-use Rattle.typer.specs.Calls.{own_inner, own_types, rules_left, takes_all, takes_argument}
+use Rattle.shader_text.specs.declared.types.SpelledType.{SpelledType}
+use Rattle.shader_text.specs.Placements.{own_inner, own_types}
+use Rattle.typer.specs.Calls.{rules_left, takes_all, takes_argument}
 use Rattle.typer.proofs.Supplied.{fewer_fit, none_left, supplied}
 use Rattle.typer.proofs.call.supply_all.Goals as goal
 

@@ -1,5 +1,6 @@
 use Rattle.std.proofs.Common.{◌∙◌}
-use Rattle.typer.proofs.Placing.{are_backward, conversion_is}
+use Rattle.shader_text.proofs.Placing.{are_backward}
+use Rattle.typer.proofs.PlacedTrees.{conversion_is}
 use Rattle.typer.proofs.conversion.conversion.Goals as goal
 
 pub automatically_converts_to-requires-clause-backward : goal.automatically_converts_to-requires-clause-backward

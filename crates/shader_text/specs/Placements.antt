@@ -1,0 +1,40 @@
+-- Spelled types in an arena of the IR.
+use Rattle.std.specs.Prelude.{◌≡◌, ◌≤◌, ℕ, List, [], ◌∷◌, length, All, Some, None, slice_get}
+use Rattle.shader_ir.specs.declared.types.«Type».{«Type»}
+use Rattle.shader_ir.specs.declared.types.ArraySize.TheVariants.{Constant}
+use Rattle.shader_ir.specs.declared.types.TypeInner.{TypeInner}
+use Rattle.shader_ir.specs.declared.types.TypeInner.TheVariants as inner
+use Rattle.shader_ir.specs.TypeTree.{type_handles}
+use Rattle.shader_text.specs.declared.types.SpelledType.{SpelledType}
+use Rattle.shader_text.specs.declared.types.SpelledType.TheVariants.{Plain, Array}
+use Rattle.shader_text.specs.Types.{inner_of}
+
+-- a type with no name
+abbrev pub unnamed : TypeInner → «Type»
+unnamed inner = record { name = None; inner = inner }
+
+-- no type names another
+pub record AreFlat (types : List «Type») : Type 0 where
+  pub flat : All (λ (type : «Type»). type_handles type.inner ≡ []) types
+
+-- what stands at a place stays there
+pub record KeepsTypes (old new : List «Type») : Type 0 where
+  pub longer : length old ≤ length new
+  pub kept : (place : ℕ) (type : «Type») → slice_get old place ≡ Some type → slice_get new place ≡ Some type
+
+-- the type in the IR is the one spelled, and its base is in the arena
+abbrev pub IsPlaced : List «Type» → SpelledType → TypeInner → Type 0
+IsPlaced types (Plain plain) placed = placed ≡ inner_of plain
+IsPlaced types (Array base count stride) placed =
+    (place : ℕ) × (slice_get types place ≡ Some (unnamed (inner_of base))) × (placed ≡ inner.Array place (Constant count) stride)
+
+-- ---- a type in an arena of its own
+
+-- the arena holds the base of an array and nothing else
+abbrev pub own_types : SpelledType → List «Type»
+own_types (Plain plain) = []
+own_types (Array base count stride) = unnamed (inner_of base) ∷ []
+
+abbrev pub own_inner : SpelledType → TypeInner
+own_inner (Plain plain) = inner_of plain
+own_inner (Array base count stride) = inner.Array 0 (Constant count) stride

@@ -1,0 +1,106 @@
+-- How types are written, and which type a word spells.
+use Rattle.std.specs.Prelude.{◌==◌, ◌<◌, ◌≤◌, ◌^◌, ℕ, List, [], ◌∷◌, ◌++◌, codes, Option, Some, None, find}
+use Rattle.std.specs.Option.{option_map, option_and_then}
+use Rattle.std.specs.List.{slice_split, join_with_byte}
+use Rattle.std.specs.Str.{bytes_eq}
+use Rattle.std.specs.Fmt.{decimal}
+use Rattle.shader_ir.specs.declared.scalar.Scalar as s
+use Rattle.shader_ir.specs.declared.scalar.VectorSize.{VectorSize}
+use Rattle.shader_ir.specs.declared.scalar.VectorSize.TheVariants.{Bi, Tri, Quad}
+use Rattle.shader_ir.specs.declared.types.TypeInner.{TypeInner}
+use Rattle.shader_ir.specs.declared.types.TypeInner.TheVariants as inner
+use Rattle.shader_text.specs.declared.shape.Shape.{Shape}
+use Rattle.shader_text.specs.declared.shape.Shape.TheVariants as shapes
+use Rattle.shader_text.specs.declared.types.PlainType.{PlainType}
+use Rattle.shader_text.specs.declared.types.PlainType.TheVariants.{Scalar, Vector, Matrix}
+use Rattle.shader_text.specs.declared.types.SpelledType.{SpelledType}
+use Rattle.shader_text.specs.declared.types.SpelledType.TheVariants.{Plain, Array}
+use Rattle.shader_text.specs.Cuts.{after_prefix, before_suffix, generic_parts}
+use Rattle.shader_text.specs.Numbers.{number_of, count_of}
+use Rattle.shader_text.specs.Scalars.{scalar_text, scalar_of, IsNamed}
+
+-- ---- how types are written
+
+abbrev pub size_text : VectorSize → List ℕ
+size_text Bi = codes "2"
+size_text Tri = codes "3"
+size_text Quad = codes "4"
+
+-- `vecN` and `matCxR`
+abbrev pub shape_text : Shape → List ℕ
+shape_text (shapes.Vector size) = codes "vec" ++ size_text size
+shape_text (shapes.Matrix columns rows) = codes "mat" ++ size_text columns ++ codes "x" ++ size_text rows
+
+-- a scalar, `vecN<S>` or `matCxR<S>`
+abbrev pub plain_text : PlainType → List ℕ
+plain_text (Scalar scalar) = scalar_text scalar
+plain_text (Vector size scalar) = shape_text (shapes.Vector size) ++ codes "<" ++ scalar_text scalar ++ codes ">"
+plain_text (Matrix columns rows scalar) = shape_text (shapes.Matrix columns rows) ++ codes "<" ++ scalar_text scalar ++ codes ">"
+
+-- a plain type, or `array<T,N,STRIDE>`
+abbrev pub type_text : SpelledType → List ℕ
+type_text (Plain plain) = plain_text plain
+type_text (Array base count stride) =
+    codes "array<" ++ join_with_byte 44 (plain_text base ∷ decimal count ∷ decimal stride ∷ []) ++ codes ">"
+
+-- a type whose scalar has a name
+abbrev pub IsNamedPlain : PlainType → Type 0
+IsNamedPlain (Scalar scalar) = IsNamed scalar
+IsNamedPlain (Vector size scalar) = IsNamed scalar
+IsNamedPlain (Matrix columns rows scalar) = IsNamed scalar
+
+-- a type that can be written: its scalar has a name, and its numbers have 32 bits
+abbrev pub IsWritable : SpelledType → Type 0
+IsWritable (Plain plain) = IsNamedPlain plain
+IsWritable (Array base count stride) = IsNamedPlain base × (1 ≤ count) × (count < 2 ^ 32) × (stride < 2 ^ 32)
+
+-- ---- which type a word spells
+
+abbrev pub all_shapes : List Shape
+all_shapes = shapes.Vector Bi ∷ shapes.Vector Tri ∷ shapes.Vector Quad
+    ∷ shapes.Matrix Bi Bi ∷ shapes.Matrix Bi Tri ∷ shapes.Matrix Bi Quad
+    ∷ shapes.Matrix Tri Bi ∷ shapes.Matrix Tri Tri ∷ shapes.Matrix Tri Quad
+    ∷ shapes.Matrix Quad Bi ∷ shapes.Matrix Quad Tri ∷ shapes.Matrix Quad Quad ∷ []
+
+abbrev pub shape_of : List ℕ → Option Shape
+shape_of word = find (λ shape. bytes_eq (shape_text shape) word) all_shapes
+
+abbrev pub shape_type : Shape → s.Scalar → PlainType
+shape_type (shapes.Vector size) scalar = Vector size scalar
+shape_type (shapes.Matrix columns rows) scalar = Matrix columns rows scalar
+
+abbrev pub plain_from : List ℕ → Option (List ℕ × List ℕ) → Option PlainType
+plain_from word None = option_map Scalar (scalar_of word)
+plain_from word (Some parts) = option_and_then (λ scalar. option_map (λ shape. shape_type shape scalar)
+    (shape_of parts.0)) (scalar_of parts.1)
+
+-- a shape and a scalar in brackets, or else a scalar
+abbrev pub plain_of : List ℕ → Option PlainType
+plain_of word = plain_from word (generic_parts word)
+
+-- what stands between the brackets of `array<..>`
+abbrev pub array_items : List ℕ → Option (List ℕ)
+array_items word = option_and_then (before_suffix (codes ">")) (after_prefix (codes "array<") word)
+
+-- the array that three words spell
+abbrev pub array_type : List ℕ → List ℕ → List ℕ → Option SpelledType
+array_type base count stride = option_and_then (λ plain. option_and_then (λ n. option_map (λ bytes. Array plain n bytes)
+    (number_of stride)) (count_of count)) (plain_of base)
+
+abbrev pub array_from : List (List ℕ) → Option SpelledType
+array_from (base ∷ count ∷ stride ∷ []) = array_type base count stride
+array_from _ = None
+
+abbrev pub type_from : List ℕ → Option (List ℕ) → Option SpelledType
+type_from word None = option_map Plain (plain_of word)
+type_from word (Some items) = array_from (slice_split (λ b. b == 44) items)
+
+abbrev pub type_of : List ℕ → Option SpelledType
+type_of word = type_from word (array_items word)
+
+-- ---- what the types are in the IR
+
+abbrev pub inner_of : PlainType → TypeInner
+inner_of (Scalar scalar) = inner.Scalar scalar
+inner_of (Vector size scalar) = inner.Vector size scalar
+inner_of (Matrix columns rows scalar) = inner.Matrix columns rows scalar

@@ -1,0 +1,35 @@
+//! Cuts of byte strings.
+
+ghost use Rattle.std.specs.Prelude.{◌≡◌, ◌==◌, position};
+ghost use Rattle.std.specs.Option.{option_map};
+ghost use Rattle.shader_text.specs.Cuts.{after_prefix, before_suffix, generic_parts};
+
+/// Where the byte stands first.
+pub fn index_of(bytes: &[u8], byte: u8) -> Option<usize>
+    ensures { result ≡ position (λ b. b == byte) bytes.now }
+{
+    bytes.iter().position(|b| *b == byte)
+}
+
+/// What stands behind this beginning.
+pub fn after_prefix<'a>(bytes: &'a [u8], beginning: &[u8]) -> Option<&'a [u8]>
+    ensures { option_map (λ rest. rest.now) result ≡ after_prefix beginning.now bytes.now }
+{
+    bytes.strip_prefix(beginning)
+}
+
+/// What stands before this end.
+pub fn before_suffix<'a>(bytes: &'a [u8], end: &[u8]) -> Option<&'a [u8]>
+    ensures { option_map (λ front. front.now) result ≡ before_suffix end.now bytes.now }
+{
+    bytes.strip_suffix(end)
+}
+
+/// The name and the argument of `name<argument>`, cut at the first bracket.
+pub fn split_generic(word: &[u8]) -> Option<(&[u8], &[u8])>
+    ensures { option_map (λ parts. (parts.0.now, parts.1.now)) result ≡ generic_parts word.now }
+{
+    let at = index_of(word, b'<')?;
+    let argument = before_suffix(&word[at + 1..], b">")?;
+    Some((&word[..at], argument))
+}

@@ -1,0 +1,45 @@
+//! Spelled types in an arena of the IR.
+
+ghost use Rattle.std.specs.Prelude.{◌≡◌, ◌<◌, ◌≤◌, ◌+◌, [], length, IfOk};
+ghost use Rattle.shader_arena.specs.declared.arena.TheConstants.{MOST_ITEMS};
+ghost use Rattle.shader_ir.specs.TypeTree.{PointsBelow};
+ghost use Rattle.shader_text.specs.Placements.{AreFlat, IsPlaced, KeepsTypes, own_inner, own_types};
+
+use crate::types::SpelledType;
+use shader_arena::UniqueArena;
+use shader_ir::{ArraySize, Type, TypeInner, mark};
+use std::alloc::AllocError;
+
+/// The type as the IR has it. The base of an array goes into the arena.
+pub fn place(
+    types: &mut UniqueArena<Type, mark::Type>,
+    spelled: SpelledType,
+) -> Result<TypeInner, AllocError>
+    requires room { length types.old < MOST_ITEMS }
+    requires flat { AreFlat types.old }
+    ensures flat { IfOk result (λ _. AreFlat types.new) }
+    ensures kept { IfOk result (λ _. KeepsTypes types.old types.new) }
+    ensures room { IfOk result (λ _. length types.new ≤ length types.old + 1) }
+    ensures placed { IfOk result (λ inner. IsPlaced types.new spelled inner) }
+    ensures alone { IfOk result (λ inner. types.old ≡ [] → (types.new ≡ own_types spelled) × (inner ≡ own_inner spelled)) }
+    ensures within { IfOk result (λ inner. PointsBelow (length types.new) inner) }
+{
+    match spelled {
+        SpelledType::Plain(plain) => Ok(plain.inner()),
+        SpelledType::Array {
+            base,
+            count,
+            stride,
+        } => {
+            let base = types.insert(Type {
+                name: None,
+                inner: base.inner(),
+            })?;
+            Ok(TypeInner::Array {
+                base,
+                size: ArraySize::Constant(count),
+                stride,
+            })
+        }
+    }
+}

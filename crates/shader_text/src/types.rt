@@ -1,0 +1,144 @@
+//! The types that a line can spell.
+
+ghost use Rattle.std.specs.Prelude.{◌≡◌};
+ghost use Rattle.std.specs.Option.{option_map};
+
+use crate::bytes::{after_prefix, before_suffix, split_generic};
+use crate::numbers::number_from_word;
+use crate::pieces::Pieces;
+use crate::scalars::scalar_from_word;
+use crate::shape::{Shape, shape_from_word};
+use shader_ir::{Count, Scalar, TypeInner, VectorSize};
+
+/// A scalar, a vector or a matrix.
+#[derive(Clone, Copy, Debug, PartialEq, Eq)]
+pub enum PlainType {
+    Scalar(Scalar),
+    Vector {
+        size: VectorSize,
+        scalar: Scalar,
+    },
+    Matrix {
+        columns: VectorSize,
+        rows: VectorSize,
+        scalar: Scalar,
+    },
+}
+
+/// A plain type, or an array of one with its stride in bytes.
+#[derive(Clone, Copy, Debug, PartialEq, Eq)]
+pub enum SpelledType {
+    Plain(PlainType),
+    Array {
+        base: PlainType,
+        count: Count,
+        stride: u32,
+    },
+}
+
+impl PlainType {
+    ghost use Rattle.shader_text.specs.Types.{inner_of, plain_of, shape_type};
+
+    /// The type with this shape and scalar.
+    fn of(shape: Shape, scalar: Scalar) -> PlainType
+        ensures { result ≡ shape_type shape scalar }
+    {
+        match shape {
+            Shape::Vector(size) => PlainType::Vector { size, scalar },
+            Shape::Matrix(columns, rows) => PlainType::Matrix {
+                columns,
+                rows,
+                scalar,
+            },
+        }
+    }
+
+    /// The type that the word spells.
+    pub fn from_word(word: &[u8]) -> Option<PlainType>
+        ensures { result ≡ plain_of word.now }
+    {
+        let Some((name, argument)) = split_generic(word) else {
+            return scalar_from_word(word).map(PlainType::Scalar);
+        };
+        let scalar = scalar_from_word(argument)?;
+        let shape = shape_from_word(name)?;
+        Some(PlainType::of(shape, scalar))
+    }
+
+    /// The type as the IR has it.
+    pub fn inner(self) -> TypeInner
+        ensures { result ≡ inner_of self }
+    {
+        match self {
+            PlainType::Scalar(scalar) => TypeInner::Scalar(scalar),
+            PlainType::Vector { size, scalar } => TypeInner::Vector { size, scalar },
+            PlainType::Matrix {
+                columns,
+                rows,
+                scalar,
+            } => TypeInner::Matrix {
+                columns,
+                rows,
+                scalar,
+            },
+        }
+    }
+}
+
+/// The count of 1 to 4,294,967,295 whose decimal the word is.
+fn count_from_word(word: &[u8]) -> Option<Count>
+    ensures { result ≡ count_of word.now }
+{
+    Count::new(number_from_word(word)?)
+}
+
+/// What stands between the brackets of `array<..>`.
+fn array_items(word: &[u8]) -> Option<&[u8]>
+    ensures { option_map (λ items. items.now) result ≡ array_items word.now }
+{
+    before_suffix(after_prefix(word, b"array<")?, b">")
+}
+
+ghost use Rattle.shader_text.specs.Numbers.{count_of};
+ghost use Rattle.shader_text.specs.Types.{array_items};
+
+impl SpelledType {
+    ghost use Rattle.shader_text.specs.Types.{array_from, array_type, type_of};
+
+    /// The array that three words spell.
+    fn array_of(base: &[u8], count: &[u8], stride: &[u8]) -> Option<SpelledType>
+        ensures { result ≡ array_type base.now count.now stride.now }
+    {
+        let base = PlainType::from_word(base)?;
+        let count = count_from_word(count)?;
+        let stride = number_from_word(stride)?;
+        Some(SpelledType::Array {
+            base,
+            count,
+            stride,
+        })
+    }
+
+    /// The array that the words spell, if they are three.
+    fn from_items(mut items: Pieces<'_>) -> Option<SpelledType>
+        ensures { result ≡ array_from items.entry }
+    {
+        let base = items.next()?;
+        let count = items.next()?;
+        let stride = items.next()?;
+        if items.next().is_some() {
+            return None;
+        }
+        SpelledType::array_of(base, count, stride)
+    }
+
+    /// The type that the word spells.
+    pub fn from_word(word: &[u8]) -> Option<SpelledType>
+        ensures { result ≡ type_of word.now }
+    {
+        match array_items(word) {
+            Some(items) => SpelledType::from_items(Pieces::new(items, b',')),
+            None => PlainType::from_word(word).map(SpelledType::Plain),
+        }
+    }
+}

@@ -1,5 +1,0 @@
-use Rattle.typer.proofs.TypeSpellings.{types_are_spelled}
-use Rattle.typer.proofs.laws.types_are_spelled.Goals as goal
-
-pub returns : goal.returns
-returns c = types_are_spelled
