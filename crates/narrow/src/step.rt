@@ -14,7 +14,7 @@ use shader_text::{Pieces, SpelledType, index_of, number_from_word, place};
 use std::alloc::{AllocError, Global};
 
 /// One step of narrowing.
-#[derive(Clone, Copy, Debug, PartialEq, Eq)]
+#[derive(Clone, Copy)]
 pub enum Step {
     /// An argument of this place and type is supplied.
     Argument(u32, SpelledType),
