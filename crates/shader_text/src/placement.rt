@@ -1,6 +1,6 @@
 //! Spelled types in an arena of the IR.
 
-ghost use Rattle.std.specs.Prelude.{◌≡◌, ◌<◌, ◌≤◌, ◌+◌, [], length, IfOk};
+ghost use Rattle.std.specs.Prelude.{◌≡◌, ◌<◌, ◌≤◌, ◌+◌, [], length, IfOk, OnErr};
 ghost use Rattle.shader_arena.specs.declared.arena.TheConstants.{MOST_ITEMS};
 ghost use Rattle.shader_ir.specs.TypeTree.{PointsBelow};
 ghost use Rattle.shader_text.specs.Placements.{AreFlat, IsPlaced, KeepsTypes, own_inner, own_types};
@@ -11,6 +11,10 @@ use shader_ir::{ArraySize, Type, TypeInner, mark};
 use std::alloc::AllocError;
 
 /// The type as the IR has it. The base of an array goes into the arena.
+///
+/// # Errors
+///
+/// Want of memory for the base. The arena holds what it held.
 pub fn place(
     types: &mut UniqueArena<Type, mark::Type>,
     spelled: SpelledType,
@@ -23,6 +27,7 @@ pub fn place(
     ensures placed { IfOk result (λ inner. IsPlaced types.new spelled inner) }
     ensures alone { IfOk result (λ inner. types.old ≡ [] → (types.new ≡ own_types spelled) × (inner ≡ own_inner spelled)) }
     ensures within { IfOk result (λ inner. PointsBelow (length types.new) inner) }
+    ensures err { OnErr result (types.new ≡ types.old) }
 {
     match spelled {
         SpelledType::Plain(plain) => Ok(plain.inner()),
