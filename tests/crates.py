@@ -98,7 +98,7 @@ class Edit:
         found = [function_at(self.file, lines, text[: text.find(old)].count("\n")) for old, _ in self.pairs]
         # None where the edit changes more than functions.
         self.functions = {it.key(): it for it in found} if all(found) else {}
-        self.is_refused = False
+        self.is_refused, self.seconds = False, 0.0
 
     def apply(self, text):
         for old, new in self.pairs:
