@@ -66,6 +66,11 @@ abbrev pub FitsTypes : List «Type» → TypeResolution → Type 0
 FitsTypes types (Handle handle) = handle < length types
 FitsTypes types (Value inner) = PointsBelow (length types) inner × IsNoStruct inner
 
+-- the handle is in range, where the resolution is one
+abbrev pub IsLendable : List «Type» → TypeResolution → Type 0
+IsLendable types (Handle handle) = handle < length types
+IsLendable types (Value inner) = Unit {0}
+
 -- the handle of a resolution that is one
 abbrev pub handle_of : TypeResolution → Option ℕ
 handle_of (Handle handle) = Some handle

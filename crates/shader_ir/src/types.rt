@@ -1,6 +1,6 @@
 //! Types.
-ghost use Rattle.std.specs.Prelude.{◌≡◌, IfOk};
-ghost use Rattle.shader_ir.specs.Shapes.{IsOfScalars, IsResource};
+ghost use Rattle.std.specs.Prelude.{◌≡◌, IfOk, IsOk};
+ghost use Rattle.shader_ir.specs.Shapes.{HoldsNoMembers, IsOfScalars, IsResource};
 
 use crate::{
     Binding, CooperativeRole, CooperativeSize, Count, ImageClass, ImageDimension, Items, Name,
@@ -134,7 +134,8 @@ impl TypeInner {
     ///
     /// Want of memory for the members of a struct.
     pub fn copy(&self, alloc: Global) -> Result<TypeInner, AllocError>
-        ensures { IfOk result (λ inner. inner ≡ self.now) }
+        ensures copy { IfOk result (λ inner. inner ≡ self.now) }
+        ensures ok { HoldsNoMembers self.now → IsOk result }
     {
         match self {
             TypeInner::Struct { members, span } => Ok(TypeInner::Struct {

@@ -1,7 +1,7 @@
 //! Spelled types in an arena of the IR.
 
 ghost use Rattle.std.specs.Prelude.{◌≡◌, ◌<◌, ◌≤◌, ◌+◌, [], length, IfOk, OnErr};
-ghost use Rattle.shader_arena.specs.declared.arena.TheConstants.{MOST_ITEMS};
+ghost use Rattle.shader_arena.specs.Places.{most_items};
 ghost use Rattle.shader_ir.specs.TypeTree.{PointsBelow};
 ghost use Rattle.shader_text.specs.Placements.{AreFlat, AsksMemory, IsPlaced, KeepsTypes, own_inner, own_types};
 
@@ -19,7 +19,7 @@ pub fn place(
     types: &mut UniqueArena<Type, mark::Type>,
     spelled: SpelledType,
 ) -> Result<TypeInner, AllocError>
-    requires room { length types.old < MOST_ITEMS }
+    requires room { length types.old < most_items }
     requires flat { AreFlat types.old }
     ensures flat { IfOk result (λ _. AreFlat types.new) }
     ensures kept { IfOk result (λ _. KeepsTypes types.old types.new) }
