@@ -2,7 +2,7 @@
 
 ghost use Rattle.std.specs.Prelude.{◌≡◌, ◌<◌, length, All, IfOk, IfSome, IsTrue, OnOk};
 ghost use Rattle.std.specs.List.{AllZip, list_any};
-ghost use Rattle.shader_arena.specs.declared.arena.TheConstants.{MOST_ITEMS};
+ghost use Rattle.shader_arena.specs.Places.{most_items};
 ghost use Rattle.shader_overloads.specs.Remaining.{CallFits};
 ghost use Rattle.shader_text.specs.Placements.{AreFlat, KeepsTypes};
 ghost use Rattle.narrow.specs.Steps.{IsCallOf, StandsFor, argument_of, has_no_step, step_of};
@@ -45,7 +45,7 @@ impl Step {
 
     /// The step as a call on a set. The base of an array goes into the arena.
     pub fn to_call(self, types: &mut UniqueArena<Type, mark::Type>) -> Result<SetCall, AllocError>
-        requires room { length types.old < MOST_ITEMS }
+        requires room { length types.old < most_items }
         requires flat { AreFlat types.old }
         ensures flat { IfOk result (λ _. AreFlat types.new) }
         ensures kept { IfOk result (λ _. KeepsTypes types.old types.new) }

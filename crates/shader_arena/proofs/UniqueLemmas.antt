@@ -1,11 +1,13 @@
 -- What follows for a list without equal items.
-use Rattle.std.proofs.Common.{◌≡◌, ℕ, ◌<◌, Bool, true, false, List, Some, slice_get, sym, ◌∙◌, ◌⊎◌, inl, inr, true≢false}
+use Rattle.std.proofs.Common.{◌≡◌, ℕ, ◌+◌, ◌<◌, Bool, true, false, List, [], ◌∷◌, ◌++◌, Some, length, take, get_or, slice_get, if◌then◌else◌, ap, sym, ◌∙◌, ◌⊎◌, inl, inr, true≢false, arith, refl}
 use Rattle.std.specs.Cmp.{IsEquivalence}
-use Rattle.std.specs.List.{IsDistinct}
+use Rattle.std.specs.List.{IsDistinct, list_any}
 use Rattle.std.proofs.lemmas.Bool.{cases_order}
-use Rattle.std.proofs.lemmas.Option.{get_or_from_slice_get, slice_get_within}
+use Rattle.std.proofs.lemmas.List.{get_or-take, length-take-le, take_more}
+use Rattle.std.proofs.lemmas.List.Folds.{Any-from_list_any}
+use Rattle.std.proofs.lemmas.Option.{get_or_from_slice_get, slice_get-get_or, slice_get_within}
 use Rattle.std.proofs.lemmas.Map.Keys.{apart_from_distinct}
-use Rattle.shader_arena.specs.Unique.{HasNoEqualItems, IsOnlyPlaceOf}
+use Rattle.shader_arena.specs.Unique.{HasNoEqualItems, IsOnlyPlaceOf, with_item}
 
 module _ {T : Type 0} (eq : T → T → Bool) (laws : IsEquivalence eq) (items : List T) (distinct : IsDistinct eq items) where
   -- of two places, the items do not equal one another
@@ -31,3 +33,31 @@ module _ {T : Type 0} (eq : T → T → Bool) (laws : IsEquivalence eq) (items :
     held = held;
     only = λ other item at equal. same_place other place item held.0 at held.1 (sym (laws.congr value item held.0 equal) ∙ held.2);
   }
+
+module _ {T : Type 0} (items : List T) (place : ℕ) (item : T) (at : slice_get items place ≡ Some item) where
+  -- one more item
+  next_item : take (place + 1) items ≡ take place items ++ item ∷ []
+  next_item =
+      take_more items place item (slice_get_within items place item at)
+      ∙ ap (λ last. take place items ++ last ∷ []) (get_or_from_slice_get items place item item at)
+
+  module _ (eq : T → T → Bool) (distinct : HasNoEqualItems eq items) where
+    -- no item before it is equal
+    none_before : list_any (eq item) (take place items) ≡ false
+    none_before = by (list_any (eq item) (take place items)) refl
+      where
+        by : (found : Bool) → list_any (eq item) (take place items) ≡ found → list_any (eq item) (take place items) ≡ false
+        by false is = is
+        by true is =
+            let inside = slice_get_within items place item at in
+            let long : length (take place items) ≡ place = length-take-le place items (omega (arith, inside)) in
+            let any = Any-from_list_any (eq item) (take place items) is in
+            let low : any.0 < place = omega (arith, long, any.2) in
+            let same : get_or items any.0 any.1 ≡ any.1 = sym (get_or-take place items any.0 any.1 low) ∙ any.3 in
+            let held : slice_get items any.0 ≡ Some any.1 = slice_get-get_or items any.0 any.1 (omega (arith, low, inside)) ∙ ap Some same in
+            absurd (omega (arith, low, distinct.same_place place any.0 item any.1 at held any.4))
+
+    -- one more item in a list without equal items
+    pub next_unique : with_item eq (take place items) item ≡ take (place + 1) items
+    next_unique =
+        ap (λ found. if found then take place items else take place items ++ item ∷ []) none_before ∙ sym next_item

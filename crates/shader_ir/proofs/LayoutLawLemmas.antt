@@ -1,12 +1,12 @@
 -- Updates that are called again: on an arena that grew, and after a refusal.
-use Rattle.std.proofs.Common.{◌≡◌, ◌∙◌, ap, sym, refl, ℕ, zero, suc, ◌<◌, ◌≤◌, List, [], ◌∷◌, length, map, slice_get, take, Option, Some, unwrap_or, ◌⊎◌, inl, inr, arith}
+use Rattle.std.proofs.Common.{◌≡◌, ◌∙◌, ap, sym, refl, ℕ, zero, suc, ◌<◌, ◌≤◌, List, [], ◌∷◌, length, map, slice_get, take, Option, Some, None, unwrap_or, ◌⊎◌, inl, inr, arith}
 use Rattle.std.specs.Option.{option_map}
 use Rattle.std.specs.Result.{result_unwrap_or}
 use Rattle.std.proofs.lemmas.Bool.{cases_lt}
 use Rattle.std.proofs.lemmas.List.{length-take}
 use Rattle.std.proofs.lemmas.Option.{slice_get_past}
-use Rattle.shader_ir.specs.Layout.{layout_fault, sized_fault, fault_at, layout_of, size_of_type, AreFirstLayouts, IsRefusalAt}
-use Rattle.shader_ir.specs.LayoutLaws.{Grows, UpdatesCompose, RefusalsRepeat}
+use Rattle.shader_ir.specs.Layout.{layout_fault, sized_fault, fault_at, layout_of, layouts_of, size_of_type, AreFirstLayouts, IsRefusalAt}
+use Rattle.shader_ir.specs.LayoutLaws.{AreUpdates, EqualsOneUpdate, Grows, IsUpdated, RefusalsRepeat, Updated, UpdatesCompose, last_of}
 use Rattle.shader_ir.specs.Sizes.{array_bytes, array_count, AreTypeSizesInRange, IsCountInRange, IsTypeSizeInRange}
 use Rattle.shader_ir.specs.TypeTree.{tree_of, tree_within}
 use Rattle.shader_ir.specs.declared.proc.layouter.LayoutError.{LayoutError}
@@ -90,8 +90,24 @@ module _ (earlier later : GlobalCtx) (grows : Grows earlier later) where
       faultless = λ place first lt. sym (same_fault place lt) ∙ held.faultless place first lt;
     }
 
+-- no layouts are those of the first types
+none_held : (ctx : GlobalCtx) → AreFirstLayouts ctx []
+none_held ctx = record { first = refl; faultless = λ place first lt. absurd (omega arith) }
+
+-- updates that go on from layouts of the first types leave those of all types
+whole_from : (held : List TypeLayout) (first : Updated) (later : List Updated) → AreFirstLayouts first.0 held → IsUpdated first.0 held first.1
+    → AreUpdates first later → (last_of first later).1 ≡ layouts_of (last_of first later).0
+whole_from held first [] fine updated rest = updated.all fine
+whole_from held first (next ∷ later) fine updated rest =
+    whole_from first.1 next later (composed first.0 next.0 rest.0 updated.ranged first.1 (updated.laid_out fine)) rest.1 rest.2
+
 pub updates_compose : UpdatesCompose
-updates_compose earlier later layouts grows ranged held = composed earlier later grows ranged layouts held
+updates_compose first later began updates =
+    let whole = whole_from [] first later (none_held first.0) began updates in
+    record {
+      whole = whole;
+      single = λ once updated. whole ∙ sym (updated.all (none_held (last_of first later).0));
+    }
 
 -- there is a type where there is a fault
 fault_within : (ctx : GlobalCtx) (place : ℕ) (fault : Option LayoutErrorInner) → fault_at ctx place ≡ Some fault → place < length ctx.types.now
@@ -117,11 +133,14 @@ refusals_repeat ctx held new error refused kept faultless =
     whole (inl more) = let fine = faultless (length held) (omega arith) more in let fault = refused.1 in absurd (cc)
     whole (inr le) = sym (take_whole (length held) new le) ∙ kept
 
-    again : length new ≡ length held → (other : UpdateError) → IsRefusalAt ctx (length new) other → (other ≡ Layout error) ⊎ (other ≡ OutOfMemory)
+    again : length new ≡ length held → (other : UpdateError) → IsRefusalAt ctx (length new) other → other ≡ Layout error
     again count (Layout other) refused' =
         let fault : fault_at ctx (length held) ≡ Some (Some other.inner) = rw (sym count) (refused'.1) in
         let fault' = refused.1 in
         let ty : other.ty ≡ error.ty = refused'.0 ∙ count ∙ sym (refused.0) in
         let inner : other.inner ≡ error.inner = cc in
-        inl (λ i. Layout (let e : LayoutError = record { ty = ty i; inner = inner i } in e))
-    again count OutOfMemory refused' = inr refl
+        λ i. Layout (let e : LayoutError = record { ty = ty i; inner = inner i } in e)
+    again count OutOfMemory refused' =
+        let fine : fault_at ctx (length held) ≡ Some None = rw (sym count) refused' in
+        let fault = refused.1 in
+        absurd (cc)

@@ -1,13 +1,15 @@
 -- Layouts over those of earlier types.
-use Rattle.std.proofs.Common.{◌≡◌, ◌∙◌, ap, sym, refl, subst, ℕ, zero, suc, ◌+◌, ◌<◌, ◌≤◌, nat_lt, max, List, [], ◌∷◌, ◌++◌, length, map, slice_get, take, Option, Some, None, Ok, if◌then◌else◌, unwrap_or, ◌⊎◌, inl, inr, arith, rules, length-append}
+use Rattle.std.proofs.Common.{◌≡◌, ◌∙◌, ◌↔◌, All, get_or, ap, sym, refl, subst, ℕ, zero, suc, ◌+◌, ◌<◌, ◌≤◌, nat_lt, max, List, [], ◌∷◌, ◌++◌, length, map, slice_get, take, Option, Some, None, Ok, if◌then◌else◌, unwrap_or, ◌⊎◌, inl, inr, arith, rules, length-append}
 use Rattle.std.specs.List.{enumerate_from}
 use Rattle.std.specs.Option.{option_map}
 use Rattle.std.proofs.lemmas.Bool.{cases_lt}
-use Rattle.std.proofs.lemmas.List.{length-map, length-take, take_more}
-use Rattle.std.proofs.lemmas.Option.{slice_get_within, slice_get-map, get_or_from_slice_get}
-use Rattle.shader_ir.specs.HeldLayouts.{faulty_or, greatest_held, held_alignment, held_layout, held_of, sized_layout}
+use Rattle.std.proofs.lemmas.List.{get_or_append_left, length-map, length-take, take-append-le, take_more}
+use Rattle.std.proofs.lemmas.List.Elements.{All-cons, All-head, All-tail}
+use Rattle.std.proofs.lemmas.Option.{slice_get_within, slice_get-get_or, slice_get-map, get_or_from_slice_get}
+use Rattle.std.proofs.Math.Seq.{get_or-append_seam, take-append_seam}
+use Rattle.shader_ir.specs.HeldLayouts.{AreLaidOver, faulty_or, greatest_held, held_alignment, held_layout, held_of, sized_layout}
 use Rattle.shader_ir.specs.Layout.{alignment_of, greatest_of, member_fault, part_fault, layout_fault, sized_fault, fault_at, layout_of, layouts_of, size_of_type, AreFaultless, AreFirstLayouts}
-use Rattle.shader_ir.specs.Sizes.{AreSizesInRange, AreTypeSizesInRange, IsTypeSizeInRange}
+use Rattle.shader_ir.specs.Sizes.{AreTypeSizesInRange, IsTypeSizeInRange}
 use Rattle.shader_ir.specs.TypeTree.{type_handles, TypeTree, TypeTrees, Node, NoTree, put_tree, trees_at, tree_within, tree_of}
 use Rattle.shader_ir.specs.declared.proc.layouter.LayoutErrorInner.{LayoutErrorInner}
 use Rattle.shader_ir.specs.declared.proc.layouter.LayoutErrorInner.TheVariants.{InvalidArrayElementType}
@@ -127,17 +129,51 @@ take_whole (suc n) (x ∷ xs) le = ap (λ ys. x ∷ ys) (take_whole n xs (omega 
 -- the sizes of all types in range are those of each
 pub size_in_range : (ctx : GlobalCtx) → AreTypeSizesInRange ctx → (place : ℕ) (type : «Type») → slice_get ctx.types.now place ≡ Some type
     → IsTypeSizeInRange ctx type.inner
-size_in_range ctx all place type at = from 0 ctx.types.now place all at
-  where
-    from : (first : ℕ) (types : List «Type») (place : ℕ) → AreSizesInRange ctx (enumerate_from first types) → slice_get types place ≡ Some type
-        → IsTypeSizeInRange ctx type.inner
-    from first [] place ranged at = absurd (cc)
-    from first (t ∷ types) zero ranged at = let same : t ≡ type = cc in subst (λ (u : «Type»). IsTypeSizeInRange ctx u.inner) same (ranged.0)
-    from first (t ∷ types) (suc place) ranged at = from (first + 1) types place (ranged.1) at
+size_in_range ctx all place type at =
+    let is = get_or_from_slice_get ctx.types.now place type type at in
+    subst (λ (t : «Type»). IsTypeSizeInRange ctx t.inner) is (all place type (slice_get_within ctx.types.now place type at))
+
+module _ (ctx : GlobalCtx) where
+  abbrev SizeFits : «Type» → Type 0
+  SizeFits type = IsTypeSizeInRange ctx type.inner
+
+  -- the sizes of the types that are left to an iterator are in range
+  abbrev pub AreSizesInRange : List (ℕ × «Type») → Type 0
+  AreSizesInRange [] = Unit {0}
+  AreSizesInRange (entry ∷ rest) = SizeFits entry.1 × AreSizesInRange rest
+
+  -- of all types that are those of the context
+  pub sizes_listed : (first : ℕ) (types : List «Type») → AreSizesInRange (enumerate_from first types) ↔ All SizeFits types
+  sizes_listed first [] = ((λ _ k d lt. absurd (omega arith)), (λ _. tt))
+  sizes_listed first (type ∷ types) =
+      let rest = sizes_listed (first + 1) types in
+      ((λ ranged. All-cons SizeFits type types ranged.0 (rest.0 ranged.1)), (λ all. (All-head SizeFits type types all, rest.1 (All-tail SizeFits type types all))))
 
 module _ (ctx : GlobalCtx) where
   abbrev types : List «Type»
   types = ctx.types.now
+
+  -- one more layout over those before it
+  pub added_more : (first : ℕ) (layouts : List TypeLayout) (type : «Type») (layout : TypeLayout) → AreLaidOver ctx first layouts
+      → slice_get types (length layouts) ≡ Some type → held_layout ctx layouts (length layouts) type.inner ≡ Ok layout
+      → AreLaidOver ctx first (layouts ++ layout ∷ [])
+  added_more first layouts type layout before at is place other sort le held there = by (cases_lt place (length layouts))
+    where
+      by : (place < length layouts) ⊎ (length layouts ≤ place) → held_layout ctx (take place (layouts ++ layout ∷ [])) place sort.inner ≡ Ok other
+      by (inl less) =
+          let here = slice_get-get_or layouts place other less in
+          let same : get_or layouts place other ≡ other =
+          sym (get_or_append_left layouts (layout ∷ []) other place less) ∙ get_or_from_slice_get (layouts ++ layout ∷ []) place other other held in
+          rw (take-append-le place layouts (layout ∷ []) (omega arith)) (before place other sort le (here ∙ ap Some same) there)
+      by (inr more) =
+          let longer : length (layouts ++ layout ∷ []) ≡ length layouts + 1 = length-append layouts (layout ∷ []) in
+          let last : place ≡ length layouts = omega (arith, longer, slice_get_within (layouts ++ layout ∷ []) place other held) in
+          let held' : slice_get (layouts ++ layout ∷ []) (length layouts) ≡ Some other = subst (λ n. slice_get (layouts ++ layout ∷ []) n ≡ Some other) last held in
+          let there' : slice_get types (length layouts) ≡ Some sort = subst (λ n. slice_get types n ≡ Some sort) last there in
+          let one : other ≡ layout =
+          sym (get_or_from_slice_get (layouts ++ layout ∷ []) (length layouts) other other held') ∙ get_or-append_seam layouts layout [] other in
+          let sorts : type ≡ sort = cc in
+          rw (last, take-append_seam layouts (layout ∷ []), one, sym sorts) is
 
   -- one more type without fault
   pub faultless_more : (first end next : ℕ) → next ≡ end + 1 → AreFaultless ctx first end → fault_at ctx end ≡ Some None → AreFaultless ctx first next

@@ -2,7 +2,7 @@
 use Rattle.shader_ir.specs.Body.{Step, Leaf}
 use Rattle.shader_ir.specs.Body as data'
 use Rattle.shader_ir.specs.declared.expression.Expression.{Expression}
-use Rattle.shader_ir.specs.declared.expression.Expression.TheVariants.{Literal, Constant, Override, ZeroValue, FunctionArgument, GlobalVariable, LocalVariable, Access, AccessIndex, Splat, Swizzle, Load, ArrayLength, ImageSample, ImageLoad, ImageQuery, Unary, Binary, Derivative, Relational, As, Select, Math, CallResult, AtomicResult, WorkGroupUniformLoadResult, RayQueryVertexPositions, RayQueryProceedResult, RayQueryGetIntersection, SubgroupBallotResult, SubgroupOperationResult, CooperativeLoad, CooperativeMultiplyAdd}
+use Rattle.shader_ir.specs.declared.expression.Expression.TheVariants.{Literal, Constant, Override, ZeroValue, Compose, FunctionArgument, GlobalVariable, LocalVariable, Access, AccessIndex, Splat, Swizzle, Load, ArrayLength, ImageSample, ImageLoad, ImageQuery, Unary, Binary, Derivative, Relational, As, Select, Math, CallResult, AtomicResult, WorkGroupUniformLoadResult, RayQueryVertexPositions, RayQueryProceedResult, RayQueryGetIntersection, SubgroupBallotResult, SubgroupOperationResult, CooperativeLoad, CooperativeMultiplyAdd}
 
 -- the expression is a literal or names what is declared
 abbrev pub NamesDeclared : Expression → Type 0
@@ -69,6 +69,11 @@ IsCooperative (CooperativeLoad columns rows role tile) = Unit {0}
 IsCooperative (CooperativeMultiplyAdd a b c) = Unit {0}
 IsCooperative _ = ⊥
 
+-- the expression holds no list of components
+abbrev pub HoldsNoList : Expression → Type 0
+HoldsNoList (Compose ty components) = ⊥
+HoldsNoList _ = Unit {0}
+
 -- the statement steers the flow or emits expressions
 abbrev pub SteersFlow : Step → Type 0
 SteersFlow (Leaf (data'.Emit start end)) = Unit {0}
@@ -101,3 +106,9 @@ SharesInSubgroup _ = ⊥
 abbrev pub HoldsNoBlock : Step → Type 0
 HoldsNoBlock (Leaf simple) = Unit {0}
 HoldsNoBlock _ = ⊥
+
+-- the statement holds no block and no list of arguments
+abbrev pub HoldsNoBlockOrList : Step → Type 0
+HoldsNoBlockOrList (Leaf (data'.Call function arguments result)) = ⊥
+HoldsNoBlockOrList (Leaf simple) = Unit {0}
+HoldsNoBlockOrList _ = ⊥

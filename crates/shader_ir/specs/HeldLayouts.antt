@@ -1,10 +1,11 @@
 -- The layout that a type has over the layouts held of earlier types: one step of an update.
-use Rattle.std.specs.Prelude.{ℕ, max, List, [], ◌∷◌, slice_get, Option, Some, None, Result, Ok, Err}
+use Rattle.std.specs.Prelude.{◌≡◌, ℕ, ◌≤◌, max, List, [], ◌∷◌, slice_get, take, Option, Some, None, Result, Ok, Err}
 use Rattle.shader_ir.specs.Layout.{own_alignment, part_fault, size_of_type}
 use Rattle.shader_ir.specs.declared.module.GlobalCtx.{GlobalCtx}
 use Rattle.shader_ir.specs.declared.proc.layouter.LayoutErrorInner.{LayoutErrorInner}
 use Rattle.shader_ir.specs.declared.proc.layouter.LayoutErrorInner.TheVariants.{TooLarge}
 use Rattle.shader_ir.specs.declared.proc.layouter.TypeLayout.{TypeLayout}
+use Rattle.shader_ir.specs.declared.types.«Type».{«Type»}
 use Rattle.shader_ir.specs.declared.types.StructMember.{StructMember}
 use Rattle.shader_ir.specs.declared.types.TypeInner.{TypeInner}
 use Rattle.shader_ir.specs.declared.types.TypeInner.TheVariants.{Array, Struct}
@@ -35,3 +36,8 @@ sized_layout (Some size) layouts place inner = faulty_or (part_fault place inner
 
 abbrev pub held_layout : GlobalCtx → List TypeLayout → ℕ → TypeInner → Result TypeLayout LayoutErrorInner
 held_layout ctx layouts place inner = sized_layout (size_of_type ctx inner) layouts place inner
+
+-- each layout from a first place on is that of the type at its place, over the layouts before it
+abbrev pub AreLaidOver : GlobalCtx → ℕ → List TypeLayout → Type 0
+AreLaidOver ctx first layouts = (place : ℕ) (layout : TypeLayout) (type : «Type») → first ≤ place → slice_get layouts place ≡ Some layout
+    → slice_get ctx.types.now place ≡ Some type → held_layout ctx (take place layouts) place type.inner ≡ Ok layout

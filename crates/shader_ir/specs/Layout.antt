@@ -4,7 +4,7 @@ use Rattle.std.specs.Int.{is_power_of_two, next_multiple_of}
 use Rattle.std.specs.Option.{option_map}
 use Rattle.shader_ir.specs.Alignments.{cooperative_count, vector_alignment, vector_count}
 use Rattle.shader_ir.specs.Sizes.{array_bytes, array_count, limited}
-use Rattle.shader_ir.specs.TypeTree.{TypeTree, Node, TypeTrees, NoTree, OneTree, tree_of}
+use Rattle.shader_ir.specs.TypeTree.{TypeTree, Node, TypeTrees, NoTree, OneTree, root_of, tree_of}
 use Rattle.shader_ir.specs.declared.proc.layouter.LayoutErrorInner.{LayoutErrorInner}
 use Rattle.shader_ir.specs.declared.proc.layouter.LayoutErrorInner.TheVariants.{InvalidArrayElementType, InvalidStructMemberType, NonPowerOfTwoWidth, TooLarge}
 use Rattle.shader_ir.specs.declared.proc.layouter.TypeLayout.{TypeLayout}
@@ -36,9 +36,6 @@ abbrev mutual
   pub greatest_of : TypeTrees → ℕ
   greatest_of NoTree = 1
   greatest_of (OneTree tree trees) = max (alignment_of tree) (greatest_of trees)
-
-abbrev pub root_of : TypeTree → TypeInner
-root_of (Node inner trees) = inner
 
 -- a width that is no power of two
 abbrev pub width_fault : s.Scalar → Option LayoutErrorInner
@@ -112,7 +109,7 @@ module _ (ctx : GlobalCtx) where
     pub first : layouts ≡ take (length layouts) layouts_of
     pub faultless : AreFaultless 0 (length layouts)
 
-  -- an error names the type at the place and its fault; for want of memory there is a type at the place
+  -- an error names the type at the place and its fault; where memory is wanting, the type at the place has none
   abbrev pub IsRefusalAt : ℕ → UpdateError → Type 0
   IsRefusalAt place (Layout error) = (error.ty ≡ place) × (fault_at place ≡ Some (Some error.inner))
-  IsRefusalAt place OutOfMemory = place < length ctx.types.now
+  IsRefusalAt place OutOfMemory = fault_at place ≡ Some None

@@ -5,6 +5,7 @@ pub mod BodyFalls
 pub mod BodyOf
 pub mod BodySize
 pub mod Conversion
+pub mod Empty
 pub mod Forms
 pub mod HeldLayouts
 pub mod Key

@@ -1,5 +1,5 @@
 -- `==` on types is equality of what contracts see.
-use Rattle.std.proofs.Common.{rules, ◌≡◌, true, Bool, List, Option, Some, None, subst}
+use Rattle.std.proofs.Common.{rules, ◌≡◌, true, true≢false, sym, Bool, List, Option, Some, None, subst}
 use Rattle.std.specs.Option.{option_eq}
 use Rattle.std.proofs.lemmas.Bool.{and_parts}
 use Rattle.std.specs.Cmp.Lexicographic.{pointwise, pointwise_decides}
@@ -23,7 +23,7 @@ use Rattle.shader_ir.specs.contracts.«module».PredeclaredTypePartialEq.TheImpl
 use Rattle.shader_ir.specs.declared.types.StructMember.{StructMember}
 use Rattle.shader_ir.specs.declared.types.«Type».{«Type»}
 use Rattle.shader_ir.specs.declared.types.TypeInner.{TypeInner}
-use Rattle.shader_ir.specs.declared.types.TypeInner.TheVariants.{Scalar, Vector, Matrix, CooperativeMatrix, ValuePointer, Struct, Image}
+use Rattle.shader_ir.specs.declared.types.TypeInner.TheVariants.{Scalar, Vector, Matrix, CooperativeMatrix, Atomic, Pointer, ValuePointer, Array, Struct, Image, Sampler, AccelerationStructure, RayQuery, BindingArray}
 use Rattle.shader_ir.specs.declared.«module».PredeclaredType.{PredeclaredType}
 use Rattle.shader_ir.specs.declared.«module».PredeclaredType.TheVariants.{FrexpResult, ModfResult}
 
@@ -73,8 +73,15 @@ module _ {T : Type 0} (eq : T → T → Bool) (each : DecidesSame eq) where
   same_options (Some x) (Some y) h = let e : x ≡ y = (each x y).0 (search rules) in cc
 
 same_inner : (a b : TypeInner) → inner.ghosts.eq a b ≡ true → a ≡ b
-same_inner (Scalar s) b h = search rules
-same_inner (Vector size s) b h = search rules
+same_inner (Scalar s) (Scalar t) h = search rules
+same_inner (Vector size s) (Vector size' s') h = search rules
+same_inner (Atomic s) (Atomic t) h = search rules
+same_inner (Pointer base space) (Pointer base' space') h = search rules
+same_inner (Array base size stride) (Array base' size' stride') h = search rules
+same_inner (Sampler c) (Sampler c') h = search rules
+same_inner (AccelerationStructure v) (AccelerationStructure v') h = search rules
+same_inner (RayQuery v) (RayQuery v') h = search rules
+same_inner (BindingArray base size) (BindingArray base' size') h = search rules
 same_inner (CooperativeMatrix c r s o) (CooperativeMatrix c' r' s' o') h =
     let p = and_parts (cooperative_size.ghosts.eq c c') _ h in
     let q = and_parts (cooperative_size.ghosts.eq r r') _ p.1 in
@@ -103,7 +110,7 @@ same_inner (Image d a c) (Image d' a' c') h =
     let dimensions = (dimension_decides d d').0 p.0 in
     let arrayed : a ≡ a' = search rules in
     let classes = (class_decides c c').0 q.1 in cc
-same_inner a b h = search rules
+same_inner a b h = absurd (true≢false (sym h))
 
 pub inner_decides : DecidesSame inner.ghosts.eq
 inner_decides = decides inner.ghosts.eq same_inner laws-law.refl
@@ -127,7 +134,7 @@ same_predeclared (ModfResult n s) (ModfResult n' s') h =
     let p = and_parts (option_eq size.ghosts.eq n n') _ h in
     let sizes = same_options size.ghosts.eq size_decides n n' p.0 in
     let scalars = (scalar_decides s s').0 p.1 in cc
-same_predeclared a b h = search rules
+same_predeclared a b h = absurd (true≢false (sym h))
 
 pub predeclared_decides : DecidesSame predeclared.ghosts.eq
 predeclared_decides = decides predeclared.ghosts.eq same_predeclared predeclared_laws.laws-law.refl

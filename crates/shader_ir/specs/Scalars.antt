@@ -1,5 +1,5 @@
 -- Scalars: those that have names, which is abstract, and which converts to which.
-use Rattle.std.specs.Prelude.{◌≡◌, ℕ, ◌==◌, Bool, true, false, ◌&&◌, List, [], ◌∷◌, ◌++◌, map, codes}
+use Rattle.std.specs.Prelude.{ℕ, ◌==◌, Bool, true, false, ◌&&◌, List, [], ◌∷◌, ◌++◌, map, codes}
 use Rattle.std.specs.List.{list_any}
 use Rattle.shader_ir.specs.declared.scalar.ScalarKind.{ScalarKind}
 use Rattle.shader_ir.specs.declared.scalar.ScalarKind.TheVariants as kinds
@@ -80,6 +80,3 @@ conversions =
 -- whether the first converts to the second
 abbrev pub is_convertible : Scalar → Scalar → Bool
 is_convertible from to = list_any (λ pair. same_scalar from pair.0 && same_scalar to pair.1) conversions
-
-abbrev pub IsConvertible : Scalar → Scalar → Type 0
-IsConvertible from to = is_convertible from to ≡ true

@@ -23,3 +23,8 @@ IsResource (ValuePointer size scalar space) = ⊥
 IsResource (Pointer base space) = ⊥
 IsResource (Struct members span) = ⊥
 IsResource _ = Unit {0}
+
+-- the type holds no list of members
+abbrev pub HoldsNoMembers : TypeInner → Type 0
+HoldsNoMembers (Struct members span) = ⊥
+HoldsNoMembers _ = Unit {0}

@@ -1,23 +1,25 @@
 -- How many items an array has, and sizes within the limit.
-use Rattle.std.specs.Prelude.{ℕ, ◌*◌, nat_le, List, [], ◌∷◌, Option, Some, None, if◌then◌else◌}
-use Rattle.std.specs.List.{enumerate_from}
+use Rattle.std.specs.Prelude.{ℕ, ◌*◌, nat_le, All, Option, Some, None, if◌then◌else◌}
 use Rattle.std.specs.Result.{result_unwrap_or}
 use Rattle.shader_ir.specs.KnownNumbers.{IsSizeInRange, override_size}
 use Rattle.shader_ir.specs.declared.module.GlobalCtx.{GlobalCtx}
-use Rattle.shader_ir.specs.declared.proc.sizes.TheConstants.{MAX_TYPE_SIZE}
 use Rattle.shader_ir.specs.declared.types.«Type».{«Type»}
 use Rattle.shader_ir.specs.declared.types.ArraySize.{ArraySize}
 use Rattle.shader_ir.specs.declared.types.ArraySize.TheVariants.{Constant, Pending, Dynamic}
 use Rattle.shader_ir.specs.declared.types.TypeInner.{TypeInner}
 use Rattle.shader_ir.specs.declared.types.TypeInner.TheVariants.{Array}
 
+-- the most bytes of a type, and the most items of an array
+abbrev pub largest_size : ℕ
+largest_size = 1073741824
+
 -- a size, where it isn't above the limit
 abbrev pub limited : ℕ → Option ℕ
-limited size = if nat_le size MAX_TYPE_SIZE then Some size else None
+limited size = if nat_le size largest_size then Some size else None
 
 -- count times stride, where neither the count nor the product is above the limit
 abbrev pub array_bytes : ℕ → ℕ → Option ℕ
-array_bytes count stride = if nat_le count MAX_TYPE_SIZE then limited (count * stride) else None
+array_bytes count stride = if nat_le count largest_size then limited (count * stride) else None
 
 module _ (ctx : GlobalCtx) where
   -- how many items an array has for its size: none where an override's size isn't known, one where it is sized at run time
@@ -36,10 +38,6 @@ module _ (ctx : GlobalCtx) where
   IsTypeSizeInRange (Array base size stride) = IsCountInRange size
   IsTypeSizeInRange _ = Unit {0}
 
-  abbrev pub AreSizesInRange : List (ℕ × «Type») → Type 0
-  AreSizesInRange [] = Unit {0}
-  AreSizesInRange (entry ∷ rest) = IsTypeSizeInRange entry.1.inner × AreSizesInRange rest
-
   -- and those of all types
   abbrev pub AreTypeSizesInRange : Type 0
-  AreTypeSizesInRange = AreSizesInRange (enumerate_from 0 ctx.types.now)
+  AreTypeSizesInRange = All (λ (type : «Type»). IsTypeSizeInRange type.inner) ctx.types.now

@@ -1,6 +1,5 @@
 -- What is read off the tree of a type.
 use Rattle.std.specs.Prelude.{Bool, true, false, ◌&&◌}
-use Rattle.shader_ir.specs.declared.types.ArraySize.{ArraySize}
 use Rattle.shader_ir.specs.declared.types.ArraySize.TheVariants.{Constant, Dynamic}
 use Rattle.shader_ir.specs.declared.types.TypeInner.{TypeInner}
 use Rattle.shader_ir.specs.declared.types.TypeInner.TheVariants.{Scalar, Vector, Matrix, CooperativeMatrix, Atomic, Array, Struct, RayQuery, BindingArray}
@@ -20,11 +19,6 @@ abbrev mutual
   pub is_base_abstract : TypeTrees → Bool
   is_base_abstract (OneTree base _) = is_abstract base
   is_base_abstract NoTree = false
-
--- a count that the shader's text fixes
-abbrev pub is_constant_size : ArraySize → Bool
-is_constant_size (Constant count) = true
-is_constant_size _ = false
 
 -- an array whose count the text doesn't fix, or a struct that ends in such a type
 abbrev mutual

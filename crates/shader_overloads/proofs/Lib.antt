@@ -4,7 +4,6 @@ pub mod NarrowLemmas
 pub mod RegularLemmas
 pub mod SetLemmas
 pub mod MaskLemmas
-pub mod TreeLemmas
 pub mod TakesLemmas
 pub mod FormLemmas
 pub mod BuiltinLemmas

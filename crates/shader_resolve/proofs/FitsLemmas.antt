@@ -45,7 +45,7 @@ use Rattle.shader_resolve.specs.declared.resolve.access.Part.TheVariants as part
 use Rattle.shader_resolve.specs.declared.resolve.access.NoPart.{NoPart}
 use Rattle.shader_resolve.specs.declared.resolve.access.NoPart.TheVariants.{PastEnd, NotIndexable}
 use Rattle.shader_resolve.specs.Context.{Context, IsInRange, IsResultType, IsType, TypesInRange}
-use Rattle.shader_resolve.specs.Follows.{Told, Follows, FitsTold}
+use Rattle.shader_resolve.specs.Follows.{Told, Follows, EachAsked, FitsTold}
 use Rattle.shader_resolve.specs.Images.{bool_scalar, texel, extent, gather_type, sample_type, extent_type}
 use Rattle.shader_resolve.specs.Operations.{test_type, logical_type, Product, AsLeft, AsRight, Made, NoProduct, product_of, product_type, cast_type, product, left_type}
 use Rattle.shader_resolve.specs.Outcome.{Refusal, IncompatibleOperands, InvalidAccess, InvalidSubAccess, Outcome, Given, Refused, Meets, at_inner}
@@ -318,15 +318,15 @@ module _ (types : List «Type») where
   failed result failure is = subst (λ answer. IfOk answer (λ resolution. FitsTypes types resolution)) (sym is) tt
 
   -- a result that follows such a row is in the arena
-  pub follows-fits : (Post : ℕ → Told → Type 0) (result : Result TypeResolution ResolveError) → ((operand : ℕ) (told : Told) → Post operand told → FitsTold types told)
-      → (asked : Row) → RowFits asked → Follows Post result asked → IfOk result (λ resolution. FitsTypes types resolution)
-  follows-fits Post result told_fits (Plain outcome) fits follows = meets-fits result outcome fits follows
-  follows-fits Post result told_fits (One operand answer) fits (Ok told, posted, meets) = meets-fits result (answer told.now) (fits told.now (told_fits operand (Ok told) posted)) meets
-  follows-fits Post result told_fits (One operand answer) fits (Err failure, posted, is) = failed result failure is
-  follows-fits Post result told_fits (Two left right answer) fits (Err failure, posted, is) = failed result failure is
-  follows-fits Post result told_fits (Two left right answer) fits (Ok first, posted, (Err failure, more, is)) = failed result failure is
-  follows-fits Post result told_fits (Two left right answer) fits (Ok first, posted, (Ok second, more, meets)) =
-      meets-fits result (answer first.now second.now) (fits first.now second.now (told_fits left (Ok first) posted) (told_fits right (Ok second) more)) meets
+  pub follows-fits : (Post : ℕ → Told → Type 0) (result : Result TypeResolution ResolveError)
+      → (asked : Row) → EachAsked (λ operand. (told : Told) → Post operand told → FitsTold types told) asked → RowFits asked → Follows Post result asked → IfOk result (λ resolution. FitsTypes types resolution)
+  follows-fits Post result (Plain outcome) told_fits fits follows = meets-fits result outcome fits follows
+  follows-fits Post result (One operand answer) told_fits fits (Ok told, posted, meets) = meets-fits result (answer told.now) (fits told.now (told_fits (Ok told) posted)) meets
+  follows-fits Post result (One operand answer) told_fits fits (Err failure, posted, is) = failed result failure is
+  follows-fits Post result (Two left right answer) told_fits fits (Err failure, posted, is) = failed result failure is
+  follows-fits Post result (Two left right answer) told_fits fits (Ok first, posted, (Err failure, more, is)) = failed result failure is
+  follows-fits Post result (Two left right answer) told_fits fits (Ok first, posted, (Ok second, more, meets)) =
+      meets-fits result (answer first.now second.now) (fits first.now second.now (told_fits.0 (Ok first) posted) (told_fits.1 (Ok second) more)) meets
 
 call-fits : (context : Context) → All (λ (entry : PredeclaredType × ℕ). IsType context entry.1) context.special_types.predeclared_types → (fun : MathFunction) (arg : ℕ) (arg1 : Option ℕ) → RowFits context.types (math_row context fun arg arg1)
 call-fits context held fun arg None = λ told fits. at_inner-fits context.types (inner_of context.types told) _ (λ inner. first-fits context.types context.special_types held _ fun)

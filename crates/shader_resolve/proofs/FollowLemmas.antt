@@ -8,7 +8,7 @@ use Rattle.shader_resolve.specs.Context.{Context}
 use Rattle.shader_resolve.specs.Follows.{Told, Answered, Follows, EachAsked}
 use Rattle.shader_resolve.specs.Outcome.{Outcome, Given, Refused, Meets}
 use Rattle.shader_resolve.specs.Rows.{Row, Plain, One, Two, row}
-use Rattle.shader_resolve.specs.Typing.{standing, at_key, outcome_key, row_key, TellsKeys, HasKey, typing}
+use Rattle.shader_resolve.specs.Typing.{told_key, standing, at_key, outcome_key, row_key, TellsKeys, HasKey, typing}
 use Rattle.shader_resolve.proofs.RowLemmas.{Respects, row-respects}
 use Rattle.shader_resolve.proofs.TypingLemmas.{key_of-standing}
 use Rattle.shader_ir.specs.declared.types.«Type».{«Type»}
@@ -38,31 +38,31 @@ module _ (types : List «Type») where
   along : (result : Result TypeResolution ResolveError) (key other : Option Key) → key ≡ other → HasKey types result other → HasKey types result key
   along result key other same has = subst (λ told. HasKey types result told) (sym same) has
 
-  module _ (Post : ℕ → Told → Type 0) (result : Result TypeResolution ResolveError) (keys : ℕ → Option Key) (tells : TellsKeys types Post keys) where
-    one : (operand : ℕ) (answer : TypeResolution → Outcome) → Respects types (One operand answer) → Answered Post result operand (λ told. Meets result (answer told)) → HasKey types result (row_key types keys (One operand answer))
-    one operand answer respects (Ok told, posted, meets) =
+  module _ (Post : ℕ → Told → Type 0) (result : Result TypeResolution ResolveError) (keys : ℕ → Option Key) where
+    one : (operand : ℕ) (answer : TypeResolution → Outcome) → ((told : Told) → Post operand told → keys operand ≡ told_key types told) → Respects types (One operand answer) → Answered Post result operand (λ told. Meets result (answer told)) → HasKey types result (row_key types keys (One operand answer))
+    one operand answer tells respects (Ok told, posted, meets) =
         along result _ _
-        (ap (λ key. at_key key (λ there. outcome_key types (answer there))) (tells operand (Ok told) posted)
+        (ap (λ key. at_key key (λ there. outcome_key types (answer there))) (tells (Ok told) posted)
         ∙ respects (standing (key_of types told.now)) told.now (key_of-standing types told.now))
         (meets-key result (answer told.now) meets)
-    one operand answer respects (Err failure, posted, is) =
-        along result _ _ (ap (λ key. at_key key (λ there. outcome_key types (answer there))) (tells operand (Err failure) posted)) (failed result failure is)
+    one operand answer tells respects (Err failure, posted, is) =
+        along result _ _ (ap (λ key. at_key key (λ there. outcome_key types (answer there))) (tells (Err failure) posted)) (failed result failure is)
 
     -- the result has the key that the row gives on keys
-    pub follows-key : (asked : Row) → Respects types asked → Follows Post result asked → HasKey types result (row_key types keys asked)
-    follows-key (Plain outcome) respects follows = meets-key result outcome follows
-    follows-key (One operand answer) respects follows = one operand answer respects follows
-    follows-key (Two left right answer) respects (Err failure, posted, is) =
-        along result _ _ (ap (λ key. at_key key (λ first. at_key (keys right) (λ second. outcome_key types (answer first second)))) (tells left (Err failure) posted)) (failed result failure is)
-    follows-key (Two left right answer) respects (Ok first, posted, follows) =
+    pub follows-key : (asked : Row) → TellsKeys types Post keys asked → Respects types asked → Follows Post result asked → HasKey types result (row_key types keys asked)
+    follows-key (Plain outcome) tells respects follows = meets-key result outcome follows
+    follows-key (One operand answer) tells respects follows = one operand answer tells respects follows
+    follows-key (Two left right answer) tells respects (Err failure, posted, is) =
+        along result _ _ (ap (λ key. at_key key (λ first. at_key (keys right) (λ second. outcome_key types (answer first second)))) (tells.0 (Err failure) posted)) (failed result failure is)
+    follows-key (Two left right answer) tells respects (Ok first, posted, follows) =
         let key = key_of types first.now in
         along result _ _
-        (ap (λ told. at_key told (λ there. at_key (keys right) (λ second. outcome_key types (answer there second)))) (tells left (Ok first) posted)
+        (ap (λ told. at_key told (λ there. at_key (keys right) (λ second. outcome_key types (answer there second)))) (tells.0 (Ok first) posted)
         ∙ at_key-same (keys right) _ _ (λ second. respects (standing key) first.now second second (key_of-standing types first.now) refl))
-        (one right (λ second. answer first.now second) (λ second third same. respects first.now first.now second third refl same) follows)
+        (one right (λ second. answer first.now second) tells.1 (λ second third same. respects first.now first.now second third refl same) follows)
 
 -- the result of an expression has the key that the expression has by the keys of its operands
 pub resolved-key : (context : Context) (expression : Expression) (Post : ℕ → Told → Type 0) (result : Result TypeResolution ResolveError) → Follows Post result (row context expression)
-    → (keys : ℕ → Option Key) → TellsKeys context.types Post keys → HasKey context.types result (typing context keys expression)
+    → (keys : ℕ → Option Key) → TellsKeys context.types Post keys (row context expression) → HasKey context.types result (typing context keys expression)
 resolved-key context expression Post result follows keys tells =
-    follows-key context.types Post result keys tells (row context expression) (row-respects context expression) follows
+    follows-key context.types Post result keys (row context expression) tells (row-respects context expression) follows

@@ -1,9 +1,11 @@
+pub mod AskedLemmas
 pub mod BuiltinLemmas
 pub mod ContextLemmas
 pub mod FitsLemmas
 pub mod FollowLemmas
 pub mod Joined
 pub mod KeyLemmas
+pub mod NumberLemmas
 pub mod RangeLemmas
 pub mod RowLemmas
 pub mod TypingLemmas

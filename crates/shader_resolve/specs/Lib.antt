@@ -1,3 +1,4 @@
+pub mod AskedLaws
 pub mod Builtins
 pub mod Context
 pub mod ContextLaws

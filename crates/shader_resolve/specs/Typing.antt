@@ -8,7 +8,7 @@ use Rattle.shader_resolve.specs.declared.error.ResolveError.{ResolveError}
 use Rattle.shader_resolve.specs.declared.error.ResolveError.TheVariants.{OutOfMemory}
 use Rattle.shader_ir.specs.declared.expression.Expression.{Expression}
 use Rattle.shader_resolve.specs.Context.{Context}
-use Rattle.shader_resolve.specs.Follows.{Told}
+use Rattle.shader_resolve.specs.Follows.{Told, EachAsked}
 use Rattle.shader_resolve.specs.Outcome.{Outcome, Given}
 use Rattle.shader_resolve.specs.Rows.{Row, Plain, One, Two, row}
 
@@ -38,9 +38,9 @@ module _ (types : List «Type») where
   told_key (Ok resolution) = Some (key_of types resolution.now)
   told_key (Err failure) = None
 
-  -- the operands have these keys
-  abbrev pub TellsKeys : (ℕ → Told → Type 0) → (ℕ → Option Key) → Type 0
-  TellsKeys Post keys = (operand : ℕ) (told : Told) → Post operand told → keys operand ≡ told_key told
+  -- the operands that are asked have these keys
+  abbrev pub TellsKeys : (ℕ → Told → Type 0) → (ℕ → Option Key) → Row → Type 0
+  TellsKeys Post keys asked = EachAsked (λ operand. (told : Told) → Post operand told → keys operand ≡ told_key told) asked
 
   -- the result has the key, or is an error where there is none; memory may run out
   abbrev pub HasKey : Result TypeResolution ResolveError → Option Key → Type 0

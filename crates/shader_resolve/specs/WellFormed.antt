@@ -1,5 +1,5 @@
 -- Which modules are well formed: a fact for each fault.
-use Rattle.std.specs.Prelude.{ℕ, ◌==◌, Bool, true, false, ◌&&◌, not, List, length, slice_get, Option, Some, None, IsTrue, nat_lt}
+use Rattle.std.specs.Prelude.{◌≡◌, ℕ, ◌<◌, ◌==◌, Bool, true, false, ◌&&◌, not, List, length, slice_get, Option, Some, None, IsTrue, All, nat_lt}
 use Rattle.std.specs.List.{list_all, enumerate_from}
 use Rattle.shader_arena.specs.Places.{places_between}
 use Rattle.shader_ir.specs.Body.{Emit, Call, Step, Leaf}
@@ -26,6 +26,14 @@ use Rattle.shader_ir.specs.declared.types.TypeInner.TheVariants.{Array, BindingA
 use Rattle.shader_resolve.specs.Statements.{statement_callee, statement_result}
 use Rattle.shader_resolve.specs.declared.well_formed.ModuleFault.{ModuleFault}
 use Rattle.shader_resolve.specs.declared.well_formed.ModuleFault.TheVariants.{HandleOutOfRange, TypeNotEarlier, OperandNotEarlier, CalleeNotEarlier, ArgumentCount, FilterNotEarlier, ValuePointerArgument, EmitRange}
+
+-- a fact of each item at its place
+abbrev pub AtEach : {T : Type 0} → (ℕ → T → Type 0) → List T → Type 0
+AtEach {T} Fact items = (place : ℕ) (item : T) → slice_get items place ≡ Some item → Fact place item
+
+-- the operands of the expression are below the bound
+abbrev pub OperandsBelow : ℕ → Expression → Type 0
+OperandsBelow bound expression = All (λ (operand : ℕ × Label). operand.0 < bound) (expression_operands expression)
 
 -- whether each item passes, at its place
 abbrev pub every_entry : {T : Type 0} → (ℕ → T → Bool) → List (ℕ × T) → Bool

@@ -1,12 +1,10 @@
 -- What is known of the name of each builtin.
-use Rattle.std.proofs.Common.{◌≡◌, ℕ, ◌∙◌, ◌++◌, false, List, Option, Some, None, refl, sym, ap}
+use Rattle.std.proofs.Common.{◌≡◌, ℕ, false, List, Some, refl}
 use Rattle.std.specs.List.{list_any}
-use Rattle.std.specs.Option.{MatchOption, option_or}
-use Rattle.std.specs.Str.{bytes_eq}
-use Rattle.std.proofs.lemmas.List.Folds.{find-append}
 use Rattle.shader_ir.specs.declared.operators.MathFunction.{MathFunction}
 use Rattle.shader_ir.specs.declared.operators.MathFunction.TheVariants as f
-use Rattle.shader_text.specs.Builtins.{builtin_of, builtin_text, named_in}
+use Rattle.shader_text.specs.Builtins.{builtin_of, builtin_text, named_builtins}
+use Rattle.shader_text.proofs.Found.{found_is}
 use Rattle.shader_text.proofs.Separators.{is_break}
 
 -- a name names its builtin, and has no space and no end of line
@@ -96,14 +94,6 @@ builtin_facts function = elim function as (λ g. NameFacts g) [
   | f.Unpack4xU8 ↦ (refl, refl)
 ]
 
--- What is found among the builtins before a group, or else in the group. P is what is known where nothing was found before.
-pub found_next : {P : Type 0} (word : List ℕ) (before group : List MathFunction) (found both : Option MathFunction) → found ≡ named_in before word
-    → MatchOption found P (λ function. both ≡ Some function) → (P → both ≡ named_in group word) → both ≡ named_in (before ++ group) word
-found_next word before group None both first is next =
-    next is
-    ∙ ap (λ (o : Option MathFunction). option_or o (named_in group word)) first
-    ∙ sym (find-append (λ function. bytes_eq (builtin_text function) word) before group)
-found_next word before group (Some function) both first is next =
-    is
-    ∙ ap (λ (o : Option MathFunction). option_or o (named_in group word)) first
-    ∙ sym (find-append (λ function. bytes_eq (builtin_text function) word) before group)
+-- a word that names a builtin is its name
+pub name_is : (word : List ℕ) (function : MathFunction) → builtin_of word ≡ Some function → word ≡ builtin_text function
+name_is word function found = found_is builtin_text named_builtins word function found

@@ -1,5 +1,5 @@
 -- The names of builtins.
-use Rattle.std.specs.Prelude.{ℕ, List, [], ◌∷◌, ◌++◌, codes, Option, find}
+use Rattle.std.specs.Prelude.{ℕ, List, [], ◌∷◌, codes, Option, find}
 use Rattle.std.specs.Str.{bytes_eq}
 use Rattle.shader_ir.specs.declared.operators.MathFunction.{MathFunction}
 use Rattle.shader_ir.specs.declared.operators.MathFunction.TheVariants as f
@@ -85,58 +85,19 @@ builtin_text f.Unpack2x16float = codes "Unpack2x16float"
 builtin_text f.Unpack4xI8 = codes "Unpack4xI8"
 builtin_text f.Unpack4xU8 = codes "Unpack4xU8"
 
--- ---- the builtins, by what they are for
-
-abbrev pub comparisons : List MathFunction
-comparisons = f.Abs ∷ f.Min ∷ f.Max ∷ f.Clamp ∷ f.Saturate ∷ []
-
-abbrev pub trigonometry : List MathFunction
-trigonometry = f.Cos ∷ f.Cosh ∷ f.Sin ∷ f.Sinh ∷ f.Tan ∷ f.Tanh ∷ f.Acos ∷ f.Asin ∷ f.Atan ∷ f.Atan2 ∷ f.Asinh ∷ f.Acosh ∷ f.Atanh ∷ f.Radians ∷ f.Degrees ∷ []
-
-abbrev pub decompositions : List MathFunction
-decompositions = f.Ceil ∷ f.Floor ∷ f.Round ∷ f.Fract ∷ f.Trunc ∷ f.Modf ∷ f.Frexp ∷ f.Ldexp ∷ []
-
-abbrev pub exponents : List MathFunction
-exponents = f.Exp ∷ f.Exp2 ∷ f.Log ∷ f.Log2 ∷ f.Pow ∷ []
-
-abbrev pub products : List MathFunction
-products = f.Dot ∷ f.Dot4I8Packed ∷ f.Dot4U8Packed ∷ f.Outer ∷ f.Cross ∷ []
-
-abbrev pub geometry : List MathFunction
-geometry = f.Distance ∷ f.Length ∷ f.Normalize ∷ f.FaceForward ∷ f.Reflect ∷ f.Refract ∷ []
-
-abbrev pub blends : List MathFunction
-blends = f.Sign ∷ f.Fma ∷ f.Mix ∷ f.Step ∷ f.SmoothStep ∷ []
-
-abbrev pub roots : List MathFunction
-roots = f.Sqrt ∷ f.InverseSqrt ∷ []
-
-abbrev pub matrices : List MathFunction
-matrices = f.Inverse ∷ f.Transpose ∷ f.Determinant ∷ f.QuantizeToF16 ∷ []
-
-abbrev pub bit_counts : List MathFunction
-bit_counts = f.CountTrailingZeros ∷ f.CountLeadingZeros ∷ f.CountOneBits ∷ []
-
-abbrev pub bit_fields : List MathFunction
-bit_fields = f.ReverseBits ∷ f.ExtractBits ∷ f.InsertBits ∷ []
-
-abbrev pub first_bits : List MathFunction
-first_bits = f.FirstTrailingBit ∷ f.FirstLeadingBit ∷ []
-
-abbrev pub packings : List MathFunction
-packings = f.Pack4x8snorm ∷ f.Pack4x8unorm ∷ f.Pack2x16snorm ∷ f.Pack2x16unorm ∷ f.Pack2x16float ∷ f.Pack4xI8 ∷ f.Pack4xU8 ∷ f.Pack4xI8Clamp ∷ f.Pack4xU8Clamp ∷ []
-
-abbrev pub unpackings : List MathFunction
-unpackings = f.Unpack4x8snorm ∷ f.Unpack4x8unorm ∷ f.Unpack2x16snorm ∷ f.Unpack2x16unorm ∷ f.Unpack2x16float ∷ f.Unpack4xI8 ∷ f.Unpack4xU8 ∷ []
-
 abbrev pub named_builtins : List MathFunction
 named_builtins =
-    comparisons ++ trigonometry ++ decompositions ++ exponents ++ products ++ geometry ++ blends
-    ++ roots ++ matrices ++ bit_counts ++ bit_fields ++ first_bits ++ packings ++ unpackings
+    f.Abs ∷ f.Min ∷ f.Max ∷ f.Clamp ∷ f.Saturate ∷ f.Cos ∷ f.Cosh ∷ f.Sin ∷ f.Sinh ∷ f.Tan ∷ f.Tanh ∷ f.Acos ∷ f.Asin
+    ∷ f.Atan ∷ f.Atan2 ∷ f.Asinh ∷ f.Acosh ∷ f.Atanh ∷ f.Radians ∷ f.Degrees ∷ f.Ceil ∷ f.Floor ∷ f.Round ∷ f.Fract
+    ∷ f.Trunc ∷ f.Modf ∷ f.Frexp ∷ f.Ldexp ∷ f.Exp ∷ f.Exp2 ∷ f.Log ∷ f.Log2 ∷ f.Pow ∷ f.Dot ∷ f.Dot4I8Packed
+    ∷ f.Dot4U8Packed ∷ f.Outer ∷ f.Cross ∷ f.Distance ∷ f.Length ∷ f.Normalize ∷ f.FaceForward ∷ f.Reflect ∷ f.Refract
+    ∷ f.Sign ∷ f.Fma ∷ f.Mix ∷ f.Step ∷ f.SmoothStep ∷ f.Sqrt ∷ f.InverseSqrt ∷ f.Inverse ∷ f.Transpose ∷ f.Determinant
+    ∷ f.QuantizeToF16 ∷ f.CountTrailingZeros ∷ f.CountLeadingZeros ∷ f.CountOneBits ∷ f.ReverseBits ∷ f.ExtractBits
+    ∷ f.InsertBits ∷ f.FirstTrailingBit ∷ f.FirstLeadingBit ∷ f.Pack4x8snorm ∷ f.Pack4x8unorm ∷ f.Pack2x16snorm
+    ∷ f.Pack2x16unorm ∷ f.Pack2x16float ∷ f.Pack4xI8 ∷ f.Pack4xU8 ∷ f.Pack4xI8Clamp ∷ f.Pack4xU8Clamp
+    ∷ f.Unpack4x8snorm ∷ f.Unpack4x8unorm ∷ f.Unpack2x16snorm ∷ f.Unpack2x16unorm ∷ f.Unpack2x16float ∷ f.Unpack4xI8
+    ∷ f.Unpack4xU8 ∷ []
 
--- the builtin of the list that a word names
-abbrev pub named_in : List MathFunction → List ℕ → Option MathFunction
-named_in builtins word = find (λ function. bytes_eq (builtin_text function) word) builtins
-
+-- the builtin that a word names
 abbrev pub builtin_of : List ℕ → Option MathFunction
-builtin_of word = named_in named_builtins word
+builtin_of word = find (λ function. bytes_eq (builtin_text function) word) named_builtins

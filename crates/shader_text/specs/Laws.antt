@@ -1,6 +1,10 @@
--- Laws of the spellings of types.
-use Rattle.std.specs.Prelude.{◌≡◌, ℕ, List, Some}
+-- Laws of the spellings of types, names and numbers.
+use Rattle.std.specs.Prelude.{◌≡◌, ◌<◌, ◌^◌, ℕ, List, Some}
+use Rattle.std.specs.Fmt.{decimal}
+use Rattle.shader_ir.specs.declared.operators.MathFunction.{MathFunction}
 use Rattle.shader_text.specs.declared.types.SpelledType.{SpelledType}
+use Rattle.shader_text.specs.Builtins.{builtin_of, builtin_text}
+use Rattle.shader_text.specs.Numbers.{number_of}
 use Rattle.shader_text.specs.Types.{type_text, type_of, IsWritable}
 
 -- a word spells a type exactly where it is the type's text
@@ -12,3 +16,15 @@ TypesAreSpelled = (word : List ℕ) (t : SpelledType)
 -- no text spells two types
 abbrev pub TypesAreDistinct : Type 0
 TypesAreDistinct = (t u : SpelledType) → IsWritable t → IsWritable u → type_text t ≡ type_text u → t ≡ u
+
+-- a word names a builtin exactly where it is the builtin's name
+abbrev pub BuiltinsAreNamed : Type 0
+BuiltinsAreNamed = (word : List ℕ) (function : MathFunction)
+    → (builtin_of word ≡ Some function → word ≡ builtin_text function)
+    × (word ≡ builtin_text function → builtin_of word ≡ Some function)
+
+-- a word is a number of 32 bits exactly where it is the number's decimal
+abbrev pub NumbersAreDecimals : Type 0
+NumbersAreDecimals = (word : List ℕ) (n : ℕ)
+    → (number_of word ≡ Some n → (word ≡ decimal n) × (n < 2 ^ 32))
+    × (word ≡ decimal n → n < 2 ^ 32 → number_of word ≡ Some n)

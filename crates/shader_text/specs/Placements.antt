@@ -1,5 +1,7 @@
 -- Spelled types in an arena of the IR.
-use Rattle.std.specs.Prelude.{◌≡◌, ◌≤◌, ℕ, List, [], ◌∷◌, length, All, Some, None, slice_get}
+use Rattle.std.specs.Prelude.{◌≡◌, ◌≤◌, ℕ, false, List, [], ◌∷◌, length, All, Some, None, slice_get}
+use Rattle.shader_arena.specs.Unique.{has_equal}
+use Rattle.shader_ir.specs.contracts.types.TypePartialEq.TheImpl as type
 use Rattle.shader_ir.specs.declared.types.«Type».{«Type»}
 use Rattle.shader_ir.specs.declared.types.ArraySize.TheVariants.{Constant}
 use Rattle.shader_ir.specs.declared.types.TypeInner.{TypeInner}
@@ -27,6 +29,11 @@ abbrev pub IsPlaced : List «Type» → SpelledType → TypeInner → Type 0
 IsPlaced types (Plain plain) placed = placed ≡ inner_of plain
 IsPlaced types (Array base count stride) placed =
     (place : ℕ) × (slice_get types place ≡ Some (unnamed (inner_of base))) × (placed ≡ inner.Array place (Constant count) stride)
+
+-- memory is asked for the base of an array alone, where the arena doesn't have it
+abbrev pub AsksMemory : List «Type» → SpelledType → Type 0
+AsksMemory types (Plain plain) = ⊥
+AsksMemory types (Array base count stride) = has_equal type.ghosts.eq types (unnamed (inner_of base)) ≡ false
 
 -- ---- a type in an arena of its own
 

@@ -6,6 +6,7 @@ use Rattle.std.specs.Fmt.{decimal}
 use Rattle.shader_ir.specs.declared.scalar.ScalarKind.{ScalarKind}
 use Rattle.shader_ir.specs.declared.scalar.ScalarKind.TheVariants as kinds
 use Rattle.shader_ir.specs.declared.scalar.Scalar.{Scalar}
+use Rattle.shader_ir.specs.Scalars.{scalar}
 use Rattle.shader_text.specs.declared.scalars.ScalarName.{ScalarName}
 use Rattle.shader_text.specs.declared.scalars.ScalarName.TheVariants.{I16, I32, I64, U16, U32, U64, F16, F32, F64, AbstractInt, AbstractFloat}
 use Rattle.shader_text.specs.declared.scalars.ScalarName.TheVariants as names
@@ -35,10 +36,6 @@ name_text F64 = codes "f64"
 name_text names.Bool = codes "bool"
 name_text AbstractInt = codes "AbstractInt"
 name_text AbstractFloat = codes "AbstractFloat"
-
--- the scalar of a kind and a width in bytes
-abbrev pub scalar : ScalarKind → ℕ → Scalar
-scalar kind width = record { kind = kind; width = width }
 
 abbrev pub named_scalar : ScalarName → Scalar
 named_scalar I16 = scalar kinds.Sint 2

@@ -9,6 +9,7 @@ use Rattle.shader_ir.specs.declared.scalar.VectorSize.{VectorSize}
 use Rattle.shader_ir.specs.declared.scalar.VectorSize.TheVariants.{Bi, Tri, Quad}
 use Rattle.shader_ir.specs.declared.types.TypeInner.{TypeInner}
 use Rattle.shader_ir.specs.declared.types.TypeInner.TheVariants as inner
+use Rattle.shader_ir.specs.Scalars.{size_text}
 use Rattle.shader_text.specs.declared.shape.Shape.{Shape}
 use Rattle.shader_text.specs.declared.shape.Shape.TheVariants as shapes
 use Rattle.shader_text.specs.declared.types.PlainType.{PlainType}
@@ -20,11 +21,6 @@ use Rattle.shader_text.specs.Numbers.{number_of, count_of}
 use Rattle.shader_text.specs.Scalars.{scalar_text, scalar_of, IsNamed}
 
 -- ---- how types are written
-
-abbrev pub size_text : VectorSize → List ℕ
-size_text Bi = codes "2"
-size_text Tri = codes "3"
-size_text Quad = codes "4"
 
 -- `vecN` and `matCxR`
 abbrev pub shape_text : Shape → List ℕ

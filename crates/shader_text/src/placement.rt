@@ -1,9 +1,9 @@
 //! Spelled types in an arena of the IR.
 
 ghost use Rattle.std.specs.Prelude.{◌≡◌, ◌<◌, ◌≤◌, ◌+◌, [], length, IfOk, OnErr};
-ghost use Rattle.shader_arena.specs.declared.arena.TheConstants.{MOST_ITEMS};
+ghost use Rattle.shader_arena.specs.Places.{most_items};
 ghost use Rattle.shader_ir.specs.TypeTree.{PointsBelow};
-ghost use Rattle.shader_text.specs.Placements.{AreFlat, IsPlaced, KeepsTypes, own_inner, own_types};
+ghost use Rattle.shader_text.specs.Placements.{AreFlat, AsksMemory, IsPlaced, KeepsTypes, own_inner, own_types};
 
 use crate::types::SpelledType;
 use shader_arena::UniqueArena;
@@ -14,12 +14,12 @@ use std::alloc::AllocError;
 ///
 /// # Errors
 ///
-/// Want of memory for the base. The arena holds what it held.
+/// Want of memory for the base of an array, where the arena does not have it yet. The arena then holds what it held.
 pub fn place(
     types: &mut UniqueArena<Type, mark::Type>,
     spelled: SpelledType,
 ) -> Result<TypeInner, AllocError>
-    requires room { length types.old < MOST_ITEMS }
+    requires room { length types.old < most_items }
     requires flat { AreFlat types.old }
     ensures flat { IfOk result (λ _. AreFlat types.new) }
     ensures kept { IfOk result (λ _. KeepsTypes types.old types.new) }
@@ -28,6 +28,7 @@ pub fn place(
     ensures alone { IfOk result (λ inner. types.old ≡ [] → (types.new ≡ own_types spelled) × (inner ≡ own_inner spelled)) }
     ensures within { IfOk result (λ inner. PointsBelow (length types.new) inner) }
     ensures err { OnErr result (types.new ≡ types.old) }
+    ensures asks { OnErr result (AsksMemory types.old spelled) }
 {
     match spelled {
         SpelledType::Plain(plain) => Ok(plain.inner()),

@@ -1,24 +1,13 @@
 //! Types and rules as they are printed.
 
-ghost use Rattle.std.specs.Prelude.{◌≡◌, ◌++◌, Some, codes};
+ghost use Rattle.std.specs.Prelude.{Some, codes};
 ghost use Rattle.std.specs.List.{join_by};
-ghost use Rattle.shader_text.specs.Types.{size_text};
 ghost use Rattle.shader_text.specs.Texts.{conclusion_text, inner_text, predeclared_text, resolution_text, rule_text, sized_text};
 
 use crate::scalars::ScalarText;
-use shader_ir::{PredeclaredType, Scalar, TypeInner, TypeResolution, VectorSize};
+use shader_ir::{PredeclaredType, Scalar, TypeInner, TypeResolution, VectorSize, vector_size_str};
 use shader_overloads::{Conclusion, Rule};
 use std::fmt;
-
-fn size_name(size: VectorSize) -> &'static str
-    ensures { result.now ≡ size_text size }
-{
-    match size {
-        VectorSize::Bi => "2",
-        VectorSize::Tri => "3",
-        VectorSize::Quad => "4",
-    }
-}
 
 /// A scalar, a vector or a matrix. Nothing is printed of other types, which no builtin has.
 #[derive(Clone, Copy)]
@@ -31,15 +20,15 @@ impl fmt::Display for InnerText<'_> {
         match self.0 {
             TypeInner::Scalar(scalar) => write!(f, "{}", ScalarText(*scalar)),
             TypeInner::Vector { size, scalar } => {
-                write!(f, "vec{}<{}>", size_name(*size), ScalarText(*scalar))
+                write!(f, "vec{}<{}>", vector_size_str(*size), ScalarText(*scalar))
             }
             TypeInner::Matrix {
                 columns,
                 rows,
                 scalar,
             } => {
-                let columns = size_name(*columns);
-                let rows = size_name(*rows);
+                let columns = vector_size_str(*columns);
+                let rows = vector_size_str(*rows);
                 write!(f, "mat{columns}x{rows}<{}>", ScalarText(*scalar))
             }
             _ => Ok(()),
@@ -56,7 +45,7 @@ impl fmt::Display for SizedText {
 
     fn fmt<W: fmt::Write>(&self, f: &mut fmt::Formatter<W>) -> fmt::Result {
         match self.0 {
-            Some(size) => write!(f, "vec{}<{}>", size_name(size), ScalarText(self.1)),
+            Some(size) => write!(f, "vec{}<{}>", vector_size_str(size), ScalarText(self.1)),
             None => write!(f, "{}", ScalarText(self.1)),
         }
     }

@@ -1,6 +1,6 @@
 //! Copies of expressions.
-ghost use Rattle.std.specs.Prelude.{◌≡◌, IfOk};
-ghost use Rattle.shader_ir.specs.Forms.{AppliesOperator, IsCooperative, IsResult, NamesDeclared, ReadsImage, SamplesImage, SelectsOrCalls, TakesPart};
+ghost use Rattle.std.specs.Prelude.{◌≡◌, IfOk, IsOk};
+ghost use Rattle.shader_ir.specs.Forms.{AppliesOperator, HoldsNoList, IsCooperative, IsResult, NamesDeclared, ReadsImage, SamplesImage, SelectsOrCalls, TakesPart};
 
 use crate::{Expression, TryCopy};
 use std::alloc::{AllocError, Global};
@@ -12,7 +12,8 @@ impl Expression {
     ///
     /// Want of memory for the components of a Compose.
     pub fn copy(&self, alloc: Global) -> Result<Expression, AllocError>
-        ensures { IfOk result (λ copy. copy ≡ self.now) }
+        ensures copy { IfOk result (λ copy. copy ≡ self.now) }
+        ensures ok { HoldsNoList self.now → IsOk result }
     {
         match self {
             Expression::Compose { ty, components } => Ok(Expression::Compose {

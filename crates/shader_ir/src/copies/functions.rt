@@ -1,8 +1,11 @@
 //! Copies of functions and entry points.
 ghost use Rattle.std.specs.Prelude.{◌≡◌, IfOk};
 
-use crate::copies::copy_arena;
-use crate::{EntryPoint, Function, FunctionArgument, LocalVariable, TryCopy};
+use crate::{
+    EntryPoint, Expression, Function, FunctionArgument, Items, LocalVariable, Name,
+    NamedExpressions, TryCopy, mark,
+};
+use shader_arena::Arena;
 use std::alloc::{AllocError, Global};
 
 impl LocalVariable {
@@ -60,16 +63,48 @@ impl Function {
     pub fn copy(&self, alloc: Global) -> Result<Function, AllocError>
         ensures { IfOk result (λ copy. copy ≡ self.now) }
     {
+        let (local_variables, expressions) = self.copy_arenas(alloc)?;
+        let (name, arguments, named_expressions) = self.copy_names(alloc)?;
         Ok(Function {
-            name: self.name.try_copy(alloc)?,
-            arguments: self.arguments.copy(alloc)?,
+            name,
+            arguments,
             result: self.result,
-            local_variables: copy_arena(alloc, &self.local_variables)?,
-            expressions: copy_arena(alloc, &self.expressions)?,
-            named_expressions: self.named_expressions.copy(alloc)?,
+            local_variables,
+            expressions,
+            named_expressions,
             body: self.body.copy(alloc)?,
             diagnostic_filter_leaf: self.diagnostic_filter_leaf,
         })
+    }
+
+    fn copy_arenas(
+        &self,
+        alloc: Global,
+    ) -> Result<
+        (
+            Arena<LocalVariable, mark::LocalVariable>,
+            Arena<Expression, mark::Expression>,
+        ),
+        AllocError,
+    >
+        ensures variables { IfOk result (λ copies. copies.0 ≡ self.now.local_variables) }
+        ensures expressions { IfOk result (λ copies. copies.1 ≡ self.now.expressions) }
+    {
+        let variables = self.local_variables.copy(alloc)?;
+        Ok((variables, self.expressions.copy(alloc)?))
+    }
+
+    fn copy_names(
+        &self,
+        alloc: Global,
+    ) -> Result<(Option<Name>, Items<FunctionArgument>, NamedExpressions), AllocError>
+        ensures name { IfOk result (λ copies. copies.0 ≡ self.now.name) }
+        ensures arguments { IfOk result (λ copies. copies.1 ≡ self.now.arguments) }
+        ensures named_expressions { IfOk result (λ copies. copies.2 ≡ self.now.named_expressions) }
+    {
+        let name = self.name.try_copy(alloc)?;
+        let arguments = self.arguments.copy(alloc)?;
+        Ok((name, arguments, self.named_expressions.copy(alloc)?))
     }
 }
 

@@ -1,7 +1,6 @@
 //! Copies of modules and of what they declare.
-ghost use Rattle.std.specs.Prelude.{◌≡◌, IfOk};
+ghost use Rattle.std.specs.Prelude.{◌≡◌, IfOk, OnOk};
 
-use crate::copies::{copy_arena, copy_unique_arena};
 use crate::{
     Constant, DiagnosticFilterNode, GlobalVariable, Module, Override, PredeclaredType,
     SpecialTypes, TryCopy, Type,
@@ -122,16 +121,24 @@ impl Module {
     pub fn copy(&self, alloc: Global) -> Result<Module, AllocError>
         ensures { IfOk result (λ copy. copy ≡ self.now) }
     {
-        Ok(Module {
-            types: copy_unique_arena(alloc, &self.types)?,
-            special_types: self.special_types.copy(alloc)?,
-            constants: copy_arena(alloc, &self.constants)?,
-            overrides: copy_arena(alloc, &self.overrides)?,
-            global_variables: copy_arena(alloc, &self.global_variables)?,
-            global_expressions: copy_arena(alloc, &self.global_expressions)?,
-            functions: copy_arena(alloc, &self.functions)?,
-            entry_points: self.entry_points.copy(alloc)?,
-            diagnostic_filters: copy_arena(alloc, &self.diagnostic_filters)?,
-        })
+        let mut copy = Module::new(alloc);
+        copy.copy_from(alloc, self)?;
+        Ok(copy)
+    }
+
+    /// Makes this the other module again. After an error some parts may be.
+    fn copy_from(&mut self, alloc: Global, other: &Module) -> Result<(), AllocError>
+        ensures { OnOk result (self.new ≡ other.now) }
+    {
+        self.types = other.types.copy(alloc)?;
+        self.special_types = other.special_types.copy(alloc)?;
+        self.constants = other.constants.copy(alloc)?;
+        self.overrides = other.overrides.copy(alloc)?;
+        self.global_variables = other.global_variables.copy(alloc)?;
+        self.global_expressions = other.global_expressions.copy(alloc)?;
+        self.functions = other.functions.copy(alloc)?;
+        self.entry_points = other.entry_points.copy(alloc)?;
+        self.diagnostic_filters = other.diagnostic_filters.copy(alloc)?;
+        Ok(())
     }
 }

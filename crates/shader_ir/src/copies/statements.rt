@@ -1,7 +1,7 @@
 //! Copies of statements, blocks and cases.
-ghost use Rattle.std.specs.Prelude.{◌≡◌, IfOk};
+ghost use Rattle.std.specs.Prelude.{◌≡◌, IfOk, IsOk};
 ghost use Rattle.shader_ir.specs.BodyOf.{step_of};
-ghost use Rattle.shader_ir.specs.Forms.{AccessesMemory, HoldsNoBlock, SharesInSubgroup, SteersFlow};
+ghost use Rattle.shader_ir.specs.Forms.{AccessesMemory, HoldsNoBlock, HoldsNoBlockOrList, SharesInSubgroup, SteersFlow};
 ghost use Rattle.shader_ir.specs.Operands.{WritesTexel};
 
 use crate::{Block, Statement, SwitchCase};
@@ -51,7 +51,8 @@ impl Statement {
     /// Want of memory for blocks, cases or the arguments of a call.
     #[cycle(copy)]
     pub fn copy(&self, alloc: Global) -> Result<Statement, AllocError>
-        ensures { IfOk result (λ copy. step_of copy ≡ step_of self.now) }
+        ensures copy { IfOk result (λ copy. step_of copy ≡ step_of self.now) }
+        ensures ok { HoldsNoBlockOrList (step_of self.now) → IsOk result }
     {
         match self {
             Statement::Block(block) => Ok(Statement::Block(block.copy(alloc)?)),
@@ -90,7 +91,8 @@ impl Statement {
     /// The same statement again, which holds no block.
     fn copy_of_leaf(&self, alloc: Global) -> Result<Statement, AllocError>
         requires { HoldsNoBlock (step_of self.now) }
-        ensures { IfOk result (λ copy. step_of copy ≡ step_of self.now) }
+        ensures copy { IfOk result (λ copy. step_of copy ≡ step_of self.now) }
+        ensures ok { HoldsNoBlockOrList (step_of self.now) → IsOk result }
     {
         match self {
             Statement::Call {

@@ -1,5 +1,5 @@
 //! Whether the types of an arena name earlier types alone.
-ghost use Rattle.std.specs.Prelude.{◌↔◌, ◌<◌, All, IsTrue};
+ghost use Rattle.std.specs.Prelude.{◌↔◌, ◌<◌, All, IsTrue, length};
 ghost use Rattle.shader_ir.specs.TypeTree.{IsBackward, PointsBelow};
 
 use crate::{StructMember, Type, TypeInner, mark};
@@ -28,6 +28,13 @@ fn members_point_below(members: &[StructMember], place: Handle<mark::Type>) -> b
 }
 
 impl TypeInner {
+    /// Whether every type handle in this type, which may stand outside the arena, is in range. Queries on it ask for this.
+    pub fn is_in_range(&self, types: &UniqueArena<Type, mark::Type>) -> bool
+        ensures { IsTrue result ↔ PointsBelow (length types.now) self.now }
+    {
+        self.points_below(Handle::from_index(types.len() as u32))
+    }
+
     /// Whether the type names types before the place alone.
     fn points_below(&self, place: Handle<mark::Type>) -> bool
         ensures { IsTrue result ↔ PointsBelow place self.now }

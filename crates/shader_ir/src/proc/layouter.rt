@@ -60,8 +60,10 @@ pub struct LayoutError {
 #[derive(Clone, Copy, Debug, PartialEq, Error)]
 pub enum UpdateError {
     #[error("Layout")]
+    /// A type has no layout.
     Layout(LayoutError),
     #[error("OutOfMemory")]
+    /// An allocation failed.
     OutOfMemory,
 }
 
@@ -115,7 +117,7 @@ impl Index<Handle<mark::Type>> for Layouter {
 
 ghost use Rattle.shader_ir.specs.Sizes.{AreTypeSizesInRange, IsTypeSizeInRange};
 ghost use Rattle.shader_ir.specs.Layout.{AreFaultless, AreFirstLayouts, HasStride, IsRefusalAt, layouts_of, member_fault, part_fault, width_fault};
-ghost use Rattle.shader_ir.specs.HeldLayouts.{faulty_or, greatest_held, held_alignment, held_layout};
+ghost use Rattle.shader_ir.specs.HeldLayouts.{AreLaidOver, faulty_or, greatest_held, held_alignment, held_layout};
 
 /// The alignment of a scalar.
 fn width_alignment(scalar: Scalar) -> Result<Alignment, LayoutErrorInner>
@@ -234,13 +236,14 @@ impl Layouter {
     ///
     /// `Layout` names the first type past the layouts held that has a fault, and its fault: first a size above the limit,
     /// then a width that is no power of two, or the first part that isn't earlier. The same call again refuses alike.
-    /// `OutOfMemory` where a growth was refused. After either, the layouts made so far stay, those of this call too, so that
+    /// `OutOfMemory` where a growth was refused for the layout of a type that has no fault. After either, the layouts made so far stay, those of this call too, so that
     /// the next call goes on behind them.
     pub fn update(&mut self, ctx: GlobalCtx<'_>) -> Result<(), UpdateError>
         requires sizes { AreTypeSizesInRange ctx }
 
         // Whatever the layouts that are held:
         ensures kept { take (length self.old) self.new ≡ self.old }
+        ensures added { AreLaidOver ctx.entry (length self.old) self.new }
         ensures faultless { AreFaultless ctx.entry (length self.old) (length self.new) }
         ensures whole { IfOk result (λ _. length ctx.entry.types.now ≤ length self.new) }
         ensures refused { IfErr result (IsRefusalAt ctx.entry (length self.new)) }

@@ -17,5 +17,5 @@ Block::copy-loop-statement-preserved t c =
     take_more items index statement inside ∙ ap (λ last. take index items ++ last ∷ []) (sym c.statement-item.is) in
     let pushed : c.push.new.self.items ≡ done ++ copy ∷ [] = c.in_ok-push.ensures.items in
     let next : body_of (done ++ copy ∷ []) ≡ body_of (take index items ++ statement ∷ []) =
-    next_statement done (take index items) copy statement c.loop-statement.invariant c.in_ok-copy.ensures in
+    next_statement done (take index items) copy statement c.loop-statement.invariant c.in_ok-copy.ensures.copy in
     (λ i. body_of (pushed i)) ∙ next ∙ sym (λ i. body_of (more i))

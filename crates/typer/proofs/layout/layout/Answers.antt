@@ -1,6 +1,7 @@
 use Rattle.std.proofs.Common.{◌∙◌, length, sym, ap}
 use Rattle.std.specs.Prelude.{slice_get}
-use Rattle.typer.proofs.Laying.{context, layout_is, no_layouts, place_laid, refused_is, types_laid}
+use Rattle.typer.specs.Layouts.{context}
+use Rattle.typer.proofs.Laying.{layout_is, no_layouts, place_laid, refused_is, types_laid}
 use Rattle.typer.proofs.layout.layout.Goals as goal
 
 pub returns-in-Ok-clause-layout : goal.returns-in-Ok-clause-layout

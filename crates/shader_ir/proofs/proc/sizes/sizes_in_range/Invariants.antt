@@ -1,5 +1,6 @@
 use Rattle.std.proofs.Common.{◌↔◌}
-use Rattle.shader_ir.specs.Sizes.{AreSizesInRange, AreTypeSizesInRange}
+use Rattle.shader_ir.specs.Sizes.{AreTypeSizesInRange}
+use Rattle.shader_ir.proofs.LayoutLemmas.{AreSizesInRange}
 use Rattle.shader_ir.proofs.proc.sizes.sizes_in_range.Given as goal
 
 abbrev pub invariant-loop-ty : goal.invariant-loop-ty

@@ -6,5 +6,5 @@ use Rattle.shader_resolve.proofs.context.ResolveContext.inner.Goals as goal
 pub returns-clause-in_range : goal.returns-clause-in_range
 returns-clause-in_range c =
     let same = ap (λ context. context.types) c.self.view_is in
-    let shape = ap (λ types. inner_of types c.args.resolution.now) (sym same) ∙ c.inner_with.ensures in
+    let shape = ap (λ types. inner_of types c.args.resolution.now) (sym same) ∙ c.inner_with.ensures.inner in
     inner_fits c.args.self.now.types c.requires.backward c.args.resolution.now c.inner_with.result.now shape c.requires.fits

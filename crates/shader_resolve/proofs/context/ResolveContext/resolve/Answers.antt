@@ -8,5 +8,5 @@ returns-clause-key g c = resolved-key c.args.self.now c.args.expr.now _ c.resolv
 
 pub returns-clause-fits : goal.returns-clause-fits
 returns-clause-fits g c =
-    λ held. follows-fits c.args.self.now.types _ c.resolve_row.result c.requires.told_fits (row c.args.self.now c.args.expr.now)
+    λ held. follows-fits c.args.self.now.types _ c.resolve_row.result (row c.args.self.now c.args.expr.now) c.requires.told_fits
     (row-fits c.args.self.now c.requires.backward held c.args.expr.now c.requires.in_range) c.resolve_row.ensures

@@ -2,7 +2,7 @@ use Rattle.std.proofs.Common.{◌≡◌, ◌≤◌, ◌+◌, ◌∙◌, sym, len
 use Rattle.std.proofs.lemmas.List.{take-append-le}
 use Rattle.std.proofs.lemmas.List.Elements.{All-append, All-cons}
 use Rattle.shader_ir.specs.Layout.{HasStride}
-use Rattle.shader_ir.proofs.LayoutLemmas.{faultless_more, made_faultless, one_more, size_in_range}
+use Rattle.shader_ir.proofs.LayoutLemmas.{added_more, faultless_more, made_faultless, one_more, size_in_range}
 use Rattle.shader_ir.proofs.proc.layouter.Layouter.update.Goals as goal
 
 pub layout_over-requires-clause-sizes : goal.layout_over-requires-clause-sizes
@@ -26,8 +26,13 @@ loop-place-preserved c =
       strides = rw added (All-append HasStride layouts (layout ∷ []) invariant.strides
           (All-cons HasStride layout [] c.in-Ok.ensures.stride (λ k d lt. absurd (omega arith))));
       kept = rw added (take-append-le (length held) layouts (layout ∷ []) before ∙ invariant.kept);
+      added = rw added (added_more ctx (length held) layouts type layout invariant.added
+          (rw at c.index.ensures) (rw at (sym c.in-Ok.ensures.layout)));
       faultless = rw added (faultless_more ctx (length held) (length layouts) _ longer invariant.faultless
           (made_faultless ctx layouts (length layouts) type layout (rw at c.index.ensures) (rw at (sym c.in-Ok.ensures.layout))));
       laid_out = λ first. rw added (one_more ctx layouts (invariant.laid_out first) type layout
           (rw at c.index.ensures) (rw at (sym c.in-Ok.ensures.layout)));
     }
+
+pub returns-in_err-insert-in-Ok-clause-added : goal.returns-in_err-insert-in-Ok-clause-added
+returns-in_err-insert-in-Ok-clause-added c = rw c.in_err-insert-in-Ok.ensures.err c.loop-place.invariant.added

@@ -1,0 +1,53 @@
+//! Copies of values that may take memory.
+ghost use Rattle.std.specs.Prelude.{◌≡◌, IfOk, IsNone, IsOk};
+
+use crate::Handle;
+use std::alloc::{AllocError, Global};
+
+/// A type whose values are copied with memory, as a container copies what it holds.
+///
+/// It stands in place of `Clone`, which has no place for an allocator.
+pub trait TryCopy: Drop {
+    /// The same value again.
+    ///
+    /// # Errors
+    ///
+    /// Want of memory.
+    fn try_copy(&self, alloc: Global) -> Result<Self, AllocError>
+        ensures { IfOk result (λ copy. copy ≡ self.now) };
+}
+
+impl<T> TryCopy for Handle<T> {
+    fn try_copy(&self, _alloc: Global) -> Result<Handle<T>, AllocError> {
+        self.clone()
+    }
+}
+
+impl TryCopy for u32 {
+    fn try_copy(&self, _alloc: Global) -> Result<u32, AllocError> {
+        Ok(*self)
+    }
+}
+
+impl<T: TryCopy> TryCopy for Option<T> {
+    fn try_copy(&self, alloc: Global) -> Result<Option<T>, AllocError>
+        ensures copy { IfOk result (λ copy. copy ≡ self.now) }
+        ensures none { IsNone self.now → IsOk result }
+    {
+        match self {
+            Some(value) => Ok(Some(value.try_copy(alloc)?)),
+            None => Ok(None),
+        }
+    }
+}
+
+/// The same items again, in order.
+pub(crate) fn copy_items<T: TryCopy>(alloc: Global, items: &[T]) -> Result<Vec<T>, AllocError>
+    ensures { IfOk result (λ copy. copy.items ≡ items.now) }
+{
+    let mut copy = Vec::with_capacity(alloc, items.len())?;
+    for item in items {
+        copy.push(item.try_copy(alloc)?)?;
+    }
+    Ok(copy)
+}

@@ -1,0 +1,13 @@
+pub mod BitsLemmas
+pub mod FindLemmas
+pub mod FlowLemmas
+pub mod HeldLemmas
+pub mod KillsLemmas
+pub mod NeedsLemmas
+pub mod Order
+pub mod OriginsLemmas
+pub mod PairsLemmas
+pub mod Summaries
+pub mod SweepLemmas
+pub mod UsesLemmas
+pub mod WalkLemmas

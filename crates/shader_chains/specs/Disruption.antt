@@ -1,0 +1,36 @@
+-- Disruption means divergence.
+use Rattle.std.specs.Prelude.{◌≡◌, ℕ, ◌<◌, ◌≤◌, Some, slice_get, ◌⊎◌, ◌↔◌, length, IsTrue}
+use Rattle.shader_ir.specs.declared.module.Severity.TheVariants as severity
+use Rattle.shader_chains.specs.Program.{Function, Module, Leaf, Emit, Body, Then}
+use Rattle.shader_chains.specs.Exact.{IsExact}
+use Rattle.shader_chains.specs.Faults.{Settings, Cause, IsFault}
+use Rattle.shader_chains.specs.Filters.{Governs}
+use Rattle.shader_chains.specs.Flow.{At, Disrupted}
+use Rattle.shader_chains.specs.Infos.{Info}
+use Rattle.shader_chains.specs.Kills.{KillsAt, HasOrigin}
+use Rattle.shader_chains.specs.Needs.{Need, ExpressionNeeds}
+use Rattle.shader_chains.specs.Walks.{HasNoLoop, Walk, Alike, Passes, AlikeWalksAgree}
+
+-- each expression has an origin or has none: the logic has no excluded middle, and the infos tell
+abbrev pub OriginsDecided : Module → Function → Type 0
+OriginsDecided m f = (e : ℕ) → HasOrigin m f e ⊎ (HasOrigin m f e → ⊥)
+
+-- two walks that choose alike where the choice has no origin pass the same undisrupted places
+abbrev pub DisruptionMeansDivergence : Type 0
+DisruptionMeansDivergence = (m : Module) (f : Function) → OriginsDecided m f → HasNoLoop f.body → AlikeWalksAgree (HasOrigin m f) (KillsAt m) f.body
+
+-- no disrupted Emit covers an expression that needs undisrupted flow
+abbrev pub HasNoFlowFault : Module → Function → Type 0
+HasNoFlowFault m f = (i j e : ℕ) (n : Need) (b : Body) (p : At f.body (Then (Leaf (Emit i j)) b)) → Disrupted (HasOrigin m f) (KillsAt m) f.body _ p →
+    i ≤ e → e < j → ExpressionNeeds m n f e → ⊥
+
+-- where there is no such fault, two alike walks pass the same Emits of expressions that need undisrupted flow
+abbrev pub AcceptedWalksAgree : Type 0
+AcceptedWalksAgree = (m : Module) (f : Function) → OriginsDecided m f → HasNoLoop f.body → HasNoFlowFault m f →
+    (w v : Walk (KillsAt m) f.body) → Alike (HasOrigin m f) w v →
+    (i j e : ℕ) (n : Need) (b : Body) (p : At f.body (Then (Leaf (Emit i j)) b)) → i ≤ e → e < j → ExpressionNeeds m n f e →
+    Passes w _ p ↔ Passes v _ p
+
+-- an exact info with an entry for each expression tells which expressions have an origin
+abbrev pub InfosDecide : Type 0
+InfosDecide = (m : Module) (f : Function) (info : Info) → IsExact m f info → OriginsDecided m f

@@ -1,0 +1,37 @@
+-- The recorded info is what is defined over all chains of calls.
+use Rattle.std.specs.Prelude.{◌≡◌, ℕ, List, Option, Some, slice_get, length, ◌↔◌, ◌<◌, IsTrue, slice_index}
+use Rattle.std.specs.Int.{IsBitSet}
+use Rattle.std.specs.List.{Contains}
+use Rattle.shader_chains.specs.Program.{Function, Module}
+use Rattle.shader_chains.specs.Counts.{count_of}
+use Rattle.shader_chains.specs.Derivable.{AreTypes, function_context}
+use Rattle.shader_chains.specs.Infos.{Info, HasTables, Use, RecordsUse, Place, Picks, EachNamed, IsOrdered, Pairwise}
+use Rattle.shader_chains.specs.Kills.{Kills}
+use Rattle.shader_chains.specs.Needs.{Need, bit_of_need, Needs, ExpressionNeeds}
+use Rattle.shader_chains.specs.Origins.{Origin, ResultOrigin}
+use Rattle.shader_chains.specs.Pairs.{IsPair}
+use Rattle.shader_chains.specs.Steps.{MeetsSteps}
+use Rattle.shader_chains.specs.Uses.{Uses}
+
+pub record IsExact (m : Module) (f : Function) (info : Info) : Type 0 where
+  pub tables : HasTables m f info
+  pub types : AreTypes (function_context m f) f.expressions info.types
+  pub counts : (e : ℕ) → e < length f.expressions → slice_get info.counts e ≡ Some (count_of f e)
+  pub uses : (g : ℕ) (u : Use) → RecordsUse info g u ↔ Uses m f g u
+  pub pairs : (image sampler : Place) → Contains info.pairs (image, sampler) ↔ IsPair m f image sampler
+  pub origins : (e : ℕ) (o : Option ℕ) → slice_get info.non_uniform e ≡ Some o →
+      Picks (λ h. (r : Function) × Origin m f e r h) o
+  pub result : Picks (λ h. (r : Function) × ResultOrigin m f r h) info.non_uniform_result
+  pub kills : IsTrue info.may_kill ↔ Kills m f
+  pub expression_needs : (n : Need) (e : ℕ) → e < length f.expressions → IsBitSet (slice_index info.expression_needs e) (bit_of_need n) ↔ ExpressionNeeds m n f e
+  pub needs : (n : Need) → IsBitSet info.needs (bit_of_need n) ↔ Needs m n f
+
+-- one step: where the infos of the functions that f names are exact, and f's info meets the step equations, it is exact too
+abbrev pub StepIsExact : Type 0
+StepIsExact = (m : Module) (infos : List Info) (f : Function) (info : Info) →
+    EachNamed (IsExact m) m infos f → MeetsSteps m infos f info → IsExact m f info
+
+-- the whole: infos that meet the step equations, of functions that name earlier ones alone, are exact
+abbrev pub SummariesEqualChains : Type 0
+SummariesEqualChains = (m : Module) (infos : List Info) → length m.functions ≡ length infos →
+    IsOrdered m → Pairwise (MeetsSteps m infos) m infos → Pairwise (IsExact m) m infos

@@ -1,0 +1,175 @@
+-- Where the analysis refuses.
+use Rattle.std.specs.Prelude.{◌≡◌, ℕ, ◌<◌, ◌≤◌, ◌^◌, ◌↔◌, Bool, true, false, IsTrue, List, [], Option, Some, None, slice_get}
+use Rattle.std.specs.Int.{IsBitSet}
+use Rattle.std.specs.List.{Contains}
+use Rattle.shader_ir.specs.Key.{found_inner, inner_of}
+use Rattle.shader_ir.specs.declared.expression.Expression.TheVariants as form
+use Rattle.shader_ir.specs.declared.function.EntryPoint.{EntryPoint}
+use Rattle.shader_ir.specs.declared.image.ImageClass.TheVariants as class
+use Rattle.shader_ir.specs.declared.module.Severity.TheVariants as severity
+use Rattle.shader_ir.specs.declared.proc.type_resolution.TypeResolution.{TypeResolution}
+use Rattle.shader_ir.specs.declared.types.«Type».{«Type»}
+use Rattle.shader_ir.specs.declared.types.ArraySize.{ArraySize}
+use Rattle.shader_ir.specs.declared.types.TypeInner.{TypeInner}
+use Rattle.shader_ir.specs.declared.types.TypeInner.TheVariants as type
+use Rattle.shader_resolve.specs.Context.{context_of}
+use Rattle.shader_resolve.specs.Outcome.{Refusal}
+use Rattle.shader_chains.specs.Program.{Function, Module, Expression, Body, Then, Leaf, Step, Emit, Return, Kill, Call, statements, Stands}
+use Rattle.shader_chains.specs.Counts.{count_of}
+use Rattle.shader_chains.specs.Derivable.{Derives, IsRefused, function_context}
+use Rattle.shader_chains.specs.Filters.{Governs}
+use Rattle.shader_chains.specs.Flow.{At, rest, inside, Part, BranchOn, Disrupted}
+use Rattle.shader_chains.specs.Infos.{Info, Place, InArgument}
+use Rattle.shader_chains.specs.Kills.{KillsAt}
+use Rattle.shader_chains.specs.Needs.{Need, bit_of_need, ExpressionNeeds}
+use Rattle.shader_chains.specs.Origins.{Origin}
+use Rattle.shader_chains.specs.Pairs.{place, samples, IsPair}
+use Rattle.shader_chains.specs.Steps.{StepOrigin, RecordsKills, StepExpressionNeed}
+
+-- what a pipeline may do with an index that differs among invocations
+pub data Capability : Type 0 where
+  IndexTextures IndexStorageTextures : Capability
+
+-- what the analysis is asked to check, and what it may take for granted
+pub record Settings : Type 0 where
+  pub checks_flow : Bool
+  pub indexes_textures : Bool
+  pub indexes_storage_textures : Bool
+
+abbrev pub allows : Settings → Capability → Bool
+allows settings IndexTextures = settings.indexes_textures
+allows settings IndexStorageTextures = settings.indexes_storage_textures
+
+-- what is told of the reason why flow is disrupted: a source of the condition or selector around it, an earlier Return, an earlier Kill
+pub data Disruptor : Type 0 where
+  Source : (expression : ℕ) → Disruptor
+  EarlierReturn EarlierDiscard : Disruptor
+
+-- why a function is refused
+pub data Cause : Type 0 where
+  Untyped : (expression : ℕ) → Refusal → Cause
+  MissingCapability : (expression : ℕ) → Capability → Cause
+  NoPlace : (expression : ℕ) → Cause
+  BindingArrayElement : (expression : ℕ) → Cause
+  NonUniformControlFlow : (needs expression : ℕ) → Disruptor → Cause
+  CountFull : (expression : ℕ) → Cause
+
+-- what it takes to index a binding array with these elements by an index that differs among invocations, where that may be had
+abbrev pub element_capability : Option TypeInner → Option Capability
+element_capability (Some (type.Image dim arrayed (class.Storage format access))) = Some IndexStorageTextures
+element_capability (Some (type.Image dim arrayed class)) = Some IndexTextures
+element_capability (Some (type.Sampler comparison)) = Some IndexTextures
+element_capability _ = None
+
+-- f has a Call statement of the function at place c that passes expression e for argument i
+pub record Passes (f : Function) (c i e : ℕ) : Type 0 where
+  pub arguments : List ℕ
+  pub result : Option ℕ
+  pub holds : Contains (statements f.body) (Leaf (Call c arguments result))
+  pub passed : slice_get arguments i ≡ Some e
+
+-- e is an Access by `index` on a binding array held by value, with these elements
+pub record IndexesBindings (m : Module) (f : Function) (e index element : ℕ) : Type 0 where
+  pub base : ℕ
+  pub stands : Stands f e (form.Access base index)
+  pub resolution : TypeResolution
+  pub derives : Derives (function_context m f) f.expressions base resolution
+  pub size : ArraySize
+  pub is : inner_of m.types resolution ≡ Some (type.BindingArray element size)
+
+-- an If or a Switch on an expression with origin h stands around the place
+pub data Around (OriginOf : ℕ → ℕ → Type 0) (h : ℕ) (root : Body) : (b : Body) → At root b → Type 0 where
+  branch : {s : Step} {b x : Body} {e : ℕ} (p : At root (Then s b)) {part : Part s x} → BranchOn e s x part → OriginOf e h →
+      Around OriginOf h root _ (inside p part)
+  deeper : {s : Step} {b x : Body} {p : At root (Then s b)} {part : Part s x} → Around OriginOf h root _ p → Around OriginOf h root _ (inside p part)
+  later : {s : Step} {b : Body} {p : At root (Then s b)} → Around OriginOf h root _ p → Around OriginOf h root _ (rest p)
+
+-- `OriginOf e h`: h is an origin of expression e. `Kills c`: the function at place c kills. `NeededBy n e`: expression e needs n of the flow.
+-- `PairOf c p q`: the function at place c samples p with q
+module _ (OriginOf : ℕ → ℕ → Type 0) (Kills : ℕ → Type 0) (NeededBy : Need → ℕ → Type 0) (PairOf : ℕ → Place → Place → Type 0) (m : Module) (settings : Settings)
+    (f : Function) where
+  abbrev pub HasOriginOf : ℕ → Type 0
+  HasOriginOf e = (h : ℕ) × OriginOf e h
+
+  -- what may be told of a disrupted place
+  pub data MayBlame (b : Body) (p : At f.body b) : Disruptor → Type 0 where
+    a_source : {h : ℕ} → Around OriginOf h f.body b p → MayBlame b p (Source h)
+    a_return : {value : Option ℕ} {left : Body} (q : At f.body (Then (Leaf (Return value)) left)) → Disrupted HasOriginOf Kills f.body _ q → MayBlame b p EarlierReturn
+    a_kill : {left : Body} (q : At f.body (Then (Leaf Kill) left)) → Disrupted HasOriginOf Kills f.body _ q → MayBlame b p EarlierDiscard
+    a_call : {c : ℕ} {arguments : List ℕ} {result : Option ℕ} → Contains (statements f.body) (Leaf (Call c arguments result)) → Kills c → MayBlame b p EarlierDiscard
+
+  -- a disrupted Emit covers the expression, which has these needs
+  pub record IsMisplaced (needs expression : ℕ) (disruptor : Disruptor) : Type 0 where
+    pub start : ℕ
+    pub finish : ℕ
+    pub left : Body
+    pub at : At f.body (Then (Leaf (Emit start finish)) left)
+    pub from : start ≤ expression
+    pub to : expression < finish
+    pub disrupted : Disrupted HasOriginOf Kills f.body _ at
+    pub need : Need
+    pub needed : NeededBy need expression
+    pub small : needs < 16
+    pub bits : (n : Need) → IsBitSet needs (bit_of_need n) ↔ NeededBy n expression
+    pub blamed : MayBlame _ at disruptor
+
+  -- a fault of f
+  pub data HasFault : Cause → Type 0 where
+    -- an expression whose operands have types has none
+    untyped : {e : ℕ} {refusal : Refusal} → IsRefused (function_context m f) f.expressions e refusal → HasFault (Untyped e refusal)
+    -- a binding array of images or samplers is indexed non-uniformly without the capability
+    no_capability : {e index element : ℕ} {capability : Capability} → IndexesBindings m f e index element →
+        element_capability (found_inner (slice_get m.types element)) ≡ Some capability → HasOriginOf index → allows settings capability ≡ false →
+        HasFault (MissingCapability e capability)
+    -- a binding array of anything else is indexed
+    bad_element : {e index element : ℕ} → IndexesBindings m f e index element → element_capability (found_inner (slice_get m.types element)) ≡ None →
+        HasFault (BindingArrayElement e)
+    -- an image or a sampler that is sampled has no place
+    no_image_place : {e image sampler : ℕ} → samples f e ≡ Some (image, sampler) → place f image ≡ None → HasFault (NoPlace e)
+    no_sampler_place : {e image sampler : ℕ} → samples f e ≡ Some (image, sampler) → place f sampler ≡ None → HasFault (NoPlace e)
+    -- what is passed for an argument that is sampled has none
+    no_image_passed : {e c i : ℕ} {q : Place} → Passes f c i e → place f e ≡ None → PairOf c (InArgument i) q → HasFault (NoPlace e)
+    no_sampler_passed : {e c i : ℕ} {p : Place} → Passes f c i e → place f e ≡ None → PairOf c p (InArgument i) → HasFault (NoPlace e)
+    -- what needs undisrupted flow is emitted in disrupted flow, where that is checked
+    misplaced : {needs e : ℕ} {disruptor : Disruptor} → IsTrue settings.checks_flow →
+        Governs m.diagnostic_filters f.diagnostic_filter_leaf severity.Error → IsMisplaced needs e disruptor → HasFault (NonUniformControlFlow needs e disruptor)
+    -- no usize holds how often an expression is named
+    count_full : {e : ℕ} → 2 ^ 64 ≤ count_of f e → HasFault (CountFull e)
+
+-- a fault of f, by the infos held of the functions before it
+module _ (m : Module) (infos : List Info) (f : Function) where
+  abbrev pub RecordsPair : ℕ → Place → Place → Type 0
+  RecordsPair c p q = (info : Info) × (slice_get infos c ≡ Some info) × Contains info.pairs (p, q)
+
+  abbrev pub StepNeededBy : Need → ℕ → Type 0
+  StepNeededBy n e = StepExpressionNeed infos f n e
+
+  abbrev pub StepFault : Settings → Cause → Type 0
+  StepFault settings = HasFault (StepOrigin m infos f) (RecordsKills infos) StepNeededBy RecordsPair m settings f
+
+-- a fault of f, over all chains of calls
+module _ (m : Module) (f : Function) where
+  abbrev pub SomeOrigin : ℕ → ℕ → Type 0
+  SomeOrigin e h = (r : Function) × Origin m f e r h
+
+  abbrev pub NeedsOf : Need → ℕ → Type 0
+  NeedsOf n e = ExpressionNeeds m n f e
+
+  abbrev pub PairAt : ℕ → Place → Place → Type 0
+  PairAt c p q = (d : Function) × (slice_get m.functions c ≡ Some d) × IsPair m d p q
+
+  abbrev pub IsFault : Settings → Cause → Type 0
+  IsFault settings = HasFault SomeOrigin (KillsAt m) NeedsOf PairAt m settings f
+
+-- what is analysed
+pub data Site : Type 0 where
+  OfGlobalExpression : (expression : ℕ) → Site
+  OfFunction OfEntryPoint : (place : ℕ) → Site
+
+-- a fault of a module: a global expression without a type, or a fault of a function or an entry point
+pub data ModuleFault (m : Module) (settings : Settings) : Site → Cause → Type 0 where
+  in_expression : {e : ℕ} {refusal : Refusal} → IsRefused (context_of m [] []) m.global_expressions e refusal →
+      ModuleFault m settings (OfGlobalExpression e) (Untyped e refusal)
+  in_function : {i : ℕ} {f : Function} {cause : Cause} → slice_get m.functions i ≡ Some f → IsFault m f settings cause → ModuleFault m settings (OfFunction i) cause
+  in_entry_point : {i : ℕ} {entry : EntryPoint} {cause : Cause} → slice_get m.entry_points i ≡ Some entry → IsFault m entry.function settings cause →
+      ModuleFault m settings (OfEntryPoint i) cause

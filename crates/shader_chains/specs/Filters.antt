@@ -1,0 +1,14 @@
+-- How grave a filter makes what is about derivative uniformity.
+use Rattle.std.specs.Prelude.{◌≡◌, ℕ, List, Option, Some, None, slice_get}
+use Rattle.shader_ir.specs.declared.module.DiagnosticFilterNode.{DiagnosticFilterNode}
+use Rattle.shader_ir.specs.declared.module.DiagnosticRule.TheVariants as rule
+use Rattle.shader_ir.specs.declared.module.Severity.{Severity}
+use Rattle.shader_ir.specs.declared.module.Severity.TheVariants as severity
+
+-- the first filter of that rule from one on, from filter to parent, gives the severity; where there is none it is Error
+pub data Governs (filters : List DiagnosticFilterNode) : Option ℕ → Severity → Type 0 where
+  unfiltered : Governs filters None severity.Error
+  by_filter : {i : ℕ} {filter : DiagnosticFilterNode} → slice_get filters i ≡ Some filter → filter.rule ≡ rule.DerivativeUniformity →
+      Governs filters (Some i) filter.severity
+  by_parent : {i : ℕ} {filter : DiagnosticFilterNode} {grave : Severity} → slice_get filters i ≡ Some filter → filter.rule ≡ rule.Other →
+      Governs filters filter.parent grave → Governs filters (Some i) grave

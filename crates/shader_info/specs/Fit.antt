@@ -1,0 +1,31 @@
+-- Which infos may be one of a function.
+use Rattle.std.specs.Prelude.{◌≡◌, ℕ, ◌<◌, All, length}
+use Rattle.shader_ir.specs.Key.{FitsTypes}
+use Rattle.shader_ir.specs.declared.function.Function.{Function}
+use Rattle.shader_ir.specs.declared.«module».Module.{Module}
+use Rattle.shader_info.specs.declared.info.ExpressionInfo.{ExpressionInfo}
+use Rattle.shader_info.specs.declared.info.FunctionInfo.{FunctionInfo}
+use Rattle.shader_info.specs.declared.info.GlobalOrArgument.{GlobalOrArgument}
+use Rattle.shader_info.specs.declared.info.GlobalOrArgument.TheVariants.{Global, Argument}
+use Rattle.shader_info.specs.declared.info.Sampling.{Sampling}
+use Rattle.shader_info.specs.declared.info.SamplingKey.{SamplingKey}
+
+-- both are among so many globals
+abbrev pub IsKnown : ℕ → SamplingKey → Type 0
+IsKnown globals key = (key.image < globals) × (key.sampler < globals)
+
+-- the place is among so many globals or arguments
+abbrev pub IsPlace : ℕ → ℕ → GlobalOrArgument → Type 0
+IsPlace globals arguments (Global global) = global < globals
+IsPlace globals arguments (Argument argument) = argument < arguments
+
+abbrev pub IsOpen : ℕ → ℕ → Sampling → Type 0
+IsOpen globals arguments pair = IsPlace globals arguments pair.image × IsPlace globals arguments pair.sampler
+
+-- the tables have a place for each global and each expression, and what types and pairs name is there
+pub record Fits (checked : Module) (function : Function) (info : FunctionInfo) : Type 0 where
+  pub global_uses : length info.global_uses ≡ length checked.global_variables
+  pub expressions : length info.expressions ≡ length function.expressions
+  pub types : All (λ (expression : ExpressionInfo). FitsTypes checked.types expression.ty) info.expressions
+  pub known : All (IsKnown (length checked.global_variables)) info.sampling_set.keys
+  pub with_arguments : All (IsOpen (length checked.global_variables) (length function.arguments)) info.sampling.keys
