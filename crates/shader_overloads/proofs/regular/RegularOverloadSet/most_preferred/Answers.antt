@@ -1,6 +1,6 @@
 use Rattle.std.proofs.Common.{inl, inr, ◌∙◌, ap, sym, slice_get}
 use Rattle.shader_overloads.proofs.RegularLemmas.{regular_rules-empty, regular_rules-first, first_concludes, ok_first}
-use Rattle.shader_overloads.proofs.regular.Regular.most_preferred.Goals as goal
+use Rattle.shader_overloads.proofs.regular.RegularOverloadSet.most_preferred.Goals as goal
 
 pub first_size-size-requires : goal.first_size-size-requires
 first_size-size-requires c e = c.requires (sym c.self.view_is ∙ regular_rules-empty _ _ _ _ (inl e))

@@ -1,7 +1,7 @@
 use Rattle.std.proofs.Common.{inl, inr, ◌∙◌, sym}
 use Rattle.std.proofs.lemmas.Bool.{both_ways}
 use Rattle.shader_overloads.proofs.RegularLemmas.{regular_rules-empty, empty_from_rules}
-use Rattle.shader_overloads.proofs.regular.Regular.is_empty.Goals as goal
+use Rattle.shader_overloads.proofs.regular.RegularOverloadSet.is_empty.Goals as goal
 
 pub returns-then-is_empty : goal.returns-then-is_empty
 returns-then-is_empty c =
