@@ -12,6 +12,7 @@ pub mod NeedsLemmas
 pub mod Order
 pub mod OriginsLemmas
 pub mod PairsLemmas
+pub mod PartingLemmas
 pub mod ReasonLemmas
 pub mod SampleLemmas
 pub mod Summaries

@@ -12,12 +12,13 @@ use Rattle.shader_ir.specs.declared.operators.DerivativeAxis.TheVariants as axis
 use Rattle.shader_ir.specs.declared.operators.DerivativeControl.TheVariants as control
 use Rattle.shader_ir.specs.declared.statement.SwitchValue.TheVariants as value
 use Rattle.shader_chains.specs.Program.{Function, Module, Expression, Body, End, Then, Leaf, If, Switch, NoCase, Case, Emit, Return, Kill, Store, Call}
-use Rattle.shader_chains.specs.Flow.{At, start, inside, case_of, after, from_first, Disrupted}
+use Rattle.shader_chains.specs.Flow.{At, start, rest, inside, case_of, after, from_first, Disrupted}
 use Rattle.shader_chains.specs.Infos.{InGlobal, InArgument, Place, Reads, Writes, Queries}
 use Rattle.shader_chains.specs.Kills.{HasOrigin, Kills}
 use Rattle.shader_chains.specs.Needs.{Needs, Derivative}
 use Rattle.shader_chains.specs.Pairs.{IsPair}
 use Rattle.shader_chains.specs.Uses.{Uses}
+use Rattle.shader_chains.specs.Walks.{Walk, Alike, Passes}
 
 -- a function with these arguments, expressions, named expressions and statements
 abbrev pub function_of : List FunctionArgument → List Expression → List (ℕ × List ℕ) → Body → Function
@@ -109,3 +110,21 @@ DisruptedIn falls = Disrupted (λ e. IsTrue (nat_eq e 0)) (λ c. IsTrue (nat_lt 
 
 abbrev pub FallThroughDisrupts : Type 0
 FallThroughDisrupts = DisruptedIn true × (DisruptedIn false → ⊥)
+
+-- an If on what varies, whose first branch returns, and an Emit behind it
+abbrev pub parting : Body
+parting = Then (If 0 (Then (Leaf (Return None)) End) End) (Then (Leaf (Emit 4 5)) End)
+
+abbrev pub emit_at_end : At parting (Then (Leaf (Emit 4 5)) End)
+emit_at_end = rest start
+
+-- a walk that takes the first branch or the second, where nothing kills
+abbrev pub never : ℕ → Type 0
+never c = ⊥
+
+abbrev pub takes_branch : Bool → Walk never parting
+takes_branch first = record { accepts = λ p. first; selects = λ p. 0; ends = λ p. false; ends_by_kill = λ p ended. absurd (cc) }
+
+-- where expression 0 varies, two alike walks part: the one passes the Emit and the other doesn't
+abbrev pub WalksPart : Type 0
+WalksPart = Alike (λ e. e ≡ 0) (takes_branch true) (takes_branch false) × Passes (takes_branch false) _ emit_at_end × (Passes (takes_branch true) _ emit_at_end → ⊥)

@@ -9,7 +9,8 @@ ghost use Rattle.shader_chains.specs.Exact.{StepIsExact, SummariesEqualChains};
 ghost use Rattle.shader_chains.specs.Earlier.{WellFormedModulesPointBackwards};
 ghost use Rattle.shader_chains.specs.FaultLaws.{DerivedTypesHaveKeys, FaultsAgree, SeveritiesAreUnique, TypesAreUnique};
 ghost use Rattle.shader_chains.specs.Held.{EntryIsExact, NextIsExact, OperandsGiveOrigins};
-ghost use Rattle.shader_chains.specs.Samples.{ArgumentsVary, FallThroughDisrupts};
+ghost use Rattle.shader_chains.specs.Pairs.{PlacesLeadBackByParts};
+ghost use Rattle.shader_chains.specs.Samples.{ArgumentsVary, BranchesKill, EmittedIsNeeded, FallThroughDisrupts, NamedIsQueried, PairsAreLedBack, WalksPart};
 ghost use Rattle.shader_chains.specs.Sweep.{SweepFinds, SweepIsLeast};
 
 /// One step of the analysis is exact over all chains of calls.
@@ -57,6 +58,11 @@ pub fn severities_are_unique()
     ensures { SeveritiesAreUnique }
 {}
 
+/// A place leads back along a chain by way of any place on it.
+pub fn places_lead_back_by_parts()
+    ensures { PlacesLeadBackByParts }
+{}
+
 /// Origins recorded operand by operand are those that operands lead to.
 pub fn operands_give_origins()
     ensures { OperandsGiveOrigins }
@@ -92,12 +98,37 @@ pub fn numbers_are_sets()
     ensures { NumbersAreSets }
 {}
 
+/// A global that is only named is queried, and one that is written too is not.
+pub fn named_is_queried()
+    ensures { NamedIsQueried }
+{}
+
 /// An argument varies, and one that is the same in the whole work group does not.
 pub fn arguments_vary()
     ensures { ArgumentsVary }
 {}
 
+/// A Kill in a branch on what varies kills, and one that all come to does not.
+pub fn branches_kill()
+    ensures { BranchesKill }
+{}
+
+/// What is emitted is needed, and what is not emitted is not.
+pub fn emitted_is_needed()
+    ensures { EmittedIsNeeded }
+{}
+
+/// An image and a sampler that are passed are sampled.
+pub fn pairs_are_led_back()
+    ensures { PairsAreLedBack }
+{}
+
 /// A case fallen into after a return in a branch that varies is disrupted, and without the fall it is not.
 pub fn fall_through_disrupts()
     ensures { FallThroughDisrupts }
+{}
+
+/// Two alike walks may part where flow is disrupted.
+pub fn walks_part()
+    ensures { WalksPart }
 {}
