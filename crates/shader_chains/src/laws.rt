@@ -6,7 +6,10 @@ ghost use Rattle.shader_chains.specs.Disruption.{
   InfosDecide,
 };
 ghost use Rattle.shader_chains.specs.Exact.{StepIsExact, SummariesEqualChains};
+ghost use Rattle.shader_chains.specs.Earlier.{WellFormedModulesPointBackwards};
+ghost use Rattle.shader_chains.specs.FaultLaws.{DerivedTypesHaveKeys, FaultsAgree, SeveritiesAreUnique, TypesAreUnique};
 ghost use Rattle.shader_chains.specs.Held.{EntryIsExact, NextIsExact, OperandsGiveOrigins};
+ghost use Rattle.shader_chains.specs.Samples.{ArgumentsVary, FallThroughDisrupts};
 ghost use Rattle.shader_chains.specs.Sweep.{SweepFinds, SweepIsLeast};
 
 /// One step of the analysis is exact over all chains of calls.
@@ -27,6 +30,31 @@ pub fn next_is_exact()
 /// The info of an entry point is exact.
 pub fn entry_is_exact()
     ensures { EntryIsExact }
+{}
+
+/// Faults by exact infos of the functions that are named are faults over all chains of calls, and none is missed.
+pub fn faults_agree()
+    ensures { FaultsAgree }
+{}
+
+/// A well-formed module names earlier functions and expressions alone.
+pub fn well_formed_modules_point_backwards()
+    ensures { WellFormedModulesPointBackwards }
+{}
+
+/// An expression has one type, and none where it is refused.
+pub fn types_are_unique()
+    ensures { TypesAreUnique }
+{}
+
+/// The key of an expression's type is that of the typing, by the keys of its operands.
+pub fn derived_types_have_keys()
+    ensures { DerivedTypesHaveKeys }
+{}
+
+/// A chain of filters gives one severity.
+pub fn severities_are_unique()
+    ensures { SeveritiesAreUnique }
 {}
 
 /// Origins recorded operand by operand are those that operands lead to.
@@ -62,4 +90,14 @@ pub fn infos_decide()
 /// A set of labels as a number.
 pub fn numbers_are_sets()
     ensures { NumbersAreSets }
+{}
+
+/// An argument varies, and one that is the same in the whole work group does not.
+pub fn arguments_vary()
+    ensures { ArgumentsVary }
+{}
+
+/// A case fallen into after a return in a branch that varies is disrupted, and without the fall it is not.
+pub fn fall_through_disrupts()
+    ensures { FallThroughDisrupts }
 {}

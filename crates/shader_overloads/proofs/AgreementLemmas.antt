@@ -35,7 +35,7 @@ same_kind_told kinds.AbstractInt kinds.AbstractInt h = refl
 same_kind_told kinds.AbstractFloat kinds.AbstractFloat h = refl
 same_kind_told j k h = absurd (both_ways false refl h)
 
-same_scalar_told : (a b : s.Scalar) → same_scalar a b ≡ true → a ≡ b
+pub same_scalar_told : (a b : s.Scalar) → same_scalar a b ≡ true → a ≡ b
 same_scalar_told a b h =
     let parts = and_parts (same_kind a.kind b.kind) _ h in
     ap (λ k. scalar k a.width) (same_kind_told a.kind b.kind parts.0) ∙ ap (λ w. scalar b.kind w) (eqb-true a.width b.width parts.1)
@@ -45,7 +45,7 @@ has_all_step p a b all true e h here later = ap p (same_scalar_told a b e) ∙ h
 has_all_step p a b all false e h here later = later h
 
 -- what holds of all scalars of a list holds of each that it has
-has_all : (p : s.Scalar → Bool) (a : s.Scalar) (all : List s.Scalar) → list_any (same_scalar a) all ≡ true → list_all p all ≡ true → p a ≡ true
+pub has_all : (p : s.Scalar → Bool) (a : s.Scalar) (all : List s.Scalar) → list_any (same_scalar a) all ≡ true → list_all p all ≡ true → p a ≡ true
 has_all p a [] any each = absurd (both_ways false refl any)
 has_all p a (b ∷ all) any each =
     let parts = and_parts (p b) (list_all p all) each in
@@ -67,6 +67,20 @@ converts_self : (a b : s.Scalar) → a ≡ b → scalar_converts a b ≡ true
 converts_self a b e = ap (scalar_converts a) (sym e) ∙ ap (λ v. v || kind_converts a.kind a.kind) (same_scalar_self a)
 
 -- ---- types
+
+-- whether an argument of the second type has the constructor of the first, and a scalar to which the first's converts by its kind
+abbrev pub plain_takes : TypeInner → TypeInner → Bool
+plain_takes (Scalar a) (Scalar b) = scalar_converts a b
+plain_takes (Vector p a) (Vector q b) = same_size p q && scalar_converts a b
+plain_takes (Matrix p q a) (Matrix c r b) = same_size p c && same_size q r && scalar_converts a b
+plain_takes _ _ = false
+
+-- so it is in a regular set, of scalars with names
+pub takes_plainly : (ty inner : TypeInner) → is_named_or_none (leaf_scalar ty) ≡ true → is_named_inner inner ≡ true → takes ty inner ≡ plain_takes ty inner
+takes_plainly (Scalar a) (Scalar b) m n = sym (converts_named a b m n)
+takes_plainly (Vector p a) (Vector q b) m n = ap (λ v. same_size p q && v) (sym (converts_named a b m n))
+takes_plainly (Matrix p q a) (Matrix c r b) m n = ap (λ v. same_size p c && same_size q r && v) (sym (converts_named a b m n))
+takes_plainly ty inner m n = refl
 
 absorbed : (a p : Bool) → (a ≡ true → p ≡ true) → (a || p) ≡ p
 absorbed true p h = sym (h refl)
@@ -102,7 +116,7 @@ pointer_at-unnamed : (base : ℕ) (space : AddressSpace) (found : Option «Type�
 pointer_at-unnamed base space (Some type) = pointer_to-unnamed base space type.inner
 pointer_at-unnamed base space None = refl
 
-all_at : {X : Type 0} (p : X → Bool) (xs : List X) (k : ℕ) (x : X) → list_all p xs ≡ true → slice_get xs k ≡ Some x → p x ≡ true
+pub all_at : {X : Type 0} (p : X → Bool) (xs : List X) (k : ℕ) (x : X) → list_all p xs ≡ true → slice_get xs k ≡ Some x → p x ≡ true
 all_at p [] k x h at = absurd (cc)
 all_at p (y ∷ xs) zero x h at = let same : y ≡ x = cc in ap p (sym same) ∙ (and_parts (p y) (list_all p xs) h).0
 all_at p (y ∷ xs) (suc k) x h at = all_at p xs k x (and_parts (p y) (list_all p xs) h).1 at
@@ -116,25 +130,26 @@ module _ (all : List «Type») where
   other : (ty inner : TypeInner) → is_named_inner ty ≡ false → is_named_inner inner ≡ true → same_type ty inner ≡ true → ⊥
   other ty inner unnamed n e = both_ways (is_named_inner inner) (sym (ap is_named_inner (same_type-told ty inner e)) ∙ unnamed) n
 
-  inner_agrees : (ty inner : TypeInner) → is_named_or_none (leaf_scalar ty) ≡ true → is_named_inner inner ≡ true → takes ty inner ≡ list_takes all ty inner
-  inner_agrees (Scalar a) (Scalar b) m n =
-      sym (converts_named a b m n) ∙ sym (some_conversion a b)
+  -- in a list, an argument of a builtin takes what has its constructor and a scalar that converts to its scalar
+  pub list_takes_plainly : (ty inner : TypeInner) → is_named_inner inner ≡ true → plain_takes ty inner ≡ list_takes all ty inner
+  list_takes_plainly (Scalar a) (Scalar b) n =
+      sym (some_conversion a b)
       ∙ sym (absorbed (same_type (Scalar a) (Scalar b)) _ (λ e. let told = same_type-told (Scalar a) (Scalar b) e in let same : a ≡ b = cc in some_conversion a b ∙ converts_self a b same))
-  inner_agrees (Scalar a) (Vector q b) m n = mixed _ (λ e. let told = same_type-told (Scalar a) (Vector q b) e in absurd (cc))
-  inner_agrees (Scalar a) (Matrix p q b) m n = mixed _ (λ e. let told = same_type-told (Scalar a) (Matrix p q b) e in absurd (cc))
-  inner_agrees (Vector p a) (Scalar b) m n = mixed _ (λ e. let told = same_type-told (Vector p a) (Scalar b) e in absurd (cc))
-  inner_agrees (Vector p a) (Vector q b) m n =
-      ap (λ v. same_size p q && v) (sym (converts_named a b m n)) ∙ sym (shaped_conversion (same_size p q) a b)
+  list_takes_plainly (Scalar a) (Vector q b) n = mixed _ (λ e. let told = same_type-told (Scalar a) (Vector q b) e in absurd (cc))
+  list_takes_plainly (Scalar a) (Matrix p q b) n = mixed _ (λ e. let told = same_type-told (Scalar a) (Matrix p q b) e in absurd (cc))
+  list_takes_plainly (Vector p a) (Scalar b) n = mixed _ (λ e. let told = same_type-told (Vector p a) (Scalar b) e in absurd (cc))
+  list_takes_plainly (Vector p a) (Vector q b) n =
+      sym (shaped_conversion (same_size p q) a b)
       ∙ sym (absorbed (same_type (Vector p a) (Vector q b)) _ (λ e.
       let told = same_type-told (Vector p a) (Vector q b) e in
       let size : p ≡ q = cc in
       let same : a ≡ b = cc in
       shaped_conversion (same_size p q) a b ∙ and_from _ _ (ap (same_size p) (sym size) ∙ same_size_self p) (converts_self a b same)))
-  inner_agrees (Vector p a) (Matrix q r b) m n = mixed _ (λ e. let told = same_type-told (Vector p a) (Matrix q r b) e in absurd (cc))
-  inner_agrees (Matrix p q a) (Scalar b) m n = mixed _ (λ e. let told = same_type-told (Matrix p q a) (Scalar b) e in absurd (cc))
-  inner_agrees (Matrix p q a) (Vector r b) m n = mixed _ (λ e. let told = same_type-told (Matrix p q a) (Vector r b) e in absurd (cc))
-  inner_agrees (Matrix p q a) (Matrix c r b) m n =
-      ap (λ v. same_size p c && same_size q r && v) (sym (converts_named a b m n)) ∙ and_assoc (same_size p c) (same_size q r) (scalar_converts a b)
+  list_takes_plainly (Vector p a) (Matrix q r b) n = mixed _ (λ e. let told = same_type-told (Vector p a) (Matrix q r b) e in absurd (cc))
+  list_takes_plainly (Matrix p q a) (Scalar b) n = mixed _ (λ e. let told = same_type-told (Matrix p q a) (Scalar b) e in absurd (cc))
+  list_takes_plainly (Matrix p q a) (Vector r b) n = mixed _ (λ e. let told = same_type-told (Matrix p q a) (Vector r b) e in absurd (cc))
+  list_takes_plainly (Matrix p q a) (Matrix c r b) n =
+      and_assoc (same_size p c) (same_size q r) (scalar_converts a b)
       ∙ sym (shaped_conversion (same_size p c && same_size q r) a b)
       ∙ sym (absorbed (same_type (Matrix p q a) (Matrix c r b)) _ (λ e.
       let told = same_type-told (Matrix p q a) (Matrix c r b) e in
@@ -143,13 +158,16 @@ module _ (all : List «Type») where
       let same : a ≡ b = cc in
       shaped_conversion (same_size p c && same_size q r) a b
       ∙ and_from _ _ (and_from _ _ (ap (same_size p) (sym columns) ∙ same_size_self p) (ap (same_size q) (sym rows) ∙ same_size_self q)) (converts_self a b same)))
-  inner_agrees (Pointer base space) (Scalar b) m n = mixed _ (pointer_other base space (Scalar b) n)
-  inner_agrees (Pointer base space) (Vector q b) m n = mixed _ (pointer_other base space (Vector q b) n)
-  inner_agrees (Pointer base space) (Matrix p q b) m n = mixed _ (pointer_other base space (Matrix p q b) n)
-  inner_agrees ty (Scalar b) m n = mixed _ (other ty (Scalar b) refl n)
-  inner_agrees ty (Vector q b) m n = mixed _ (other ty (Vector q b) refl n)
-  inner_agrees ty (Matrix p q b) m n = mixed _ (other ty (Matrix p q b) refl n)
-  inner_agrees ty inner m n = absurd (both_ways false refl n)
+  list_takes_plainly (Pointer base space) (Scalar b) n = mixed _ (pointer_other base space (Scalar b) n)
+  list_takes_plainly (Pointer base space) (Vector q b) n = mixed _ (pointer_other base space (Vector q b) n)
+  list_takes_plainly (Pointer base space) (Matrix p q b) n = mixed _ (pointer_other base space (Matrix p q b) n)
+  list_takes_plainly ty (Scalar b) n = mixed _ (other ty (Scalar b) refl n)
+  list_takes_plainly ty (Vector q b) n = mixed _ (other ty (Vector q b) refl n)
+  list_takes_plainly ty (Matrix p q b) n = mixed _ (other ty (Matrix p q b) refl n)
+  list_takes_plainly ty inner n = absurd (both_ways false refl n)
+
+  inner_agrees : (ty inner : TypeInner) → is_named_or_none (leaf_scalar ty) ≡ true → is_named_inner inner ≡ true → takes ty inner ≡ list_takes all ty inner
+  inner_agrees ty inner m n = takes_plainly ty inner m n ∙ list_takes_plainly ty inner n
 
   argument_agrees : (ty : TypeInner) (argument : TypeResolution) → is_named_or_none (leaf_scalar ty) ≡ true → is_named_argument argument ≡ true → some_takes ty (inner_of all argument) ≡ some_list_takes all ty (inner_of all argument)
   argument_agrees ty (Handle handle) m n = absurd (both_ways false refl n)

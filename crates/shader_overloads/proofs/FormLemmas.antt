@@ -2,7 +2,6 @@
 use Rattle.std.proofs.Common.{◌≡◌, ◌≤◌, true, List, [], ◌∷◌, length, ap, arith}
 use Rattle.std.specs.List.{flat_map, list_all}
 use Rattle.shader_ir.specs.declared.scalar.VectorSize.TheVariants.{Bi, Tri, Quad}
-use Rattle.shader_ir.specs.Scalars.{floats}
 use Rattle.shader_overloads.specs.declared.constructor_set.ConstructorSize.{ConstructorSize}
 use Rattle.shader_overloads.specs.declared.constructor_set.ConstructorSize.TheVariants as sizes
 use Rattle.shader_overloads.specs.declared.list_forms.ListForm.TheVariants as forms
@@ -23,27 +22,27 @@ pub record IsMade (made written : List Rule) : Type 0 where
   pub few : length made ≤ 63
   pub no_struct : list_all has_no_struct made ≡ true
 
-pub ldexp_made : (rules : List Rule) → rules ≡ flat_map (λ scalar. flat_map (λ size. rows forms.Ldexp size scalar) scalars_and_vectors) floats → IsMade rules ldexp_rules
+pub ldexp_made : (rules : List Rule) → rules ≡ flat_map (λ scalar. flat_map (λ size. rows forms.Ldexp size scalar) scalars_and_vectors) all_floats → IsMade rules ldexp_rules
 unfolding ldexp_rules
 ldexp_made rules e = record {
   is = e;
-  few = let count : length rules ≡ 12 = ap length e in omega arith;
+  few = let count : length rules ≡ 16 = ap length e in omega arith;
   no_struct = ap (list_all has_no_struct) e;
 }
 
-pub outer_made : (rules : List Rule) → rules ≡ flat_map (λ size. flat_map (rows forms.Outer size) floats) matrices → IsMade rules outer_rules
+pub outer_made : (rules : List Rule) → rules ≡ flat_map (λ size. flat_map (rows forms.Outer size) all_floats) matrices → IsMade rules outer_rules
 unfolding outer_rules
 outer_made rules e = record {
   is = e;
-  few = let count : length rules ≡ 27 = ap length e in omega arith;
+  few = let count : length rules ≡ 36 = ap length e in omega arith;
   no_struct = ap (list_all has_no_struct) e;
 }
 
-pub refract_made : (rules : List Rule) → rules ≡ flat_map (λ size. flat_map (rows forms.Refract size) floats) vectors → IsMade rules refract_rules
+pub refract_made : (rules : List Rule) → rules ≡ flat_map (λ size. flat_map (rows forms.Refract size) all_floats) vectors → IsMade rules refract_rules
 unfolding refract_rules
 refract_made rules e = record {
   is = e;
-  few = let count : length rules ≡ 9 = ap length e in omega arith;
+  few = let count : length rules ≡ 12 = ap length e in omega arith;
   no_struct = ap (list_all has_no_struct) e;
 }
 

@@ -1,9 +1,9 @@
 -- The rules of a regular set under a filter.
-use Rattle.std.proofs.Common.{◌≡◌, ℕ, zero, suc, ◌<◌, ◌≤◌, Bool, true, false, cond, ◌&&◌, List, [], ◌∷◌, map, refl, sym, ◌∙◌, ap, arith, inl, inr, ◌⊎◌, Some, None, slice_get, replicate, IfOk, Result, Ok, Err, Option}
+use Rattle.std.proofs.Common.{All, subst, ◌≡◌, ℕ, zero, suc, ◌<◌, ◌≤◌, Bool, true, false, cond, ◌&&◌, List, [], ◌∷◌, map, refl, sym, ◌∙◌, ap, arith, inl, inr, ◌⊎◌, Some, None, slice_get, replicate, IfOk, Result, Ok, Err, Option}
 use Rattle.std.specs.List.{filter, flat_map, list_all}
 use Rattle.std.specs.Option.{option_and_then}
 use Rattle.std.proofs.lemmas.Bool.{and_from, and_parts}
-use Rattle.std.proofs.lemmas.List.Elements.{filter_agree}
+use Rattle.std.proofs.lemmas.List.Elements.{All-append, All-map, All-replicate, filter_agree}
 use Rattle.shader_ir.specs.declared.scalar.Scalar.{Scalar}
 use Rattle.shader_ir.specs.declared.types.«Type».{«Type»}
 use Rattle.shader_ir.specs.declared.types.TypeInner.{TypeInner}
@@ -19,7 +19,7 @@ use Rattle.shader_overloads.specs.declared.rule.Rule.{Rule}
 use Rattle.shader_overloads.specs.Constructors.{is_made_by, to_inner}
 use Rattle.shader_overloads.specs.ScalarSets.{is_concrete_scalar}
 use Rattle.shader_overloads.specs.Rules.{regular_rules, rule_for, can_conclude}
-use Rattle.shader_overloads.specs.Remaining.{accepts, argument_at, some_takes, takes, leaf_scalar, is_concrete, has_concrete_arguments}
+use Rattle.shader_overloads.specs.Remaining.{ArgumentFits, RuleFits, RulesFit, accepts, argument_at, some_takes, takes, leaf_scalar, is_concrete, has_concrete_arguments}
 use Rattle.shader_overloads.proofs.ListLemmas.{filter-combinations, filter_none, filter_all, next_member}
 
 -- ---- one rule
@@ -192,3 +192,25 @@ concludes_next conclude whole item rest size step sole all =
     let same : next.first ≡ size = cc (next.alone) in
     let parts = and_parts (can_conclude conclude next.first) (list_all (can_conclude conclude) rest) (ap (list_all (can_conclude conclude)) (sym next.is) ∙ all) in
     (ap (can_conclude conclude) (sym same) ∙ parts.0, parts.1)
+
+-- ---- what the rules ask
+
+made_fits : (types : List «Type») (size : ConstructorSize) (s : Scalar) → ArgumentFits types (resolutions.Value (to_inner size s))
+made_fits types sizes.Scalar s = (((λ k d h. absurd (omega arith)), tt), tt)
+made_fits types (sizes.Vector size) s = (((λ k d h. absurd (omega arith)), tt), tt)
+made_fits types (sizes.Matrix columns rows) s = (((λ k d h. absurd (omega arith)), tt), tt)
+
+rules_of_sizes-fit : (types : List «Type») (arity : ℕ) (conclude : ConclusionRule) (sizes : List ConstructorSize) (scalars : List Scalar) → All (RuleFits types) (flat_map (λ size. map (rule_for arity conclude size) scalars) sizes)
+rules_of_sizes-fit types arity conclude [] scalars = λ k d h. absurd (omega arith)
+rules_of_sizes-fit types arity conclude (size ∷ sizes) scalars =
+    All-append (RuleFits types) (map (rule_for arity conclude size) scalars) _
+    (All-map (RuleFits types) (rule_for arity conclude size) scalars (λ k d h. All-replicate (ArgumentFits types) arity _ (made_fits types size _)))
+    (rules_of_sizes-fit types arity conclude sizes scalars)
+
+-- the rules of a regular set fit any types
+pub regular_rules-fit : (types : List «Type») (arity : ℕ) (conclude : ConclusionRule) (sizes : List ConstructorSize) (scalars : List Scalar) → RulesFit types (regular_rules arity conclude sizes scalars)
+unfolding regular_rules
+regular_rules-fit types arity conclude sizes scalars = record { each = rules_of_sizes-fit types arity conclude sizes scalars }
+
+pub no_rules_fit : (types : List «Type») (rules : List Rule) → rules ≡ [] → RulesFit types rules
+no_rules_fit types rules e = subst (RulesFit types) (sym e) (record { each = λ k d h. absurd (omega arith) })

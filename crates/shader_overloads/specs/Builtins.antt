@@ -4,7 +4,8 @@ use Rattle.std.specs.List.{flat_map}
 use Rattle.shader_ir.specs.declared.operators.MathFunction.{MathFunction}
 use Rattle.shader_ir.specs.declared.operators.MathFunction.TheVariants as f
 use Rattle.shader_ir.specs.declared.scalar.Scalar.{Scalar}
-use Rattle.shader_ir.specs.declared.scalar.ScalarKind.TheVariants.{Sint, Uint, Float}
+use Rattle.shader_ir.specs.declared.scalar.ScalarKind.{ScalarKind}
+use Rattle.shader_ir.specs.declared.scalar.ScalarKind.TheVariants.{Sint, Uint, Float, AbstractFloat}
 use Rattle.shader_ir.specs.declared.scalar.VectorSize.{VectorSize}
 use Rattle.shader_ir.specs.declared.scalar.VectorSize.TheVariants.{Bi, Tri, Quad}
 use Rattle.shader_ir.specs.declared.types.«Type».{«Type»}
@@ -62,23 +63,31 @@ shapes s = types.Scalar s ∷ types.Vector Bi s ∷ types.Vector Tri s ∷ types
 abbrev pub rule : List TypeInner → TypeInner → Rule
 rule arguments conclusion = record { arguments = map resolutions.Value arguments; conclusion = Value conclusion }
 
--- of each float: the scalar with an i32, and each vector with a vector of i32 of its size
+abbrev pub exponent_of_kind : ScalarKind → Scalar
+exponent_of_kind AbstractFloat = abstract_int
+exponent_of_kind _ = i32
+
+-- the scalar of the exponent of a float: an abstract integer for the abstract float, an i32 for the others
+abbrev pub exponent_of : Scalar → Scalar
+exponent_of s = exponent_of_kind s.kind
+
+-- of each float: the scalar with an exponent, and each vector with a vector of exponents of its size
 unfoldable pub ldexp_rules : List Rule
 ldexp_rules =
     flat_map (λ s.
-    rule (types.Scalar s ∷ types.Scalar i32 ∷ []) (types.Scalar s)
-    ∷ map (λ size. rule (types.Vector size s ∷ types.Vector size i32 ∷ []) (types.Vector size s)) vector_sizes) floats
+    rule (types.Scalar s ∷ types.Scalar (exponent_of s) ∷ []) (types.Scalar s)
+    ∷ map (λ size. rule (types.Vector size s ∷ types.Vector size (exponent_of s) ∷ []) (types.Vector size s)) vector_sizes) all_floats
 
 -- of a vector of the columns' size and one of the rows', the matrix
 unfoldable pub outer_rules : List Rule
 outer_rules =
     flat_map (λ columns. flat_map (λ rows.
-    map (λ s. rule (types.Vector columns s ∷ types.Vector rows s ∷ []) (types.Matrix columns rows s)) floats) vector_sizes) vector_sizes
+    map (λ s. rule (types.Vector columns s ∷ types.Vector rows s ∷ []) (types.Matrix columns rows s)) all_floats) vector_sizes) vector_sizes
 
 -- of two vectors and a scalar
 unfoldable pub refract_rules : List Rule
 refract_rules =
-    flat_map (λ size. map (λ s. rule (types.Vector size s ∷ types.Vector size s ∷ types.Scalar s ∷ []) (types.Vector size s)) floats) vector_sizes
+    flat_map (λ size. map (λ s. rule (types.Vector size s ∷ types.Vector size s ∷ types.Scalar s ∷ []) (types.Vector size s)) all_floats) vector_sizes
 
 -- of a matrix, the one with columns and rows exchanged
 unfoldable pub transpose_rules : List Rule
@@ -169,11 +178,11 @@ rules_of f.Normalize = regular_rules 1 gives.ArgumentType vectors all_floats
 rules_of f.Inverse = regular_rules 1 gives.ArgumentType square_matrices all_floats
 rules_of f.Determinant = regular_rules 1 gives.Scalar square_matrices all_floats
 rules_of f.QuantizeToF16 = regular_rules 1 gives.ArgumentType scalars_and_vectors (f32 ∷ [])
-rules_of f.Modf = regular_rules 1 gives.Modf scalars_and_vectors floats
-rules_of f.Frexp = regular_rules 1 gives.Frexp scalars_and_vectors floats
-rules_of f.Distance = regular_rules 2 gives.Scalar scalars_and_vectors floats
-rules_of f.FaceForward = regular_rules 3 gives.ArgumentType vectors floats
-rules_of f.Reflect = regular_rules 2 gives.ArgumentType vectors floats
+rules_of f.Modf = regular_rules 1 gives.Modf scalars_and_vectors all_floats
+rules_of f.Frexp = regular_rules 1 gives.Frexp scalars_and_vectors all_floats
+rules_of f.Distance = regular_rules 2 gives.Scalar scalars_and_vectors all_floats
+rules_of f.FaceForward = regular_rules 3 gives.ArgumentType vectors all_floats
+rules_of f.Reflect = regular_rules 2 gives.ArgumentType vectors all_floats
 rules_of f.Ldexp = ldexp_rules
 rules_of f.Outer = outer_rules
 rules_of f.Refract = refract_rules

@@ -9,6 +9,7 @@ pub mod Counts
 pub mod ListForms
 pub mod ListSet
 pub mod NarrowLaws
+pub mod Rank
 pub mod Regular
 pub mod Remaining
 pub mod Resolutions

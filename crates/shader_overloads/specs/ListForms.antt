@@ -7,11 +7,11 @@ use Rattle.shader_overloads.specs.declared.constructor_set.ConstructorSize.TheVa
 use Rattle.shader_overloads.specs.declared.list_forms.ListForm.{ListForm}
 use Rattle.shader_overloads.specs.declared.list_forms.ListForm.TheVariants as forms
 use Rattle.shader_overloads.specs.declared.rule.Rule.{Rule}
-use Rattle.shader_overloads.specs.Builtins.{rule, i32, u32}
+use Rattle.shader_overloads.specs.Builtins.{exponent_of, rule, u32}
 use Rattle.shader_overloads.specs.Constructors.{to_inner}
 
 abbrev pub rows : ListForm → ConstructorSize → Scalar → List Rule
-rows forms.Ldexp size s = rule (to_inner size s ∷ to_inner size i32 ∷ []) (to_inner size s) ∷ []
+rows forms.Ldexp size s = rule (to_inner size s ∷ to_inner size (exponent_of s) ∷ []) (to_inner size s) ∷ []
 rows forms.Outer (sizes.Matrix m n) s = rule (types.Vector m s ∷ types.Vector n s ∷ []) (types.Matrix m n s) ∷ []
 rows forms.Outer _ s = []
 rows forms.Refract size s = rule (to_inner size s ∷ to_inner size s ∷ types.Scalar s ∷ []) (to_inner size s) ∷ []

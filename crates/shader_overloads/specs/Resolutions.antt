@@ -6,6 +6,7 @@ use Rattle.shader_ir.specs.declared.«module».PredeclaredType.{PredeclaredType}
 use Rattle.shader_ir.specs.declared.«module».SpecialTypes.{SpecialTypes}
 use Rattle.shader_ir.specs.declared.proc.type_resolution.TypeResolution.{TypeResolution}
 use Rattle.shader_ir.specs.declared.proc.type_resolution.TypeResolution.TheVariants as resolutions
+use Rattle.shader_ir.specs.Shapes.{HoldsNoMembers}
 use Rattle.shader_overloads.specs.declared.rule.Conclusion.{Conclusion}
 use Rattle.shader_overloads.specs.declared.rule.Conclusion.TheVariants.{Value, Predeclared}
 
@@ -19,6 +20,11 @@ registered special predeclared = lookup (same_predeclared predeclared) special.p
 abbrev pub found_resolution : Option ℕ → Option TypeResolution
 found_resolution (Some handle) = Some (resolutions.Handle handle)
 found_resolution None = None
+
+-- the conclusion is no free-standing struct
+abbrev pub ConcludesNoMembers : Conclusion → Type 0
+ConcludesNoMembers (Value inner) = HoldsNoMembers inner
+ConcludesNoMembers (Predeclared predeclared) = Unit {0}
 
 -- the type that a conclusion stands for, where the module has it
 abbrev pub resolution_of : SpecialTypes → Conclusion → Option TypeResolution

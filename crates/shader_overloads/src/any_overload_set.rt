@@ -47,7 +47,7 @@ impl OverloadSet for AnyOverloadSet {
                 Ok(AnyOverloadSet::List(set))
             }
             AnyOverloadSet::Regular(regular) => {
-                let set = OverloadSet::copy(regular, alloc)?;
+                let set = regular.copy(alloc)?;
                 Ok(AnyOverloadSet::Regular(set))
             }
         }
@@ -87,7 +87,7 @@ impl OverloadSet for AnyOverloadSet {
                 Ok(AnyOverloadSet::List(set))
             }
             AnyOverloadSet::Regular(regular) => {
-                let set = OverloadSet::arg(regular, alloc, i, ty, types)?;
+                let set = regular.arg(alloc, i, ty, types)?;
                 Ok(AnyOverloadSet::Regular(set))
             }
         }
@@ -96,7 +96,10 @@ impl OverloadSet for AnyOverloadSet {
     fn concrete_only(self, types: &UniqueArena<Type, mark::Type>) -> AnyOverloadSet {
         match self {
             AnyOverloadSet::List(list) => AnyOverloadSet::List(list.concrete_only(types)),
-            AnyOverloadSet::Regular(regular) => AnyOverloadSet::Regular(regular.concrete_only()),
+            AnyOverloadSet::Regular(regular) => {
+                let set = regular.concrete_only(types);
+                AnyOverloadSet::Regular(set)
+            }
         }
     }
 
@@ -110,7 +113,7 @@ impl OverloadSet for AnyOverloadSet {
     fn overload_list(&self, alloc: Global, gctx: GlobalCtx<'_>) -> Result<Vec<Rule>, AllocError> {
         match self {
             AnyOverloadSet::List(list) => list.overload_list(alloc, gctx),
-            AnyOverloadSet::Regular(regular) => regular.overload_list(alloc),
+            AnyOverloadSet::Regular(regular) => regular.overload_list(alloc, gctx),
         }
     }
 }

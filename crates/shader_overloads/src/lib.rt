@@ -17,7 +17,7 @@ pub mod utils;
 
 pub use any_overload_set::AnyOverloadSet;
 pub use constructor_set::{ConstructorMembers, ConstructorSet, ConstructorSize};
-pub use list::List;
+pub use list::{List, rules_fit};
 pub use mathfunction::MathOverloads;
 pub use one_bits_iter::OneBitsIter;
 pub use overload_set::{OverloadSet, SetCall, narrow};

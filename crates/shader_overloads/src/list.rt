@@ -2,11 +2,11 @@
 ghost use Rattle.std.specs.Prelude.{◌≡◌, ◌≢◌, ◌↔◌, ◌≤◌, ◌<◌, ◌==◌, ◌||◌, [], ℕ, All, Any, IsTrue, IfOk, Some, ◌&&◌, filter, length, nat_lt, slice_get};
 ghost use Rattle.std.specs.List.{list_all};
 ghost use Rattle.shader_overloads.specs.declared.rule.Rule.{Rule};
-ghost use Rattle.shader_ir.specs.Key.{inner_of};
+ghost use Rattle.shader_ir.specs.Key.{IsNoStruct, inner_of};
 ghost use Rattle.shader_ir.specs.TypeTree.{IsBackward, PointsBelow};
 ghost use Rattle.shader_overloads.specs.Bits.{IsWithin, has_bit, items_where};
 ghost use Rattle.shader_overloads.specs.Counts.{IsGreatestCount, IsLeastCount};
-ghost use Rattle.shader_overloads.specs.Remaining.{ArgumentFits, MembersFit, RuleFits, has_concrete_arguments, has_no_struct, is_concrete, is_free_struct, list_accepts, some_list_takes};
+ghost use Rattle.shader_overloads.specs.Remaining.{ArgumentFits, MembersFit, RuleFits, RulesFit, has_concrete_arguments, has_no_struct, is_concrete, is_free_struct, list_accepts, some_list_takes};
 
 use crate::{OverloadSet, Rule};
 use shader_arena::UniqueArena;
@@ -53,7 +53,7 @@ impl List {
     }
 
     /// All of the rules, in their order.
-    pub fn from_rules(rules: Vec<Rule>) -> Result<List, AllocError>
+    pub fn from_rules(_alloc: Global, rules: Vec<Rule>) -> Result<List, AllocError>
         requires count { length rules.items ≤ 63 }
         requires no_struct { IsTrue (list_all has_no_struct rules.items) }
         ensures { IfOk result (λ set. set ≡ rules.items) }
@@ -88,6 +88,45 @@ fn is_free_struct(argument: &TypeResolution) -> bool
         TypeResolution::Handle(_) => false,
         TypeResolution::Value(inner) => matches!(inner, TypeInner::Struct { .. }),
     }
+}
+
+/// Whether rules fit an arena of types: each handle of their arguments is in range, and no argument is a struct.
+///
+/// Sets ask it before they read the arena. `MathOverloads::overloads` and [`crate::Regular::new`] promise it of their rules.
+pub fn rules_fit(rules: &[Rule], types: &UniqueArena<Type, mark::Type>) -> bool
+    ensures { IsTrue result ↔ RulesFit types.now rules.now }
+{
+    all_fit(rules, types)
+}
+
+fn all_fit(rules: &[Rule], types: &UniqueArena<Type, mark::Type>) -> bool
+    ensures { IsTrue result ↔ All (RuleFits types.now) rules.now }
+{
+    rules.iter().all(|rule| rule_fits(rule, types))
+}
+
+fn rule_fits(rule: &Rule, types: &UniqueArena<Type, mark::Type>) -> bool
+    ensures { IsTrue result ↔ RuleFits types.now rule.now }
+{
+    rule.arguments
+        .as_slice()
+        .iter()
+        .all(|argument| argument_fits(argument, types))
+}
+
+fn argument_fits(argument: &TypeResolution, types: &UniqueArena<Type, mark::Type>) -> bool
+    ensures { IsTrue result ↔ ArgumentFits types.now argument.now }
+{
+    if !argument.fits(types) {
+        return false;
+    }
+    is_no_struct(argument.inner_with(types))
+}
+
+fn is_no_struct(inner: &TypeInner) -> bool
+    ensures { IsTrue result ↔ IsNoStruct inner.now }
+{
+    !matches!(inner, TypeInner::Struct { .. })
 }
 
 impl OverloadSet for List {

@@ -1,12 +1,12 @@
 //! The rules of the builtins whose overload sets are lists.
 ghost use Rattle.std.specs.Prelude.{◌≡◌, ◌++◌, ◌∷◌, [], IfOk, OnOk};
 ghost use Rattle.std.specs.List.{flat_map};
-ghost use Rattle.shader_overloads.specs.Builtins.{rule};
+ghost use Rattle.shader_overloads.specs.Builtins.{exponent_of, rule, u32};
 ghost use Rattle.shader_overloads.specs.ListForms.{rows};
 
 use crate::utils::{pairs, rule};
 use crate::{ConstructorSize, Rule};
-use shader_ir::{Scalar, TypeInner};
+use shader_ir::{Scalar, ScalarKind, TypeInner};
 use std::alloc::{AllocError, Global};
 
 /// A builtin whose overload set is a list.
@@ -67,7 +67,7 @@ fn push_rows(
     let first = size.to_inner(scalar);
     match form {
         ListForm::Ldexp => {
-            let exponent = size.to_inner(Scalar::I32);
+            let exponent = size.to_inner(exponent_of(scalar));
             push_rule(alloc, rules, &[first, exponent], ret)
         }
         ListForm::Outer => push_outer(alloc, rules, size, scalar),
@@ -87,6 +87,20 @@ fn push_rows(
             push_rule(alloc, rules, &[first, bits, unsigned(), unsigned()], ret)
         }
         ListForm::Mix => push_mix(alloc, rules, size, scalar),
+    }
+}
+
+/// The scalar of the exponent of a float.
+fn exponent_of(scalar: Scalar) -> Scalar
+    ensures { result ≡ exponent_of scalar }
+{
+    match scalar.kind {
+        ScalarKind::AbstractFloat => Scalar::ABSTRACT_INT,
+        ScalarKind::Sint
+        | ScalarKind::Uint
+        | ScalarKind::Float
+        | ScalarKind::Bool
+        | ScalarKind::AbstractInt => Scalar::I32,
     }
 }
 
@@ -164,7 +178,7 @@ fn push_mix(
 }
 
 fn unsigned() -> TypeInner
-    ensures { result ≡ TypeInner.Scalar Scalar.U32 }
+    ensures { result ≡ TypeInner.Scalar u32 }
 {
     TypeInner::Scalar(Scalar::U32)
 }

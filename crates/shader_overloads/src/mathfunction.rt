@@ -1,5 +1,5 @@
 //! The overload sets of the builtin functions.
-ghost use Rattle.std.specs.Prelude.{◌≡◌, ◌<◌, List, Bool, ℕ, IfOk, not};
+ghost use Rattle.std.specs.Prelude.{◌≡◌, ◌<◌, List, Bool, false, ℕ, IfOk, IsOk, not};
 ghost use Rattle.shader_ir.specs.declared.types.«Type».{«Type»};
 ghost use Rattle.shader_ir.specs.declared.types.TypeInner.{TypeInner};
 ghost use Rattle.shader_overloads.specs.declared.rule.Rule.{Rule};
@@ -135,15 +135,14 @@ fn geometric_set(function: MathFunction) -> Option<Regular>
     use MathFunction as Mf;
     use ScalarSet as Ss;
 
-    let concrete = Ss::FLOAT_ABSTRACT_UNIMPLEMENTED;
     match function {
         Mf::Dot => Some(Regular::new(2, Cs::VECN, Ss::NUMERIC, Cr::Scalar)),
         Mf::Cross => Some(Regular::new(2, Cs::VEC3, Ss::FLOAT, Cr::ArgumentType)),
-        Mf::Distance => Some(Regular::new(2, Cs::SCALAR_OR_VECN, concrete, Cr::Scalar)),
+        Mf::Distance => Some(Regular::new(2, Cs::SCALAR_OR_VECN, Ss::FLOAT, Cr::Scalar)),
         Mf::Length => Some(Regular::new(1, Cs::SCALAR_OR_VECN, Ss::FLOAT, Cr::Scalar)),
         Mf::Normalize => Some(Regular::new(1, Cs::VECN, Ss::FLOAT, Cr::ArgumentType)),
-        Mf::FaceForward => Some(Regular::new(3, Cs::VECN, concrete, Cr::ArgumentType)),
-        Mf::Reflect => Some(Regular::new(2, Cs::VECN, concrete, Cr::ArgumentType)),
+        Mf::FaceForward => Some(Regular::new(3, Cs::VECN, Ss::FLOAT, Cr::ArgumentType)),
+        Mf::Reflect => Some(Regular::new(2, Cs::VECN, Ss::FLOAT, Cr::ArgumentType)),
         _ => None,
     }
 }
@@ -173,11 +172,11 @@ fn splitting_set(function: MathFunction) -> Option<Regular>
     use ConclusionRule as Cr;
     use ConstructorSet as Cs;
     use MathFunction as Mf;
+    use ScalarSet as Ss;
 
-    let concrete = ScalarSet::FLOAT_ABSTRACT_UNIMPLEMENTED;
     match function {
-        Mf::Modf => Some(Regular::new(1, Cs::SCALAR_OR_VECN, concrete, Cr::Modf)),
-        Mf::Frexp => Some(Regular::new(1, Cs::SCALAR_OR_VECN, concrete, Cr::Frexp)),
+        Mf::Modf => Some(Regular::new(1, Cs::SCALAR_OR_VECN, Ss::FLOAT, Cr::Modf)),
+        Mf::Frexp => Some(Regular::new(1, Cs::SCALAR_OR_VECN, Ss::FLOAT, Cr::Frexp)),
         _ => None,
     }
 }
@@ -196,7 +195,7 @@ fn regular_set(function: MathFunction) -> Option<Regular>
 
 /// The overload sets of builtin functions.
 pub trait MathOverloads: Sized {
-    /// The rules that a call of the builtin may mean.
+    /// The rules that a call of the builtin may mean. Takes memory for those of a list alone.
     fn overloads(self, alloc: Global) -> Result<AnyOverloadSet, AllocError>;
 }
 
@@ -205,6 +204,7 @@ impl MathOverloads for MathFunction {
         ensures rules { IfOk result (λ set. rules_in set ≡ rules_of self) }
         ensures kind { IfOk result (λ set. ◌≡◌ {A = List «Type» → ℕ → TypeInner → Rule → Bool} (acceptance_in set) (acceptance_of self)) }
         ensures fits { (types : List «Type») → IfOk result (λ set. RulesFit types (rules_in set)) }
+        ensures found { is_listed self ≡ false → IsOk result }
     {
         match regular_set(self) {
             Some(set) => Ok(AnyOverloadSet::Regular(set)),

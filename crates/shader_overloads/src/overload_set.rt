@@ -7,7 +7,7 @@ ghost use Rattle.shader_ir.specs.TypeTree.{IsBackward, PointsBelow};
 ghost use Rattle.shader_overloads.specs.declared.rule.Rule.{Rule};
 ghost use Rattle.shader_overloads.specs.Counts.{arguments_at, IsGreatestCount, IsLeastCount};
 
-use crate::{Regular, Rule};
+use crate::Rule;
 use shader_arena::UniqueArena;
 use shader_ir::{GlobalCtx, Type, TypeInner, TypeResolution, mark};
 use std::alloc::{AllocError, Global};
@@ -53,14 +53,16 @@ pub trait OverloadSet: Sized + Drop {
         requires ty_in { PointsBelow (length types.now) ty.now }
         requires fits { RulesFit types.now (rules self.now) }
         ensures rules { IfOk result (λ set. rules set ≡ filter (accepting self.now types.now i ty.now) (rules self.now)) }
-        ensures kind { IfOk result (λ set. accepting set ≡ accepting self.now) };
+        ensures kind { IfOk result (λ set. accepting set ≡ accepting self.now) }
+        ensures fits { IfOk result (λ set. RulesFit types.now (rules set)) };
 
     /// The rules without abstract arguments.
     fn concrete_only(self, types: &UniqueArena<Type, mark::Type>) -> Self
         requires backward { IsBackward types.now }
         requires fits { RulesFit types.now (rules self) }
         ensures rules { rules result ≡ filter (has_concrete_arguments types.now) (rules self) }
-        ensures kind { accepting result ≡ accepting self };
+        ensures kind { accepting result ≡ accepting self }
+        ensures fits { RulesFit types.now (rules result) };
 
     /// The first rule.
     fn most_preferred(&self, alloc: Global) -> Result<Rule, AllocError>
@@ -71,15 +73,22 @@ pub trait OverloadSet: Sized + Drop {
     fn overload_list(&self, alloc: Global, gctx: GlobalCtx<'_>) -> Result<Vec<Rule>, AllocError>
         ensures { IfOk result (λ list. list.items ≡ rules self.now) };
 
-    /// The types of argument `i`, of the rules that have one, in their order.
+    /// The types of argument `i`, of the rules that have one, in their order. Takes no memory where none has one.
     fn allowed_args(
         &self,
         alloc: Global,
         i: usize,
         gctx: GlobalCtx<'_>,
     ) -> Result<Vec<TypeResolution>, AllocError>
-        ensures { IfOk result (λ allowed. allowed.items ≡ arguments_at i (rules self.now)) }
+        ensures arguments { IfOk result (λ allowed. allowed.items ≡ arguments_at i (rules self.now)) }
+        ensures none { arguments_at i (rules self.now) ≡ [] → IsOk result }
     {
+        if self.is_empty() {
+            return Ok(Vec::new(alloc));
+        }
+        if i >= self.max_arguments() {
+            return Ok(Vec::new(alloc));
+        }
         let rules = self.overload_list(alloc, gctx)?;
         copy_arguments_at(alloc, rules.as_slice(), i)
     }
@@ -118,65 +127,6 @@ fn push_argument(
     }
 }
 
-impl OverloadSet for Regular {
-    ghost use Rattle.shader_overloads.specs.Remaining.{accepts, has_concrete_arguments};
-
-    ghost rules = { λ set. set };
-
-    ghost accepting = { λ _. accepts };
-
-    /// Takes no memory.
-    fn copy(&self, _alloc: Global) -> Result<Self, AllocError>
-        ensures found { IsOk result }
-        ensures rules { IfOk result (λ set. set ≡ self.now) }
-        ensures kind { IfOk result (λ _. ◌≡◌ {A = List «Type» → ℕ → TypeInner → Rule → Bool} accepts accepts) }
-    {
-        Ok(self.copy())
-    }
-
-    fn is_empty(&self) -> bool {
-        self.is_empty()
-    }
-
-    fn min_arguments(&self) -> usize {
-        self.min_arguments()
-    }
-
-    fn max_arguments(&self) -> usize {
-        self.max_arguments()
-    }
-
-    /// Takes no memory.
-    fn arg(
-        &self,
-        _alloc: Global,
-        i: usize,
-        ty: &TypeInner,
-        types: &UniqueArena<Type, mark::Type>,
-    ) -> Result<Self, AllocError>
-        ensures found { IsOk result }
-        ensures rules { IfOk result (λ set. set ≡ filter (accepts types.now i ty.now) self.now) }
-        ensures kind { IfOk result (λ _. ◌≡◌ {A = List «Type» → ℕ → TypeInner → Rule → Bool} accepts accepts) }
-    {
-        Ok(self.arg(i, ty))
-    }
-
-    fn concrete_only(self, types: &UniqueArena<Type, mark::Type>) -> Self
-        ensures rules { result ≡ filter (has_concrete_arguments types.now) self }
-        ensures kind { ◌≡◌ {A = List «Type» → ℕ → TypeInner → Rule → Bool} accepts accepts }
-    {
-        self.concrete_only()
-    }
-
-    fn most_preferred(&self, alloc: Global) -> Result<Rule, AllocError> {
-        self.most_preferred(alloc)
-    }
-
-    fn overload_list(&self, alloc: Global, _gctx: GlobalCtx<'_>) -> Result<Vec<Rule>, AllocError> {
-        self.overload_list(alloc)
-    }
-}
-
 /// One step of narrowing a set.
 #[derive(Drop)]
 pub enum SetCall {
@@ -200,6 +150,7 @@ pub fn narrow<S: OverloadSet>(
     requires rules_fit { RulesFit types.now (S.rules set) }
     ensures rules { IfOk result (λ left. S.rules left ≡ remaining (S.accepting set) types.now calls.now (S.rules set)) }
     ensures kind { IfOk result (λ left. S.accepting left ≡ S.accepting set) }
+    ensures fits { IfOk result (λ left. RulesFit types.now (S.rules left)) }
 {
     let mut left = set;
     for call in calls {

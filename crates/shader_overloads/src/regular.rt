@@ -1,15 +1,17 @@
 //! Overload sets that hold a rule for each combination of some constructors and some scalars.
-ghost use Rattle.std.specs.Prelude.{◌≡◌, ◌≢◌, ◌↔◌, ◌⊎◌, ◌<◌, ◌++◌, [], IsTrue, IfOk, OnOk, Some, filter, map, replicate, slice_get};
+ghost use Rattle.std.specs.Prelude.{◌≡◌, ◌⊎◌, ◌<◌, ◌++◌, [], IsOk, IsTrue, IfOk, OnOk, Some, filter, map, replicate, slice_get};
 ghost use Rattle.std.specs.List.{list_all};
 ghost use Rattle.shader_ir.specs.declared.proc.type_resolution.TypeResolution.TheVariants as resolutions;
 ghost use Rattle.shader_overloads.specs.Constructors.{constructors_in, to_inner};
 ghost use Rattle.shader_overloads.specs.ScalarSets.{scalars_in};
 ghost use Rattle.shader_overloads.specs.Remaining.{leaf_scalar};
-ghost use Rattle.shader_overloads.specs.Counts.{IsLeastCount, IsGreatestCount};
 ghost use Rattle.shader_overloads.specs.Rules.{regular_rules, rule_for, conclusion_of, can_conclude};
 
-use crate::{Conclusion, ConstructorSet, ConstructorSize, Rule, ScalarSet};
-use shader_ir::{Items, MathFunction, Scalar, TypeInner, TypeResolution, VectorSize};
+use crate::{Conclusion, ConstructorSet, ConstructorSize, OverloadSet, Rule, ScalarSet};
+use shader_arena::UniqueArena;
+use shader_ir::{
+    GlobalCtx, Items, MathFunction, Scalar, Type, TypeInner, TypeResolution, VectorSize, mark,
+};
 use std::alloc::{AllocError, Global};
 use std::marker::Model;
 
@@ -39,9 +41,9 @@ impl Model for Regular {
 }
 
 impl Regular {
-    ghost use Rattle.shader_overloads.specs.Remaining.{accepts, has_concrete_arguments};
-    ghost use Rattle.shader_ir.specs.declared.types.«Type».{«Type»};
     ghost use Rattle.std.specs.Prelude.{List};
+    ghost use Rattle.shader_ir.specs.declared.types.«Type».{«Type»};
+    ghost use Rattle.shader_overloads.specs.Remaining.{RulesFit, accepts};
 
     /// The set without rules.
     pub const EMPTY: Regular = Regular {
@@ -60,7 +62,8 @@ impl Regular {
     ) -> Regular
         requires arity { (0 < arity) ⊎ ((constructors_in constructors ≡ []) ⊎ (scalars_in scalars ≡ [])) }
         requires conclude { IsTrue (list_all (can_conclude conclude) (constructors_in constructors)) }
-        ensures { result ≡ regular_rules arity conclude (constructors_in constructors) (scalars_in scalars) }
+        ensures rules { result ≡ regular_rules arity conclude (constructors_in constructors) (scalars_in scalars) }
+        ensures fits { (types : List «Type») → RulesFit types result }
     {
         Self {
             arity,
@@ -78,43 +81,10 @@ impl Regular {
         Self::EMPTY
     }
 
-    /// An equal set.
-    pub fn copy(&self) -> Regular
-        ensures { result ≡ self.now }
-    {
-        Regular {
-            arity: self.arity,
-            constructors: self.constructors,
-            scalars: self.scalars,
-            conclude: self.conclude,
-        }
-    }
-
-    /// The number of arguments of each rule.
-    pub fn min_arguments(&self) -> usize
-        requires { self.now ≢ [] }
-        ensures { IsLeastCount result self.now }
-    {
-        self.arity
-    }
-
-    /// The number of arguments of each rule.
-    pub fn max_arguments(&self) -> usize
-        requires { self.now ≢ [] }
-        ensures { IsGreatestCount result self.now }
-    {
-        self.arity
-    }
-
-    pub fn is_empty(&self) -> bool
-        ensures { IsTrue result ↔ (self.now ≡ []) }
-    {
-        self.constructors.is_empty() || self.scalars.is_empty()
-    }
-
     /// The rules that take a value of the type as argument `i`.
-    pub fn arg(&self, i: usize, ty: &TypeInner) -> Regular
-        ensures { (types : List «Type») → result ≡ filter (accepts types i ty.now) self.now }
+    fn taking(&self, i: usize, ty: &TypeInner) -> Regular
+        ensures rules { (types : List «Type») → result ≡ filter (accepts types i ty.now) self.now }
+        ensures fits { (types : List «Type») → RulesFit types result }
     {
         if i >= self.arity {
             return Regular::empty();
@@ -129,10 +99,65 @@ impl Regular {
             conclude: self.conclude,
         }
     }
+}
 
-    /// The rules without abstract arguments.
-    pub fn concrete_only(self) -> Regular
-        ensures { (types : List «Type») → result ≡ filter (has_concrete_arguments types) self }
+impl OverloadSet for Regular {
+    ghost use Rattle.std.specs.Prelude.{List, ℕ, Bool};
+    ghost use Rattle.shader_ir.specs.declared.types.«Type».{«Type»};
+    ghost use Rattle.shader_ir.specs.declared.types.TypeInner.{TypeInner};
+    ghost use Rattle.shader_overloads.specs.declared.rule.Rule.{Rule};
+    ghost use Rattle.shader_overloads.specs.Remaining.{RulesFit, accepts, has_concrete_arguments};
+
+    ghost rules = { λ set. set };
+
+    ghost accepting = { λ _. accepts };
+
+    /// Takes no memory.
+    fn copy(&self, _alloc: Global) -> Result<Regular, AllocError>
+        ensures found { IsOk result }
+        ensures rules { IfOk result (λ set. set ≡ self.now) }
+        ensures kind { IfOk result (λ _. ◌≡◌ {A = List «Type» → ℕ → TypeInner → Rule → Bool} accepts accepts) }
+    {
+        Ok(Regular {
+            arity: self.arity,
+            constructors: self.constructors,
+            scalars: self.scalars,
+            conclude: self.conclude,
+        })
+    }
+
+    fn is_empty(&self) -> bool {
+        self.constructors.is_empty() || self.scalars.is_empty()
+    }
+
+    fn min_arguments(&self) -> usize {
+        self.arity
+    }
+
+    fn max_arguments(&self) -> usize {
+        self.arity
+    }
+
+    /// Takes no memory.
+    fn arg(
+        &self,
+        _alloc: Global,
+        i: usize,
+        ty: &TypeInner,
+        types: &UniqueArena<Type, mark::Type>,
+    ) -> Result<Regular, AllocError>
+        ensures found { IsOk result }
+        ensures rules { IfOk result (λ set. set ≡ filter (accepts types.now i ty.now) self.now) }
+        ensures kind { IfOk result (λ _. ◌≡◌ {A = List «Type» → ℕ → TypeInner → Rule → Bool} accepts accepts) }
+        ensures fits { IfOk result (λ set. RulesFit types.now set) }
+    {
+        Ok(self.taking(i, ty))
+    }
+
+    fn concrete_only(self, types: &UniqueArena<Type, mark::Type>) -> Regular
+        ensures rules { result ≡ filter (has_concrete_arguments types.now) self }
+        ensures kind { ◌≡◌ {A = List «Type» → ℕ → TypeInner → Rule → Bool} accepts accepts }
+        ensures fits { RulesFit types.now result }
     {
         let Regular {
             arity,
@@ -148,20 +173,13 @@ impl Regular {
         }
     }
 
-    /// The first rule.
-    pub fn most_preferred(&self, alloc: Global) -> Result<Rule, AllocError>
-        requires { self.now ≢ [] }
-        ensures { IfOk result (λ rule. slice_get self.now 0 ≡ Some rule) }
-    {
+    fn most_preferred(&self, alloc: Global) -> Result<Rule, AllocError> {
         let size = self.constructors.first_size();
         let scalar = self.scalars.most_general_scalar();
         make_rule(alloc, self.arity, size, scalar, self.conclude)
     }
 
-    /// All rules.
-    pub fn overload_list(&self, alloc: Global) -> Result<Vec<Rule>, AllocError>
-        ensures { IfOk result (λ rules. rules.items ≡ self.now) }
-    {
+    fn overload_list(&self, alloc: Global, _gctx: GlobalCtx<'_>) -> Result<Vec<Rule>, AllocError> {
         list_rules(
             alloc,
             self.arity,

@@ -1,6 +1,6 @@
 //! Rules: the types that a builtin function takes, and what it gives for them.
-ghost use Rattle.std.specs.Prelude.{◌≡◌, ◌⊎◌, IfOk, IsTrue, OnErr, None, Some};
-ghost use Rattle.shader_overloads.specs.Resolutions.{resolution_of};
+ghost use Rattle.std.specs.Prelude.{◌≡◌, ◌⊎◌, IfOk, IsOk, IsTrue, OnErr, None, Some};
+ghost use Rattle.shader_overloads.specs.Resolutions.{ConcludesNoMembers, resolution_of};
 ghost use Rattle.shader_overloads.specs.Rules.{is_scalar_or_vector, vector_size};
 
 use crate::ConstructorSize;
@@ -70,9 +70,10 @@ impl Conclusion {
         }
     }
 
-    /// The same conclusion again.
+    /// The same conclusion again. Takes memory for the members of a struct alone.
     pub fn copy(&self, alloc: Global) -> Result<Conclusion, AllocError>
-        ensures { IfOk result (λ conclusion. conclusion ≡ self.now) }
+        ensures copy { IfOk result (λ conclusion. conclusion ≡ self.now) }
+        ensures ok { ConcludesNoMembers self.now → IsOk result }
     {
         match self {
             Conclusion::Value(inner) => Ok(Conclusion::Value(inner.copy(alloc)?)),

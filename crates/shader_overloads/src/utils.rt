@@ -1,5 +1,5 @@
 //! What the lists of rules are made with.
-ghost use Rattle.std.specs.Prelude.{◌≡◌, ◌≤◌, IfOk, IsTrue, length, map};
+ghost use Rattle.std.specs.Prelude.{⊤, ◌≡◌, ◌≤◌, IfOk, IsTrue, length, map};
 ghost use Rattle.std.specs.List.{list_all};
 ghost use Rattle.std.specs.Iterator.{YieldsFirst, item_count};
 ghost use Rattle.shader_ir.specs.declared.proc.type_resolution.TypeResolution.TheVariants as resolutions;
@@ -41,12 +41,12 @@ fn values(alloc: Global, inners: &[TypeInner]) -> Result<Items<TypeResolution>, 
 }
 
 /// A list of these rules.
-pub fn list(rules: Vec<Rule>) -> Result<List, AllocError>
+pub fn list(alloc: Global, rules: Vec<Rule>) -> Result<List, AllocError>
     requires count { length rules.items ≤ 63 }
     requires no_struct { IsTrue (list_all has_no_struct rules.items) }
     ensures { IfOk result (λ set. set ≡ rules.items) }
 {
-    List::from_rules(rules)
+    List::from_rules(alloc, rules)
 }
 
 /// The floating-point scalars, with that of 32 bits before the others, since calls prefer it.
@@ -109,6 +109,16 @@ impl Model for FloatScalars {
     ghost Value = { List Scalar };
 
     ghost view = { λ scalars. scalars.left.now };
+}
+
+impl Clone for FloatScalars {
+    ghost is_clone = { λ scalars copy. copy ≡ scalars };
+
+    ghost is_infallible = { λ _. ⊤ };
+
+    fn clone(&self) -> Result<FloatScalars, AllocError> {
+        Ok(FloatScalars { left: self.left })
+    }
 }
 
 impl Iterator for FloatScalars {

@@ -1,10 +1,12 @@
 -- A spelled type in an arena of its own, and its layout there.
 use Rattle.std.proofs.Common.{◌≡◌, ℕ, zero, suc, ◌≤◌, ◌∙◌, List, [], ◌∷◌, Option, Some, None, length, map, refl, sym, subst, ap, arith}
-use Rattle.std.specs.Prelude.{slice_get}
+use Rattle.std.specs.Prelude.{All, slice_get}
 use Rattle.std.specs.Option.{option_map, option_or}
+use Rattle.std.proofs.lemmas.List.Elements.{All-cons, All-nil}
 use Rattle.std.proofs.lemmas.Option.{same_Some}
 use Rattle.shader_arena.specs.Unique.{place_of, with_item}
 use Rattle.shader_ir.specs.Layout.{AreFaultless, AreFirstLayouts, IsRefusalAt, fault_at, layout_fault, layout_of, layouts_of}
+use Rattle.shader_ir.specs.Sizes.{AreTypeSizesInRange, IsTypeSizeInRange}
 use Rattle.shader_ir.specs.TypeTree.{tree_of}
 use Rattle.shader_ir.specs.contracts.types.TypePartialEq.TheImpl as type
 use Rattle.shader_ir.specs.declared.module.GlobalCtx.{GlobalCtx}
@@ -55,6 +57,25 @@ place_laid spelled old inner place placed is at =
     ∙ ap (λ ts. place_of type.ghosts.eq ts (unnamed inner)) placed
     ∙ ap (λ i. place_of type.ghosts.eq (own_types spelled) (unnamed i)) is
     ∙ type_last spelled
+
+-- ---- no size rests on what a module has yet to tell
+
+plain_in_range : (ctx : GlobalCtx) (plain : PlainType) → IsTypeSizeInRange ctx (inner_of plain)
+plain_in_range ctx (Scalar scalar) = tt
+plain_in_range ctx (Vector size scalar) = tt
+plain_in_range ctx (Matrix columns rows scalar) = tt
+
+abbrev InRange : GlobalCtx → «Type» → Type 0
+InRange ctx t = IsTypeSizeInRange ctx t.inner
+
+laid_in_range : (ctx : GlobalCtx) (spelled : SpelledType) → All (InRange ctx) (laid_types spelled)
+laid_in_range ctx (Plain plain) = All-cons (InRange ctx) (unnamed (inner_of plain)) [] (plain_in_range ctx plain) (All-nil (InRange ctx))
+laid_in_range ctx (Array base count stride) =
+    let array = unnamed (own_inner (Array base count stride)) in
+    All-cons (InRange ctx) (unnamed (inner_of base)) (array ∷ []) (plain_in_range ctx base) (All-cons (InRange ctx) array [] tt (All-nil (InRange ctx)))
+
+pub sizes_in_range : (ctx : GlobalCtx) (spelled : SpelledType) → ctx.types.now ≡ laid_types spelled → AreTypeSizesInRange ctx
+sizes_in_range ctx spelled is = subst (All (InRange ctx)) (sym is) (laid_in_range ctx spelled)
 
 -- ---- what one arena tells, all tell
 

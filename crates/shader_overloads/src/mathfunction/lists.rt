@@ -4,7 +4,7 @@ ghost use Rattle.shader_overloads.specs.Builtins.{extract_bits_rules, insert_bit
 ghost use Rattle.shader_overloads.specs.BuiltinGroups.{is_listed};
 
 use crate::list_forms::{ListForm, by_scalar, by_size};
-use crate::utils::{CONCRETE_FLOAT_SCALARS, FLOAT_SCALARS, SCALAR_OR_VECN};
+use crate::utils::{FLOAT_SCALARS, SCALAR_OR_VECN};
 use crate::{ConstructorSize, list};
 use shader_ir::{MathFunction, Scalar, VectorSize};
 use std::alloc::{AllocError, Global};
@@ -84,29 +84,24 @@ static MATRICES: [ConstructorSize; 9] = [
 fn ldexp(alloc: Global) -> Result<list::List, AllocError>
     ensures { IfOk result (λ set. set ≡ ldexp_rules) }
 {
-    let rules = by_scalar(
-        alloc,
-        ListForm::Ldexp,
-        &CONCRETE_FLOAT_SCALARS,
-        &SCALAR_OR_VECN,
-    )?;
-    list::List::from_rules(rules)
+    let rules = by_scalar(alloc, ListForm::Ldexp, &FLOAT_SCALARS, &SCALAR_OR_VECN)?;
+    list::List::from_rules(alloc, rules)
 }
 
 /// Two vectors, of the columns' size and of the rows'.
 fn outer(alloc: Global) -> Result<list::List, AllocError>
     ensures { IfOk result (λ set. set ≡ outer_rules) }
 {
-    let rules = by_size(alloc, ListForm::Outer, &MATRICES, &CONCRETE_FLOAT_SCALARS)?;
-    list::List::from_rules(rules)
+    let rules = by_size(alloc, ListForm::Outer, &MATRICES, &FLOAT_SCALARS)?;
+    list::List::from_rules(alloc, rules)
 }
 
 /// Two vectors and a scalar.
 fn refract(alloc: Global) -> Result<list::List, AllocError>
     ensures { IfOk result (λ set. set ≡ refract_rules) }
 {
-    let rules = by_size(alloc, ListForm::Refract, &VECTORS, &CONCRETE_FLOAT_SCALARS)?;
-    list::List::from_rules(rules)
+    let rules = by_size(alloc, ListForm::Refract, &VECTORS, &FLOAT_SCALARS)?;
+    list::List::from_rules(alloc, rules)
 }
 
 /// A matrix.
@@ -114,7 +109,7 @@ fn transpose(alloc: Global) -> Result<list::List, AllocError>
     ensures { IfOk result (λ set. set ≡ transpose_rules) }
 {
     let rules = by_size(alloc, ListForm::Transpose, &MATRICES, &FLOAT_SCALARS)?;
-    list::List::from_rules(rules)
+    list::List::from_rules(alloc, rules)
 }
 
 /// Integers, an offset and a count.
@@ -122,7 +117,7 @@ fn extract_bits(alloc: Global) -> Result<list::List, AllocError>
     ensures { IfOk result (λ set. set ≡ extract_bits_rules) }
 {
     let rules = by_scalar(alloc, ListForm::ExtractBits, &INTEGERS, &SCALAR_OR_VECN)?;
-    list::List::from_rules(rules)
+    list::List::from_rules(alloc, rules)
 }
 
 /// Integers, more of them, an offset and a count.
@@ -130,7 +125,7 @@ fn insert_bits(alloc: Global) -> Result<list::List, AllocError>
     ensures { IfOk result (λ set. set ≡ insert_bits_rules) }
 {
     let rules = by_scalar(alloc, ListForm::InsertBits, &INTEGERS, &SCALAR_OR_VECN)?;
-    list::List::from_rules(rules)
+    list::List::from_rules(alloc, rules)
 }
 
 /// Two floats of one shape, and a third of it or a scalar.
@@ -138,5 +133,5 @@ fn mix(alloc: Global) -> Result<list::List, AllocError>
     ensures { IfOk result (λ set. set ≡ mix_rules) }
 {
     let rules = by_scalar(alloc, ListForm::Mix, &FLOAT_SCALARS, &SCALAR_OR_VECN)?;
-    list::List::from_rules(rules)
+    list::List::from_rules(alloc, rules)
 }

@@ -113,3 +113,52 @@ fn a_set_of_either_kind_is_told_alike(rt: HostRuntime) -> Result<(), Fail> {
     assert_eq!(rt; told.rules.len(), 3);
     Ok(())
 }
+
+/// Builtins with sets of many rules, and how many they have.
+static COUNTS: [(MathFunction, usize); 8] = [
+    (MathFunction::Max, 44),
+    (MathFunction::Ldexp, 16),
+    (MathFunction::Outer, 36),
+    (MathFunction::Refract, 12),
+    (MathFunction::Transpose, 36),
+    (MathFunction::ExtractBits, 24),
+    (MathFunction::InsertBits, 24),
+    (MathFunction::Mix, 32),
+];
+
+#[test]
+fn sets_of_many_rules_are_listed(rt: HostRuntime) -> Result<(), Fail> {
+    let arenas = Arenas::new(rt.alloc());
+    for (function, count) in &COUNTS {
+        let set = function.overloads(rt.alloc())?;
+        assert_eq!(rt; set.overload_list(rt.alloc(), arenas.ctx())?.len(), *count);
+    }
+    Ok(())
+}
+
+/// What is left of insertBits after four arguments.
+fn inserted(
+    rt: &impl Abort,
+    alloc: Global,
+    types: &UniqueArena<Type, mark::Type>,
+) -> Result<AnyOverloadSet, AllocError> {
+    assert!(rt; types_backward(types));
+    let calls = [
+        SetCall::Arg(0, inner((VEC2, Scalar::I16))),
+        SetCall::Arg(1, inner((VEC2, Scalar::ABSTRACT_INT))),
+        SetCall::Arg(2, inner((SCALAR, Scalar::ABSTRACT_INT))),
+        SetCall::Arg(3, inner((SCALAR, Scalar::U32))),
+    ];
+    let set = MathFunction::InsertBits.overloads(alloc)?;
+    narrow(alloc, set, &calls, types)
+}
+
+#[test]
+fn a_list_narrows_by_four_arguments(rt: HostRuntime) -> Result<(), Fail> {
+    let arenas = Arenas::new(rt.alloc());
+    let left = inserted(&rt, rt.alloc(), &arenas.types)?;
+    let told = tell_kind(rt.alloc(), &left, arenas.ctx())?.expect(&rt, "a rule is left");
+    assert!(rt; concludes(&told.preferred, (VEC2, Scalar::I16)));
+    assert!(rt; told.rules.len() == 1 && told.least == 4 && told.greatest == 4);
+    Ok(())
+}

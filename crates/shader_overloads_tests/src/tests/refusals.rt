@@ -114,7 +114,7 @@ fn one_rule<R: Abort>(rt: &R, alloc: Global) -> Result<AnyOverloadSet, AllocErro
     let mut rules = Vec::new(alloc);
     rules.push(made(alloc)?)?;
     assert!(rt; List::can_hold(rules.as_slice()));
-    Ok(AnyOverloadSet::List(List::from_rules(rules)?))
+    Ok(AnyOverloadSet::List(List::from_rules(alloc, rules)?))
 }
 
 fn one_rule_again_if_refused<R: Abort + Print>(rt: &R, alloc: Global) -> AnyOverloadSet {

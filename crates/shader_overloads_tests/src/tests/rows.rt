@@ -1,8 +1,9 @@
 //! Regular sets, narrowed by arguments in turn.
 
-use crate::tests::{MAT3X3, Made, SCALAR, VEC2, VEC3, concludes, inner, is_rule};
+use crate::tests::{Arenas, MAT3X3, Made, SCALAR, VEC2, VEC3, concludes, inner, is_rule};
+use shader_arena::UniqueArena;
 use shader_ir::Scalar;
-use shader_overloads::{ConclusionRule, ConstructorSet, Regular, ScalarSet};
+use shader_overloads::{ConclusionRule, ConstructorSet, OverloadSet, Regular, ScalarSet};
 use std::alloc::{AllocError, Global};
 use std::test::Fail;
 
@@ -97,6 +98,12 @@ fn of_two() -> Regular {
     )
 }
 
+/// The rules that take a value of the type as their first argument.
+fn after_one(alloc: Global, set: &Regular, made: Made) -> Result<Regular, AllocError> {
+    let types = UniqueArena::new(alloc);
+    set.arg(alloc, 0, &inner(made), &types)
+}
+
 /// Whether the preferred rule of the set concludes so, or the set is empty where none is wanted.
 fn prefers(alloc: Global, set: &Regular, wanted: Option<Made>) -> Result<bool, AllocError> {
     if set.is_empty() {
@@ -112,26 +119,28 @@ fn prefers(alloc: Global, set: &Regular, wanted: Option<Made>) -> Result<bool, A
 #[test]
 fn one_argument_narrows_scalars(rt: HostRuntime) -> Result<(), Fail> {
     let set = scalars_of_one();
-    let unsigned = set.arg(0, &inner((SCALAR, Scalar::U32)));
+    let unsigned = after_one(rt.alloc(), &set, (SCALAR, Scalar::U32))?;
     assert!(rt; prefers(rt.alloc(), &unsigned, Some((SCALAR, Scalar::U32)))?);
-    assert!(rt; set.arg(0, &inner((SCALAR, Scalar::BOOL))).is_empty());
+    assert!(rt; after_one(rt.alloc(), &set, (SCALAR, Scalar::BOOL))?.is_empty());
     Ok(())
 }
 
 #[test]
 fn one_argument_narrows_vectors(rt: HostRuntime) -> Result<(), Fail> {
     let set = of_one();
-    let double = set.arg(0, &inner((VEC3, Scalar::F64)));
+    let double = after_one(rt.alloc(), &set, (VEC3, Scalar::F64))?;
     assert!(rt; prefers(rt.alloc(), &double, Some((VEC3, Scalar::F64)))?);
-    assert!(rt; set.arg(0, &inner((VEC3, Scalar::BOOL))).is_empty());
-    assert!(rt; set.arg(0, &inner((MAT3X3, Scalar::F32))).is_empty());
+    assert!(rt; after_one(rt.alloc(), &set, (VEC3, Scalar::BOOL))?.is_empty());
+    assert!(rt; after_one(rt.alloc(), &set, (MAT3X3, Scalar::F32))?.is_empty());
     Ok(())
 }
 
 #[test]
 fn two_arguments_narrow(rt: HostRuntime) -> Result<(), Fail> {
     for row in &OF_TWO {
-        let left = of_two().arg(0, &inner(row.0)).arg(1, &inner(row.1));
+        let types = UniqueArena::new(rt.alloc());
+        let left = after_one(rt.alloc(), &of_two(), row.0)?;
+        let left = left.arg(rt.alloc(), 1, &inner(row.1), &types)?;
         assert!(rt; prefers(rt.alloc(), &left, row.2)?);
     }
     Ok(())
@@ -157,7 +166,8 @@ fn vectors_of_floats() -> Regular {
 
 #[test]
 fn rules_are_listed_by_constructors(rt: HostRuntime) -> Result<(), Fail> {
-    let rules = vectors_of_floats().overload_list(rt.alloc())?;
+    let arenas = Arenas::new(rt.alloc());
+    let rules = vectors_of_floats().overload_list(rt.alloc(), arenas.ctx())?;
     assert_eq!(rt; rules.len(), 4);
     for (rule, made) in rules.iter().zip(LISTED.iter()) {
         assert!(rt; is_rule(rule, *made, *made, *made));
@@ -172,8 +182,28 @@ fn nothing() -> Regular {
 
 #[test]
 fn a_copy_is_equal(rt: HostRuntime) -> Result<(), Fail> {
-    let copy = vectors_of_floats().copy();
-    assert_eq!(rt; copy.overload_list(rt.alloc())?.len(), 4);
+    let arenas = Arenas::new(rt.alloc());
+    let copy = vectors_of_floats().copy(rt.alloc())?;
+    assert_eq!(rt; copy.overload_list(rt.alloc(), arenas.ctx())?.len(), 4);
     assert!(rt; nothing().is_empty());
+    Ok(())
+}
+
+#[tactic(auto, unfolding(shader_overloads::specs::Constructors::all_constructors))]
+fn of_five() -> Regular {
+    Regular::new(
+        5,
+        ConstructorSet::SCALAR,
+        ScalarSet::F32,
+        ConclusionRule::ArgumentType,
+    )
+}
+
+#[test]
+fn a_fifth_argument_is_allowed_and_no_sixth(rt: HostRuntime) -> Result<(), Fail> {
+    let arenas = Arenas::new(rt.alloc());
+    let set = of_five();
+    assert_eq!(rt; set.allowed_args(rt.alloc(), 4, arenas.ctx())?.len(), 1);
+    assert!(rt; set.allowed_args(rt.alloc(), 5, arenas.ctx())?.is_empty());
     Ok(())
 }

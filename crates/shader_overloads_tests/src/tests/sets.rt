@@ -11,8 +11,14 @@ use std::test::Fail;
 
 #[test]
 fn bits_grow(rt: HostRuntime) -> Result<(), Fail> {
-    let masks: Vec<u64> = OneBitsIter::new(0b1010_0001).collect(rt.alloc())?;
-    assert_eq!(rt; masks.as_slice(), [1, 32, 128].as_slice());
+    let masks: Vec<u64> = OneBitsIter::new(21).collect(rt.alloc())?;
+    assert_eq!(rt; masks.as_slice(), [1, 4, 16].as_slice());
+    let masks: Vec<u64> = OneBitsIter::new(1729).collect(rt.alloc())?;
+    assert_eq!(rt; masks.as_slice(), [1, 64, 128, 512, 1024].as_slice());
+    let masks: Vec<u64> = OneBitsIter::new(1 << 63).collect(rt.alloc())?;
+    assert_eq!(rt; masks.as_slice(), [1 << 63].as_slice());
+    assert!(rt; OneBitsIter::new(0).next().is_none());
+    assert_eq!(rt; OneBitsIter::new(u64::MAX).count(), 64);
     Ok(())
 }
 
@@ -57,8 +63,10 @@ fn constructors_are_in_the_order_of_bits(rt: HostRuntime) -> Result<(), Fail> {
 
 #[test]
 fn scalars_come_in_the_order_of_preference(rt: HostRuntime) -> Result<(), Fail> {
-    let floats: Vec<Scalar> = float_scalars().collect(rt.alloc())?;
+    let scalars = float_scalars();
+    let floats: Vec<Scalar> = scalars.clone()?.collect(rt.alloc())?;
     assert_eq!(rt; floats[0], Scalar::ABSTRACT_FLOAT);
+    assert_eq!(rt; scalars.count(), 4);
     let floats: Vec<Scalar> = float_scalars_unimplemented_abstract().collect(rt.alloc())?;
     assert_eq!(rt;
         floats.as_slice(),
@@ -116,7 +124,7 @@ fn a_list_holds_its_rules(rt: HostRuntime) -> Result<(), Fail> {
     let mut rules = Vec::new(rt.alloc());
     rules.push(one_rule(rt.alloc())?)?;
     assert!(rt; List::can_hold(rules.as_slice()));
-    let set = List::from_rules(rules)?;
+    let set = List::from_rules(rt.alloc(), rules)?;
     assert_eq!(rt; OverloadSet::max_arguments(&set), 2);
     Ok(())
 }
@@ -126,7 +134,7 @@ fn a_list_is_made_of_its_rules(rt: HostRuntime) -> Result<(), Fail> {
     let mut rules = Vec::new(rt.alloc());
     rules.push(one_rule(rt.alloc())?)?;
     assert!(rt; List::can_hold(rules.as_slice()));
-    let set = list(rules)?;
+    let set = list(rt.alloc(), rules)?;
     assert_eq!(rt; OverloadSet::min_arguments(&set), 2);
     Ok(())
 }

@@ -1,5 +1,0 @@
-use Rattle.shader_overloads.proofs.CountLemmas.{greatest_count}
-use Rattle.shader_overloads.proofs.regular.Regular.max_arguments.Goals as goal
-
-pub returns : goal.returns
-returns c = greatest_count _ _ _ _ _ c.self.view_is c.requires
