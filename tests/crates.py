@@ -37,6 +37,11 @@ class Ran:
         self.said = "".join(f"{it}\n" for _, it in self.lines)
 
 
+def module_of(file):
+    """Returns the module of a source file as a path, empty for the crate's root."""
+    return re.sub(r"^(lib|main)$", "", file[len("src/") : -len(".rt")])
+
+
 class Function:
     """A function of a source file, and how the folder of its proof is named."""
 
@@ -44,7 +49,7 @@ class Function:
         self.file = file
         found = FUNCTION.match(lines[at])
         self.indent, self.name = len(found[1]), found[2]
-        self.module = re.sub(r"^(lib|main)$", "", file[len("src/") : -len(".rt")])
+        self.module = module_of(file)
         above = [it for it in lines[:at] if not it.startswith((" ", "}"))] if self.indent else []
         self.owner = next((it for it in (OWNER.match(it) for it in reversed(above)) if it), None)
         ring = next((it for it in (CYCLE.match(lines[it]) for it in range(at - 1, max(at - 8, -1), -1)) if it), None)
