@@ -3,7 +3,7 @@ use Rattle.std.proofs.Common.{◌≡◌, refl, sym, ap, ℕ, Bool, true, false, 
 use Rattle.std.specs.List.{Contains}
 use Rattle.shader_chains.specs.Program.{Step, Leaf, Simple, If, Switch, Return, Emit, Body, End, Then, Cases, statements}
 use Rattle.shader_chains.specs.Flow.{At, start, rest, inside, Part, accept, reject}
-use Rattle.shader_chains.specs.Samples.{parting, emit_at_end, never, takes_branch, WalksPart}
+use Rattle.shader_chains.specs.Samples.{parting, emit_at_end, takes_branch, WalksPart}
 use Rattle.shader_chains.specs.Walks.{Walk, Alike, Enters, to_accept, to_reject, Finishes, at_end, on, Leaves, simply, through, Passes, starts}
 use Rattle.shader_chains.proofs.FlowLemmas.{stands_within}
 use Rattle.shader_chains.proofs.ListLemmas.{nowhere, cases}
