@@ -1,0 +1,13 @@
+pub mod CountLemmas
+pub mod FactLemmas
+pub mod FlowLemmas
+pub mod HeldInfoLemmas
+pub mod JoinLemmas
+pub mod KeptLemmas
+pub mod ListLemmas
+pub mod MissedLemmas
+pub mod PairLemmas
+pub mod StepOrigins
+pub mod StepPairs
+pub mod StepResults
+pub mod TallyLemmas

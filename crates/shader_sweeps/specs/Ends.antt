@@ -1,0 +1,121 @@
+-- How the sweep over the blocks tells what disrupts the flow.
+use Rattle.std.specs.Prelude.{ℕ, Bool, true, false, ◌||◌, not, nat_eq, List, [], ◌∷◌, Option, Some, None, is_some, slice_get, unwrap_or}
+use Rattle.std.specs.Option.{option_map, option_or}
+use Rattle.shader_arena.specs.Places.{places_between}
+use Rattle.shader_ir.specs.Body.{Body, End, Then, Step, Leaf, Nested, If, Switch, Loop, Cases, NoCase, Case, Simple, Emit, Return, Kill, Call}
+use Rattle.shader_info.specs.declared.error.UniformityDisruptor.{UniformityDisruptor}
+use Rattle.shader_info.specs.declared.error.UniformityDisruptor.TheVariants as cause
+use Rattle.shader_info.specs.declared.info.FunctionInfo.{FunctionInfo}
+use Rattle.shader_sweeps.specs.declared.facts.Fact.{Fact}
+use Rattle.shader_sweeps.specs.declared.flow.Exits.{Exits}
+use Rattle.shader_sweeps.specs.declared.flow.Misplaced.{Misplaced}
+use Rattle.shader_sweeps.specs.Facts.{needs_at}
+
+-- a function may end an invocation
+abbrev pub killing : List FunctionInfo → ℕ → Bool
+killing infos function = unwrap_or (option_map (λ info. info.may_kill) (slice_get infos function)) false
+
+-- an expression asks something of the flow
+abbrev pub is_needy : List Fact → ℕ → Bool
+is_needy facts expression = not (nat_eq (needs_at facts expression) 0)
+
+abbrev pub no_exit : Exits
+no_exit = record { returns = false; kills = false }
+
+abbrev pub either : Exits → Exits → Exits
+either a b = record { returns = a.returns || b.returns; kills = a.kills || b.kills }
+
+-- what disrupts the flow behind exits
+abbrev pub exit_of : (returns kills : Bool) → Option UniformityDisruptor
+exit_of true kills = Some cause.Return
+exit_of false true = Some cause.Discard
+exit_of false false = None
+
+abbrev pub exit_cause : Exits → Option UniformityDisruptor
+exit_cause exits = exit_of exits.returns exits.kills
+
+abbrev pub behind : Option UniformityDisruptor → Exits → Option UniformityDisruptor
+behind o exits = option_or o (exit_cause exits)
+
+-- the next case of a switch
+abbrev pub entered : Option UniformityDisruptor → Option UniformityDisruptor → Bool → Exits → Option UniformityDisruptor
+entered branch here true exits = behind here exits
+entered branch here false exits = branch
+
+-- a branch on an expression
+abbrev pub on_branch : (ℕ → Option ℕ) → Option UniformityDisruptor → ℕ → Option UniformityDisruptor
+on_branch origin o e = option_or o (option_map (λ h. cause.Expression h) (origin e))
+
+-- an expression, where the flag is set
+abbrev pub needy_or : Bool → ℕ → Option ℕ → Option ℕ
+needy_or true e rest = Some e
+needy_or false e rest = rest
+
+-- the first of some expressions that asks something of the flow
+abbrev pub first_needy : List Fact → List ℕ → Option ℕ
+first_needy facts [] = None
+first_needy facts (e ∷ es) = needy_or (is_needy facts e) e (first_needy facts es)
+
+-- an expression with its requirements, under what disrupts the flow
+abbrev pub misplaced : List Fact → Option UniformityDisruptor → Option ℕ → Option Misplaced
+misplaced facts (Some d) (Some e) = Some (record { requirements = record { 0 = needs_at facts e }; expression = e; disruptor = d })
+misplaced facts _ _ = None
+
+-- how a statement that holds no block ends; `killing` tells the functions that kill
+abbrev pub leaf_ends : (ℕ → Bool) → Option UniformityDisruptor → Simple → Exits
+leaf_ends killing o (Return value) = record { returns = is_some o; kills = false }
+leaf_ends killing o Kill = record { returns = false; kills = is_some o }
+leaf_ends killing o (Call c arguments result) = record { returns = false; kills = killing c }
+leaf_ends killing o _ = no_exit
+
+-- how a statement by itself ends, without the blocks inside
+abbrev pub own_ends : (ℕ → Bool) → Option UniformityDisruptor → Step → Exits
+own_ends killing o (Leaf simple) = leaf_ends killing o simple
+own_ends killing o _ = no_exit
+
+-- the expression that an Emit misplaces
+abbrev pub leaf_fault : List Fact → Option UniformityDisruptor → Simple → Option Misplaced
+leaf_fault facts o (Emit start finish) = misplaced facts o (first_needy facts (places_between start finish))
+leaf_fault facts o _ = None
+
+abbrev pub own_fault : List Fact → Option UniformityDisruptor → Step → Option Misplaced
+own_fault facts o (Leaf simple) = leaf_fault facts o simple
+own_fault facts o _ = None
+
+-- `origin` tells what makes an expression differ among invocations, `killing` the functions that kill
+module _ (origin : ℕ → Option ℕ) (killing : ℕ → Bool) where
+  abbrev mutual
+    pub step_ends : Option UniformityDisruptor → Step → Exits
+    step_ends o (Leaf simple) = leaf_ends killing o simple
+    step_ends o (Nested x) = block_ends o x
+    step_ends o (If c x y) = either (block_ends (on_branch origin o c) x) (block_ends (on_branch origin o c) y)
+    step_ends o (Switch e cs) = cases_end (on_branch origin o e) (on_branch origin o e) cs
+    step_ends o (Loop x y k) = either (block_ends o x) (block_ends (behind o (block_ends o x)) y)
+
+    pub block_ends : Option UniformityDisruptor → Body → Exits
+    block_ends o End = no_exit
+    block_ends o (Then s b) = either (step_ends o s) (block_ends (behind o (step_ends o s)) b)
+
+    -- the second disruptor is that of the first case
+    pub cases_end : Option UniformityDisruptor → Option UniformityDisruptor → Cases → Exits
+    cases_end o here NoCase = no_exit
+    cases_end o here (Case v x fall cs) = either (block_ends here x) (cases_end o (entered o here fall (block_ends here x)) cs)
+
+-- the first expression that asks something of the flow and is emitted in disrupted flow
+module _ (origin : ℕ → Option ℕ) (killing : ℕ → Bool) (facts : List Fact) where
+  abbrev mutual
+    pub step_fault : Option UniformityDisruptor → Step → Option Misplaced
+    step_fault o (Leaf simple) = leaf_fault facts o simple
+    step_fault o (Nested x) = block_fault o x
+    step_fault o (If c x y) = option_or (block_fault (on_branch origin o c) x) (block_fault (on_branch origin o c) y)
+    step_fault o (Switch e cs) = cases_fault (on_branch origin o e) (on_branch origin o e) cs
+    step_fault o (Loop x y k) = option_or (block_fault o x) (block_fault (behind o (block_ends origin killing o x)) y)
+
+    pub block_fault : Option UniformityDisruptor → Body → Option Misplaced
+    block_fault o End = None
+    block_fault o (Then s b) = option_or (step_fault o s) (block_fault (behind o (step_ends origin killing o s)) b)
+
+    pub cases_fault : Option UniformityDisruptor → Option UniformityDisruptor → Cases → Option Misplaced
+    cases_fault o here NoCase = None
+    cases_fault o here (Case v x fall cs) =
+        option_or (block_fault here x) (cases_fault o (entered o here fall (block_ends origin killing here x)) cs)

@@ -1,0 +1,162 @@
+//! How often each expression is an operand, and how each global is used by a function itself.
+ghost use Rattle.std.specs.Prelude.{◌≡◌, ◌<◌, ◌≤◌, ◌^◌, ℕ, [], ◌∷◌, IfOk, IfSome, fold, length, replicate, slice_get, None, Some};
+ghost use Rattle.std.specs.List.{flat_map};
+ghost use Rattle.shader_ir.specs.BodyOf.{step_of};
+ghost use Rattle.shader_chains.specs.Counts.{count_of};
+ghost use Rattle.shader_ir.specs.Occurs.{local_operands, occurrences, statements};
+ghost use Rattle.shader_ir.specs.Operands.{expression_operands, statement_operands};
+ghost use Rattle.shader_ir.specs.Slots.{kept, read_optional};
+ghost use Rattle.shader_sweeps.specs.Gathered.{listed};
+ghost use Rattle.shader_sweeps.specs.Tallied.{bits, occurred};
+
+use crate::facts::{Fact, root_of};
+use bitflags::Flags;
+use shader_arena::{Arena, Handle};
+use shader_info::GlobalUse;
+use shader_ir::{
+    Expression, Function, Label, LocalVariable, Module, Operands, Statement, expression_operands,
+    mark, statement_operands,
+};
+use std::alloc::{AllocError, Global};
+use std::marker::Model;
+
+/// How a use with the label uses the global that the operand points into.
+fn uses_of(label: Label) -> GlobalUse
+    ensures { result.0 ≡ bits label }
+{
+    match label {
+        Label::Part => GlobalUse::empty(),
+        Label::Read => GlobalUse::READ,
+        Label::Write => GlobalUse::WRITE,
+        Label::ReadWrite => GlobalUse::READ | GlobalUse::WRITE,
+        Label::Query => GlobalUse::QUERY,
+        Label::Atomic => GlobalUse::ATOMIC,
+    }
+}
+
+/// How often each expression is an operand, and how each global is used.
+#[derive(Drop)]
+pub struct Tally {
+    pub counts: Vec<usize>,
+    /// The bits of the uses of each global.
+    pub uses: Vec<u8>,
+    /// An expression whose count would have passed the greatest number.
+    pub full: Option<Handle<mark::Expression>>,
+}
+
+impl Model for Tally {
+    ghost use Rattle.std.specs.Prelude.{ℕ, List, Option};
+
+    ghost Value = { List ℕ × List ℕ × Option ℕ };
+
+    ghost view = { λ tally. (tally.counts.items, tally.uses.items, tally.full) };
+}
+
+impl Tally {
+    /// Counts an operand, and notes the use of the global that it points into.
+    fn record(&mut self, facts: &[Fact], operand: Handle<mark::Expression>, label: Label)
+        ensures { self.new ≡ occurred facts.now self.old (operand, label) }
+    {
+        if let Some(count) = self.counts.get_mut(operand.index()) {
+            match count.checked_add(1) {
+                Some(more) => *count = more,
+                None => self.full = Some(operand),
+            }
+        }
+        if let Some(global) = root_of(facts, operand) {
+            if let Some(uses) = self.uses.get_mut(global.index()) {
+                *uses = *uses | uses_of(label).0;
+            }
+        }
+    }
+
+    /// Counts the operands that are left.
+    fn operands(&mut self, facts: &[Fact], operands: Operands<'_>)
+        ensures { self.new ≡ fold (occurred facts.now) self.old operands.entry }
+    {
+        for (operand, label) in operands {
+            self.record(facts, operand, label);
+        }
+    }
+
+    /// Counts the operands of all expressions.
+    #[tactic(auto, using(crate::proofs::TallyLemmas::folds))]
+    fn expressions(&mut self, facts: &[Fact], expressions: &Arena<Expression, mark::Expression>)
+        ensures { self.new ≡ fold (occurred facts.now) self.old (flat_map expression_operands expressions.now) }
+    {
+        for (_, expression) in expressions.iter() {
+            self.operands(facts, expression_operands(expression));
+        }
+    }
+
+    /// Counts an initial value.
+    fn initial_value(&mut self, facts: &[Fact], init: Option<Handle<mark::Expression>>)
+        ensures { self.new ≡ fold (occurred facts.now) self.old (kept (read_optional init ∷ [])) }
+    {
+        if let Some(init) = init {
+            self.record(facts, init, Label::Read);
+        }
+    }
+
+    /// Counts the initial values of all local variables.
+    #[tactic(auto, using(crate::proofs::TallyLemmas::folds))]
+    fn locals(&mut self, facts: &[Fact], locals: &Arena<LocalVariable, mark::LocalVariable>)
+        ensures { self.new ≡ fold (occurred facts.now) self.old (flat_map local_operands locals.now) }
+    {
+        for (_, local) in locals.iter() {
+            self.initial_value(facts, local.init);
+        }
+    }
+
+    /// Counts the operands of all statements.
+    #[tactic(auto, using(crate::proofs::TallyLemmas::folds))]
+    fn statements(&mut self, facts: &[Fact], all: &[&Statement])
+        ensures { self.new ≡ fold (occurred facts.now) self.old (flat_map statement_operands (listed all.now)) }
+    {
+        for statement in all {
+            self.operands(facts, statement_operands(statement));
+        }
+    }
+
+    /// The fold over all occurrences.
+    fn of_occurrences(
+        alloc: Global,
+        module: &Module,
+        function: &Function,
+        facts: &[Fact],
+        all: &[&Statement],
+    ) -> Result<Tally, AllocError>
+        ensures { IfOk result (λ tally. tally ≡ fold (occurred facts.now) (fold (occurred facts.now) (fold (occurred facts.now) (replicate (length function.now.expressions) 0, replicate (length «module».now.global_variables) 0, None) (flat_map expression_operands function.now.expressions)) (flat_map local_operands function.now.local_variables)) (flat_map statement_operands (listed all.now))) }
+    {
+        let mut tally = Tally {
+            counts: vec![in alloc; 0; function.expressions.len()]?,
+            uses: vec![in alloc; 0; module.global_variables.len()]?,
+            full: None,
+        };
+        tally.expressions(facts, &function.expressions);
+        tally.locals(facts, &function.local_variables);
+        tally.statements(facts, all);
+        Ok(tally)
+    }
+
+    /// Of a function and its statements at any depth.
+    ///
+    /// # Errors
+    ///
+    /// Want of memory for a count an expression and the uses of each global.
+    pub fn of_function(
+        alloc: Global,
+        module: &Module,
+        function: &Function,
+        facts: &[Fact],
+        all: &[&Statement],
+    ) -> Result<Tally, AllocError>
+        requires { listed all.now ≡ statements function.now.body }
+        ensures counts { IfOk result (λ tally. tally.2 ≡ None → (e : ℕ) → e < length function.now.expressions → slice_get tally.0 e ≡ Some (count_of function.now e)) }
+        ensures full { IfOk result (λ tally. IfSome tally.2 (λ e. 2 ^ 64 ≤ count_of function.now e)) }
+        ensures uses { IfOk result (λ tally. tally ≡ fold (occurred facts.now) (replicate (length function.now.expressions) 0, replicate (length «module».now.global_variables) 0, None) (occurrences function.now)) }
+    {
+        let tally = Tally::of_occurrences(alloc, module, function, facts, all)?;
+        Ok(tally)
+    }
+}
