@@ -1,5 +1,5 @@
 -- A well-formed module names earlier functions and expressions alone.
-use Rattle.std.proofs.Common.{◌≡◌, refl, sym, subst, ℕ, ◌<◌, Bool, true, List, [], ◌∷◌, Option, Some, None, IfSome, slice_get, length, nat_lt, inl, inr}
+use Rattle.std.proofs.Common.{◌≡◌, subst, ℕ, ◌<◌, Bool, true, List, [], ◌∷◌, Option, Some, None, IfSome, slice_get, length, nat_lt, inl, inr}
 use Rattle.std.specs.List.{Contains, list_all, enumerate_from}
 use Rattle.std.proofs.lemmas.Bool.{and_parts, ltb-true}
 use Rattle.std.proofs.lemmas.Option.{slice_get_within, get_or_from_slice_get}
@@ -7,10 +7,10 @@ use Rattle.shader_ir.specs.declared.function.EntryPoint.{EntryPoint}
 use Rattle.shader_ir.specs.declared.module.DiagnosticFilterNode.{DiagnosticFilterNode}
 use Rattle.shader_chains.specs.Filters.{HaveEarlierParents}
 use Rattle.shader_resolve.specs.Statements.{statement_callee}
-use Rattle.shader_resolve.specs.WellFormed.{IsWellFormed, every, every_function, function_lacks, is_below, expression_callee, operands_below, operands_earlier, results_earlier}
+use Rattle.shader_resolve.specs.WellFormed.{every, function_lacks, is_below, expression_callee, operands_below, operands_earlier, results_earlier}
 use Rattle.shader_resolve.specs.declared.well_formed.ModuleFault.TheVariants.{CalleeNotEarlier, OperandNotEarlier}
 use Rattle.shader_chains.specs.Program.{Function, Module, Expression, Label, Step, expression_operands, statements}
-use Rattle.shader_chains.specs.Infos.{NamesEarlier, Mentions, by_call, by_result}
+use Rattle.shader_chains.specs.Infos.{NamesEarlier, by_call, by_result}
 use Rattle.shader_chains.specs.Earlier.{PointsBackwards, WellFormedModulesPointBackwards}
 use Rattle.shader_chains.proofs.ListLemmas.{nowhere, cases}
 use Rattle.shader_chains.proofs.KeptLemmas.{at_stands}

@@ -13,7 +13,7 @@ use Rattle.shader_ir.specs.declared.operators.DerivativeControl.TheVariants as c
 use Rattle.shader_ir.specs.declared.statement.SwitchValue.TheVariants as value
 use Rattle.shader_chains.specs.Program.{Function, Module, Expression, Body, End, Then, Leaf, If, Switch, NoCase, Case, Emit, Return, Kill, Store, Call}
 use Rattle.shader_chains.specs.Flow.{At, start, rest, inside, case_of, after, from_first, Disrupted}
-use Rattle.shader_chains.specs.Infos.{InGlobal, InArgument, Place, Reads, Writes, Queries}
+use Rattle.shader_chains.specs.Infos.{InGlobal, Place, Reads, Writes, Queries}
 use Rattle.shader_chains.specs.Kills.{HasOrigin, Kills}
 use Rattle.shader_chains.specs.Needs.{Needs, Derivative}
 use Rattle.shader_chains.specs.Pairs.{IsPair}
@@ -118,12 +118,12 @@ parting = Then (If 0 (Then (Leaf (Return None)) End) End) (Then (Leaf (Emit 4 5)
 abbrev pub emit_at_end : At parting (Then (Leaf (Emit 4 5)) End)
 emit_at_end = rest start
 
--- a walk that takes the first branch or the second, where nothing kills
-abbrev pub never : ℕ → Type 0
-never c = ⊥
+-- a walk that takes the first branch or the second; no function is called, so any may kill
+abbrev pub any_function : ℕ → Type 0
+any_function c = Unit {0}
 
-abbrev pub takes_branch : Bool → Walk never parting
-takes_branch first = record { accepts = λ p. first; selects = λ p. 0; ends = λ p. false; ends_by_kill = λ p ended. absurd (cc) }
+abbrev pub takes_branch : Bool → Walk any_function parting
+takes_branch first = record { accepts = λ p. first; selects = λ p. 0; ends = λ p. false; ends_by_kill = λ p ended. tt }
 
 -- where expression 0 varies, two alike walks part: the one passes the Emit and the other doesn't
 abbrev pub WalksPart : Type 0
