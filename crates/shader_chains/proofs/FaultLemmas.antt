@@ -101,9 +101,9 @@ module _ (m : Module) (infos : List Info) (f : Function) (settings : Settings) (
       let same : info ≡ i = same_Some info i (sym held ∙ is_i) in (d, is_d, has.0 (subst (λ v. IsTrue v.may_kill) same may))
 
   kills_from : (c : ℕ) (arguments : List ℕ) (result : Option ℕ) → Contains (statements f.body) (Leaf (Call c arguments result)) → KillsAt m c → RecordsKills infos c
-  kills_from c arguments result holds (d, is_d, kills) =
+  kills_from c arguments result holds (d, is_d, deadly) =
       let (d', i, is_d', is_i, has) = has_kills c (by_call holds) in
-      let same : d ≡ d' = same_Some d d' (sym is_d ∙ is_d') in (i, is_i, has.1 (subst (λ v. Kills m v) same kills))
+      let same : d ≡ d' = same_Some d d' (sym is_d ∙ is_d') in (i, is_i, has.1 (subst (λ v. Kills m v) same deadly))
 
   needs_same : (n : Need) (e : ℕ) → StepExpressionNeed infos f n e ↔ ExpressionNeeds m n f e
   needs_same n e = (needs.of_step m infos f has_needs n e, needs.to_step m infos f has_needs n e)
