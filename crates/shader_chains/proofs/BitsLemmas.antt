@@ -1,5 +1,5 @@
 -- A set of labels as a number.
-use Rattle.std.proofs.Common.{◌≡◌, refl, sym, ◌∙◌, ℕ, ◌⊎◌, inl, inr, ◌↔◌, bit_or, max, Bool, true, false, nat_eq, nat_lt, arith}
+use Rattle.std.proofs.Common.{◌≡◌, sym, ◌∙◌, ℕ, ◌⊎◌, inl, inr, ◌↔◌, bit_or, max, arith}
 use Rattle.std.specs.Int.{IsBitSet, bit_at}
 use Rattle.std.proofs.lemmas.Nat.{bit_set_by_shift}
 use Rattle.std.proofs.lemmas.Nat.Bits.{shr_and_one, bit_at_or, bit_at-lt, same_from_bits_below}

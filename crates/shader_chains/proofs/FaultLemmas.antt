@@ -1,16 +1,15 @@
 -- Faults by the infos held and faults over all chains.
-use Rattle.std.proofs.Common.{◌≡◌, refl, sym, ap, subst, ◌∙◌, ℕ, ◌↔◌, List, Option, Some, IsTrue, slice_get}
-use Rattle.std.specs.Int.{IsBitSet}
+use Rattle.std.proofs.Common.{◌≡◌, refl, sym, ap, subst, ◌∙◌, ℕ, ◌↔◌, List, Option, IsTrue}
 use Rattle.std.specs.List.{Contains}
 use Rattle.std.proofs.lemmas.Option.{same_Some}
-use Rattle.shader_chains.specs.Program.{Function, Module, Leaf, Call, Body, Then, statements}
+use Rattle.shader_chains.specs.Program.{Function, Module, Leaf, Call, Body, statements}
 use Rattle.shader_chains.specs.Exact.{IsExact}
 use Rattle.shader_chains.specs.FaultLaws.{FaultsAgree}
-use Rattle.shader_chains.specs.Faults.{Settings, Cause, NonUniformControlFlow, Disruptor, Source, EarlierReturn, EarlierDiscard, Passes, HasOriginOf, Around, branch, deeper, later, MayBlame, a_source, a_return, a_kill, a_call, IsMisplaced, HasFault, untyped, no_capability, bad_element, no_image_place, no_sampler_place, no_image_passed, no_sampler_passed, misplaced, count_full, StepFault, RecordsPair, IsFault, IsOriginOf, PairAt}
+use Rattle.shader_chains.specs.Faults.{Settings, Cause, NonUniformControlFlow, Disruptor, Source, EarlierReturn, EarlierDiscard, Passes, Around, branch, deeper, later, MayBlame, a_source, a_return, a_kill, a_call, HasFault, untyped, no_capability, bad_element, no_image_place, no_sampler_place, no_image_passed, no_sampler_passed, misplaced, count_full, StepFault, RecordsPair, IsFault, IsOriginOf, PairAt}
 use Rattle.shader_chains.specs.Flow.{At, Disrupted}
 use Rattle.shader_chains.specs.Infos.{Info, Place, EachNamed, by_call}
 use Rattle.shader_chains.specs.Kills.{Kills, KillsAt}
-use Rattle.shader_chains.specs.Needs.{Need, bit_of_need, ExpressionNeeds}
+use Rattle.shader_chains.specs.Needs.{Need, ExpressionNeeds}
 use Rattle.shader_chains.specs.Pairs.{IsPair}
 use Rattle.shader_chains.specs.Steps.{StepOrigin, RecordsKills, StepExpressionNeed}
 use Rattle.shader_chains.proofs.FlowLemmas.{more_disrupted, stands_within}
@@ -102,9 +101,9 @@ module _ (m : Module) (infos : List Info) (f : Function) (settings : Settings) (
       let same : info ≡ i = same_Some info i (sym held ∙ is_i) in (d, is_d, has.0 (subst (λ v. IsTrue v.may_kill) same may))
 
   kills_from : (c : ℕ) (arguments : List ℕ) (result : Option ℕ) → Contains (statements f.body) (Leaf (Call c arguments result)) → KillsAt m c → RecordsKills infos c
-  kills_from c arguments result holds (d, is_d, killing) =
+  kills_from c arguments result holds (d, is_d, deadly) =
       let (d', i, is_d', is_i, has) = has_kills c (by_call holds) in
-      let same : d ≡ d' = same_Some d d' (sym is_d ∙ is_d') in (i, is_i, has.1 (subst (λ v. Kills m v) same killing))
+      let same : d ≡ d' = same_Some d d' (sym is_d ∙ is_d') in (i, is_i, has.1 (subst (λ v. Kills m v) same deadly))
 
   needs_same : (n : Need) (e : ℕ) → StepExpressionNeed infos f n e ↔ ExpressionNeeds m n f e
   needs_same n e = (needs.of_step m infos f has_needs n e, needs.to_step m infos f has_needs n e)

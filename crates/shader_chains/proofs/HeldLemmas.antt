@@ -5,7 +5,7 @@ use Rattle.std.proofs.lemmas.Option.{slice_get_within, slice_get-get_or, same_So
 use Rattle.shader_chains.specs.Program.{Function, Module, Expression, Label, expression_operands, Stands}
 use Rattle.shader_chains.specs.Infos.{Info, Picks, Mentions, EachNamed, Pairwise}
 use Rattle.shader_chains.specs.Origins.{Leads, itself, through}
-use Rattle.shader_chains.specs.Steps.{MeetsSteps, StepOrigin}
+use Rattle.shader_chains.specs.Steps.{StepOrigin}
 use Rattle.shader_chains.specs.Steps
 use Rattle.shader_chains.specs.Exact.{IsExact}
 use Rattle.shader_chains.specs.Held

@@ -1,6 +1,7 @@
 pub mod BitsLemmas
 pub mod EarlierLemmas
 pub mod FaultLemmas
+pub mod FilterLemmas
 pub mod FindLemmas
 pub mod FlowLemmas
 pub mod HeldLemmas

@@ -5,7 +5,7 @@ use Rattle.std.specs.Option.{option_and_then}
 use Rattle.shader_chains.specs.Program.{Function, Module}
 use Rattle.shader_chains.specs.Calls.{Chain, here, via, CallsTo}
 use Rattle.shader_chains.specs.Infos.{Info, EachNamed, Place}
-use Rattle.shader_chains.specs.Pairs.{place, samples, in_caller, back, followed_by, IsPair, PlacesLeadBackByParts}
+use Rattle.shader_chains.specs.Pairs.{place, samples, in_caller, back, IsPair, PlacesLeadBackByParts}
 use Rattle.shader_chains.specs.Steps.{StepPair, own, callee}
 use Rattle.shader_chains.proofs.Order.{info_of_call, call_of_info}
 

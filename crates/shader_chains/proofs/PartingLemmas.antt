@@ -1,10 +1,10 @@
 -- Two alike walks that part.
-use Rattle.std.proofs.Common.{◌≡◌, refl, sym, ap, ℕ, Bool, true, false, List, [], ◌∷◌, Option, None, inl, inr, subst}
+use Rattle.std.proofs.Common.{◌≡◌, refl, ℕ, true, false, [], ◌∷◌, None, inl, inr, subst}
 use Rattle.std.specs.List.{Contains}
-use Rattle.shader_chains.specs.Program.{Step, Leaf, Simple, If, Switch, Return, Emit, Body, End, Then, Cases, statements}
-use Rattle.shader_chains.specs.Flow.{At, start, rest, inside, Part, accept, reject}
+use Rattle.shader_chains.specs.Program.{Step, Leaf, Simple, If, Switch, Return, Emit, Body, End, Then, Cases}
+use Rattle.shader_chains.specs.Flow.{At, Part}
 use Rattle.shader_chains.specs.Samples.{parting, emit_at_end, takes_branch, WalksPart}
-use Rattle.shader_chains.specs.Walks.{Walk, Alike, Enters, to_accept, to_reject, Finishes, at_end, on, Leaves, simply, through, Passes, starts}
+use Rattle.shader_chains.specs.Walks.{Alike, to_accept, to_reject, at_end, on, Leaves, simply, through, Passes, starts}
 use Rattle.shader_chains.proofs.FlowLemmas.{stands_within}
 use Rattle.shader_chains.proofs.ListLemmas.{nowhere, cases}
 
@@ -26,10 +26,10 @@ OnZero step = Unit {0}
 on_zero : (s : Step) (b : Body) → At parting (Then s b) → OnZero s
 on_zero s b p = three OnZero (If 0 (Then (Leaf (Return None)) End) End) (Leaf (Return None)) (Leaf (Emit 4 5)) s (stands_within parting s b p) refl tt tt
 
-abbrev Apart : ℕ → Type 0
-Apart e = e ≡ 0
+abbrev IsZero : ℕ → Type 0
+IsZero e = e ≡ 0
 
-same_branch : {c : ℕ} {x y b : Body} (p : At parting (Then (If c x y) b)) → (Apart c → ⊥) → (takes_branch true).accepts p ≡ (takes_branch false).accepts p
+same_branch : {c : ℕ} {x y b : Body} (p : At parting (Then (If c x y) b)) → (IsZero c → ⊥) → (takes_branch true).accepts p ≡ (takes_branch false).accepts p
 same_branch {c} {x} {y} {b} p steady = absurd (steady (on_zero (If c x y) b p))
 
 same_case : {e : ℕ} {cs : Cases} {b : Body} (p : At parting (Then (Switch e cs) b)) → (takes_branch true).selects p ≡ (takes_branch false).selects p

@@ -1,10 +1,10 @@
 -- Whatever is disrupted has a reason that may be told.
-use Rattle.std.proofs.Common.{ℕ, Bool, true, List, Option}
+use Rattle.std.proofs.Common.{ℕ, Bool, true}
 use Rattle.shader_ir.specs.declared.statement.SwitchValue.{SwitchValue}
-use Rattle.shader_chains.specs.Program.{Function, Module, Step, Leaf, Switch, Return, Kill, Call, Body, Then, Cases, Case}
-use Rattle.shader_chains.specs.Faults.{Settings, Disruptor, Source, EarlierReturn, EarlierDiscard, HasOriginOf, Around, branch, deeper, MayBlame, a_source, a_return, a_kill, a_call}
+use Rattle.shader_chains.specs.Program.{Function, Module, Step, Leaf, Switch, Call, Body, Then, Cases, Case}
+use Rattle.shader_chains.specs.Faults.{Settings, Disruptor, Source, EarlierReturn, EarlierDiscard, Around, branch, deeper, MayBlame, a_source, a_return, a_kill, a_call}
 use Rattle.shader_chains.specs.Faults as faults
-use Rattle.shader_chains.specs.Flow.{At, start, rest, inside, Part, case_of, CasesIn, after, BranchOn, selects, Disrupted, Exits, BlockExits, in_disrupted, in_branch, in_continuing, fallen_into, fallen_out, later, behind, returns, kills, calls, contains, first, further}
+use Rattle.shader_chains.specs.Flow.{At, rest, inside, case_of, CasesIn, after, selects, Disrupted, Exits, BlockExits, in_disrupted, in_branch, in_continuing, fallen_into, fallen_out, later, behind, returns, kills, calls, contains, first, further}
 use Rattle.shader_chains.specs.Infos.{Place}
 use Rattle.shader_chains.specs.Needs.{Need}
 use Rattle.shader_chains.proofs.FlowLemmas.{stands_within}

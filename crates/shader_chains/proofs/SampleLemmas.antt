@@ -3,21 +3,20 @@ use Rattle.std.proofs.Common.{◌≡◌, refl, sym, ap, subst, ◌∙◌, ℕ, z
 use Rattle.std.specs.List.{Contains}
 use Rattle.std.specs.Option.{option_and_then}
 use Rattle.std.proofs.lemmas.Option.{same_Some}
-use Rattle.shader_ir.specs.declared.binding.Binding.{Binding}
 use Rattle.shader_ir.specs.declared.expression.Expression.TheVariants as form
 use Rattle.shader_ir.specs.declared.operators.DerivativeAxis.TheVariants as axis
 use Rattle.shader_ir.specs.declared.operators.DerivativeControl.TheVariants as control
 use Rattle.shader_ir.specs.declared.proc.operands.Label.TheVariants as label
 use Rattle.shader_ir.specs.Occurs.{global}
-use Rattle.shader_chains.specs.Program.{Function, Module, Expression, Label, Step, Body, End, Then, Leaf, Kill, Emit, Store, Call, statements}
-use Rattle.shader_chains.specs.Calls.{Chain, here, via, CallsTo}
+use Rattle.shader_chains.specs.Program.{Function, Module, Label, Step, Body, End, Then, Leaf, Kill, Emit, Store, Call, statements}
+use Rattle.shader_chains.specs.Calls.{Chain, here, via}
 use Rattle.shader_chains.specs.Flow.{At, start, inside, accept, in_branch, accepts, Disrupted}
-use Rattle.shader_chains.specs.Infos.{Use, Reads, Writes, Queries, Atomics, InGlobal, InArgument, Place}
+use Rattle.shader_chains.specs.Infos.{Use, Reads, Writes, Queries, InGlobal, Place}
 use Rattle.shader_chains.specs.Kills.{HasOrigin, Kills, kills}
 use Rattle.shader_chains.specs.Needs.{Needs, by_statement, by_expression, by_form, Derivative}
-use Rattle.shader_chains.specs.Origins.{Origin, source, result, itself, IsSource, is_source}
+use Rattle.shader_chains.specs.Origins.{source, result, itself, IsSource, is_source}
 use Rattle.shader_chains.specs.Pairs.{place, samples, back, IsPair}
-use Rattle.shader_chains.specs.Samples.{named, stored, NamedIsQueried, taking, shared, ArgumentsVary, branching, BranchesKill, differentiating, EmittedIsNeeded, sampling, passing, PairsAreLedBack, returning, place_of_emit, FallThroughDisrupts}
+use Rattle.shader_chains.specs.Samples.{named, stored, NamedIsQueried, taking, shared, ArgumentsVary, branching, BranchesKill, differentiating, EmittedIsNeeded, sampling, PairsAreLedBack, returning, place_of_emit, FallThroughDisrupts}
 use Rattle.shader_chains.specs.Uses.{Uses, directly, by_name, UsesDirectly, puts}
 use Rattle.shader_chains.proofs.FindLemmas.{sweep_finds}
 use Rattle.shader_chains.proofs.FlowLemmas.{more_disrupted}

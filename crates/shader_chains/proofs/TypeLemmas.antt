@@ -1,17 +1,15 @@
 -- An expression has one type, and a chain of filters gives one severity.
-use Rattle.std.proofs.Common.{◌≡◌, refl, sym, ap, subst, ◌∙◌, ℕ, List, Option, Some, None, slice_get}
+use Rattle.std.proofs.Common.{◌≡◌, refl, sym, ap, subst, ◌∙◌, ℕ, List, Option, Some, slice_get}
 use Rattle.std.proofs.lemmas.Option.{same_Some}
 use Rattle.shader_ir.specs.declared.module.DiagnosticFilterNode.{DiagnosticFilterNode}
-use Rattle.shader_ir.specs.declared.module.DiagnosticRule.{DiagnosticRule}
 use Rattle.shader_ir.specs.declared.module.DiagnosticRule.TheVariants as rule
-use Rattle.shader_ir.specs.declared.module.Severity.{Severity}
 use Rattle.shader_ir.specs.declared.proc.type_resolution.TypeResolution.{TypeResolution}
 use Rattle.shader_ir.specs.Key.{Key, key_of}
 use Rattle.shader_resolve.proofs.RowLemmas.{Respects, row-respects}
 use Rattle.shader_resolve.proofs.TypingLemmas.{key_of-standing}
 use Rattle.shader_resolve.specs.Typing.{at_key, outcome_key, row_key, standing}
 use Rattle.shader_resolve.specs.Context.{Context}
-use Rattle.shader_resolve.specs.Outcome.{Outcome, Given, Refused, Refusal}
+use Rattle.shader_resolve.specs.Outcome.{Outcome, Given, Refused}
 use Rattle.shader_resolve.specs.Rows.{Row, Plain, One, Two, row}
 use Rattle.shader_chains.specs.Program.{Expression}
 use Rattle.shader_chains.specs.Derivable.{Answers, plain, by_one, by_two, Derives, given}

@@ -1,11 +1,11 @@
 -- Disruption means divergence.
-use Rattle.std.specs.Prelude.{◌≡◌, ℕ, ◌<◌, ◌≤◌, Some, slice_get, ◌⊎◌, ◌↔◌, length, IsTrue}
+use Rattle.std.specs.Prelude.{ℕ, ◌<◌, ◌≤◌, ◌⊎◌, ◌↔◌, IsTrue}
 use Rattle.shader_ir.specs.declared.module.Severity.TheVariants as severity
 use Rattle.shader_chains.specs.Program.{Function, Module, Leaf, Emit, Body, Then}
 use Rattle.shader_chains.specs.Exact.{IsExact}
 use Rattle.shader_chains.specs.Faults.{Settings, Cause, IsFault}
 use Rattle.shader_chains.specs.Filters.{Governs}
-use Rattle.shader_chains.specs.Flow.{At, Disrupted}
+use Rattle.shader_chains.specs.Flow.{At}
 use Rattle.shader_chains.specs.Infos.{Info}
 use Rattle.shader_chains.specs.Kills.{KillsAt, HasOrigin}
 use Rattle.shader_chains.specs.Needs.{Need, ExpressionNeeds}

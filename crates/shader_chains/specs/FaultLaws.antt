@@ -7,7 +7,7 @@ use Rattle.shader_ir.specs.Key.{Key, key_of}
 use Rattle.shader_resolve.specs.Context.{Context}
 use Rattle.shader_resolve.specs.Outcome.{Refusal}
 use Rattle.shader_resolve.specs.Typing.{typing}
-use Rattle.shader_chains.specs.Program.{Function, Module, Expression, Body}
+use Rattle.shader_chains.specs.Program.{Function, Module, Expression}
 use Rattle.shader_chains.specs.Derivable.{Derives, IsRefused}
 use Rattle.shader_chains.specs.Exact.{IsExact}
 use Rattle.shader_chains.specs.Faults.{Settings, Cause, StepFault, IsFault}

@@ -1,5 +1,5 @@
 -- Where the analysis refuses.
-use Rattle.std.specs.Prelude.{◌≡◌, ℕ, ◌<◌, ◌≤◌, ◌^◌, ◌↔◌, Bool, true, false, IsTrue, List, [], Option, Some, None, slice_get}
+use Rattle.std.specs.Prelude.{◌≡◌, ℕ, ◌<◌, ◌≤◌, ◌^◌, ◌↔◌, Bool, false, IsTrue, List, [], Option, Some, None, slice_get}
 use Rattle.std.specs.Int.{IsBitSet}
 use Rattle.std.specs.List.{Contains}
 use Rattle.shader_ir.specs.Key.{found_inner, inner_of}
@@ -8,13 +8,12 @@ use Rattle.shader_ir.specs.declared.function.EntryPoint.{EntryPoint}
 use Rattle.shader_ir.specs.declared.image.ImageClass.TheVariants as class
 use Rattle.shader_ir.specs.declared.module.Severity.TheVariants as severity
 use Rattle.shader_ir.specs.declared.proc.type_resolution.TypeResolution.{TypeResolution}
-use Rattle.shader_ir.specs.declared.types.«Type».{«Type»}
 use Rattle.shader_ir.specs.declared.types.ArraySize.{ArraySize}
 use Rattle.shader_ir.specs.declared.types.TypeInner.{TypeInner}
 use Rattle.shader_ir.specs.declared.types.TypeInner.TheVariants as type
 use Rattle.shader_resolve.specs.Context.{context_of}
 use Rattle.shader_resolve.specs.Outcome.{Refusal}
-use Rattle.shader_chains.specs.Program.{Function, Module, Expression, Body, Then, Leaf, Step, Emit, Return, Kill, Call, statements, Stands}
+use Rattle.shader_chains.specs.Program.{Function, Module, Body, Then, Leaf, Step, Emit, Return, Kill, Call, statements, Stands}
 use Rattle.shader_chains.specs.Counts.{count_of}
 use Rattle.shader_chains.specs.Derivable.{Derives, IsRefused, function_context}
 use Rattle.shader_chains.specs.Filters.{Governs}

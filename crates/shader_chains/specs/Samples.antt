@@ -13,7 +13,7 @@ use Rattle.shader_ir.specs.declared.operators.DerivativeControl.TheVariants as c
 use Rattle.shader_ir.specs.declared.statement.SwitchValue.TheVariants as value
 use Rattle.shader_chains.specs.Program.{Function, Module, Expression, Body, End, Then, Leaf, If, Switch, NoCase, Case, Emit, Return, Kill, Store, Call}
 use Rattle.shader_chains.specs.Flow.{At, start, rest, inside, case_of, after, from_first, Disrupted}
-use Rattle.shader_chains.specs.Infos.{InGlobal, InArgument, Place, Reads, Writes, Queries}
+use Rattle.shader_chains.specs.Infos.{InGlobal, Place, Reads, Writes, Queries}
 use Rattle.shader_chains.specs.Kills.{HasOrigin, Kills}
 use Rattle.shader_chains.specs.Needs.{Needs, Derivative}
 use Rattle.shader_chains.specs.Pairs.{IsPair}
