@@ -32,7 +32,7 @@ const ANSWERED: [(&[u8], &[u8]); 43] = [
     ),
     (
         b"call Ldexp vec2<AbstractFloat> vec2<AbstractInt>\n",
-        b"vec2<f32>\n",
+        b"vec2<AbstractFloat>\n",
     ),
     (b"call Max u32 AbstractInt\n", b"u32\n"),
     (b"call Max f32 f64\n", b"refused\n"),
@@ -44,9 +44,15 @@ const ANSWERED: [(&[u8], &[u8]); 43] = [
     (b"call Abs f32 f32\n", b"refused\n"),
     (b"call Abs bool\n", b"refused\n"),
     (b"call Sin AbstractInt\n", b"AbstractFloat\n"),
-    (b"call Distance AbstractFloat AbstractFloat\n", b"f32\n"),
+    (
+        b"call Distance AbstractFloat AbstractFloat\n",
+        b"AbstractFloat\n",
+    ),
     (b"call Modf vec2<f32>\n", b"modf_result<vec2<f32>>\n"),
-    (b"call Modf AbstractInt\n", b"modf_result<f32>\n"),
+    (
+        b"call Modf AbstractInt\n",
+        b"modf_result<AbstractFloat>\n",
+    ),
     (
         b"call Cross vec3<AbstractInt> vec3<AbstractFloat>\n",
         b"vec3<AbstractFloat>\n",

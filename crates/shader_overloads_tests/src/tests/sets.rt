@@ -18,7 +18,8 @@ fn bits_grow(rt: HostRuntime) -> Result<(), Fail> {
     let masks: Vec<u64> = OneBitsIter::new(1 << 63).collect(rt.alloc())?;
     assert_eq!(rt; masks.as_slice(), [1 << 63].as_slice());
     assert!(rt; OneBitsIter::new(0).next().is_none());
-    assert_eq!(rt; OneBitsIter::new(u64::MAX).count(), 64);
+    let masks: Vec<u64> = OneBitsIter::new(u64::MAX).collect(rt.alloc())?;
+    assert_eq!(rt; masks.len(), 64);
     Ok(())
 }
 
