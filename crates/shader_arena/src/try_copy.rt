@@ -1,5 +1,5 @@
 //! Copies of values that may take memory.
-ghost use Rattle.std.specs.Prelude.{◌≡◌, IfOk};
+ghost use Rattle.std.specs.Prelude.{◌≡◌, IfOk, IsNone, IsOk};
 
 use crate::Handle;
 use std::alloc::{AllocError, Global};
@@ -30,7 +30,10 @@ impl TryCopy for u32 {
 }
 
 impl<T: TryCopy> TryCopy for Option<T> {
-    fn try_copy(&self, alloc: Global) -> Result<Option<T>, AllocError> {
+    fn try_copy(&self, alloc: Global) -> Result<Option<T>, AllocError>
+        ensures copy { IfOk result (λ copy. copy ≡ self.now) }
+        ensures none { IsNone self.now → IsOk result }
+    {
         match self {
             Some(value) => Ok(Some(value.try_copy(alloc)?)),
             None => Ok(None),

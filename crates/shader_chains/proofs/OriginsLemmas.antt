@@ -29,7 +29,7 @@ abbrev pub HasResult : Module → Function → Info → Type 0
 HasResult m f info = Picks (ResultFrom m f) info.non_uniform_result
 
 module _ (m : Module) (infos : List Info) (f : Function) (named : EachNamed (HasResult m) m infos f) where
-  of_step : (e h : ℕ) → StepOrigin m infos f e h → (r : Function) × Origin m f e r h
+  pub of_step : (e h : ℕ) → StepOrigin m infos f e h → (r : Function) × Origin m f e r h
   of_step e h (own leads is) = (f, source leads is)
   of_step e h (callee {k = k} {c = c} {info = info} leads stands held is) =
       let (d, info', is_d, is_info, has) = named c (by_result k stands) in
@@ -37,7 +37,7 @@ module _ (m : Module) (infos : List Info) (f : Function) (named : EachNamed (Has
       let (r, from) = Picks-of (ResultFrom m d) info'.non_uniform_result h (sym (ap (λ i. i.non_uniform_result) same) ∙ is) has in
       (r, result leads stands is_d from)
 
-  to_step : (e h : ℕ) (r : Function) → Origin m f e r h → (k : ℕ) × StepOrigin m infos f e k
+  pub to_step : (e h : ℕ) (r : Function) → Origin m f e r h → (k : ℕ) × StepOrigin m infos f e k
   to_step e h r (source leads is) = (h, own leads is)
   to_step e h r (result {k = k} {c = c} {d = d} leads stands is_d from) =
       let (d', info, is_d', is_info, has) = named c (by_result k stands) in

@@ -1,11 +1,11 @@
 -- The step equations of pairs give the pairs over all chains, where a chain is cut at its first call.
-use Rattle.std.proofs.Common.{◌≡◌, refl, ℕ, ◌↔◌, List, Option, Some, None, sym, ◌∙◌}
+use Rattle.std.proofs.Common.{◌≡◌, refl, ℕ, ◌↔◌, List, Option, Some, None, sym, ap, ◌∙◌}
 use Rattle.std.specs.List.{Contains}
 use Rattle.std.specs.Option.{option_and_then}
 use Rattle.shader_chains.specs.Program.{Function, Module}
 use Rattle.shader_chains.specs.Calls.{Chain, here, via, CallsTo}
 use Rattle.shader_chains.specs.Infos.{Info, EachNamed, Place}
-use Rattle.shader_chains.specs.Pairs.{place, samples, in_caller, back, IsPair}
+use Rattle.shader_chains.specs.Pairs.{place, samples, in_caller, back, followed_by, IsPair, PlacesLeadBackByParts}
 use Rattle.shader_chains.specs.Steps.{StepPair, own, callee}
 use Rattle.shader_chains.proofs.Order.{info_of_call, call_of_info}
 
@@ -89,3 +89,13 @@ module _ (m : Module) (infos : List Info) (f : Function) (named : EachNamed (Has
   pub exact_pairs : (info : Info) → ((image sampler : Place) → Contains info.pairs (image, sampler) ↔ StepPair infos f image sampler) → HasPairs m f info
   exact_pairs info step image sampler =
       (λ h. of_step image sampler ((step image sampler).0 h), λ h. (step image sampler).1 (to_step image sampler h))
+
+through_cut : (f : Function) (arguments : List ℕ) (lead : Place → Option Place) (o : Option Place) →
+    option_and_then (in_caller f arguments) (option_and_then lead o) ≡ option_and_then (λ q. option_and_then (in_caller f arguments) (lead q)) o
+through_cut f arguments lead None = refl
+through_cut f arguments lead (Some q) = refl
+
+pub places_lead_back_by_parts : PlacesLeadBackByParts
+places_lead_back_by_parts m f _ s here second p = sym (here_itself m f (back second p))
+places_lead_back_by_parts m f r s (via {c = c} call first) second p =
+    ap (option_and_then (in_caller f call.arguments)) (places_lead_back_by_parts m c r s first second p) ∙ through_cut f call.arguments (back first) (back second p)

@@ -10,7 +10,7 @@ use Rattle.shader_chains.proofs.KillsLemmas.{HasKills, exact_kills}
 use Rattle.shader_chains.proofs.NeedsLemmas.{HasNeeds, exact_expression, exact_needs}
 use Rattle.shader_chains.proofs.OriginsLemmas.{HasResult, exact_origin, exact_result}
 
-weaker : (P Q : Function → Info → Type 0) (m : Module) (infos : List Info) (f : Function) →
+pub weaker : (P Q : Function → Info → Type 0) (m : Module) (infos : List Info) (f : Function) →
     ((r : Function) (i : Info) → P r i → Q r i) → EachNamed P m infos f → EachNamed Q m infos f
 weaker P Q m infos f to named c mention = let (r, i, is_r, is_i, p) = named c mention in (r, i, is_r, is_i, to r i p)
 

@@ -1,16 +1,24 @@
 -- Two alike walks pass the same undisrupted places.
-use Rattle.std.proofs.Common.{◌≡◌, refl, sym, ◌∙◌, ℕ, ◌+◌, ◌≤◌, Bool, true, false, List, Option, Some, None, ◌⊎◌, inl, inr, arith, subst}
+use Rattle.std.proofs.Common.{◌≡◌, refl, sym, ◌∙◌, ℕ, ◌+◌, ◌≤◌, ◌<◌, Bool, true, false, List, Option, Some, None, ◌⊎◌, inl, inr, arith, subst, IsTrue}
 use Rattle.std.proofs.lemmas.Option.{same_Some}
 use Rattle.std.proofs.Math.Nat.{eq-or-lt_of_le}
 use Rattle.shader_ir.specs.declared.statement.SwitchValue.{SwitchValue}
-use Rattle.shader_chains.specs.Program.{Step, Leaf, Simple, Emit, Break, Continue, Return, Kill, ControlBarrier, MemoryBarrier, Store, ImageStore, Atomic, ImageAtomic, WorkGroupUniformLoad, Call, RayQuery, RayPipeline, SubgroupBallot, SubgroupGather, SubgroupCollectiveOperation, CooperativeStore, Nested, If, Switch, Loop, Body, End, Then, Cases, NoCase, Case}
+use Rattle.shader_chains.specs.Program.{Function, Module, Step, Leaf, Simple, Emit, Break, Continue, Return, Kill, ControlBarrier, MemoryBarrier, Store, ImageStore, Atomic, ImageAtomic, WorkGroupUniformLoad, Call, RayQuery, RayPipeline, SubgroupBallot, SubgroupGather, SubgroupCollectiveOperation, CooperativeStore, Nested, If, Switch, Loop, Body, End, Then, Cases, NoCase, Case}
 use Rattle.shader_chains.specs.Flow.{At, start, rest, inside, Part, inner, accept, reject, body, continuing, case_of, CasesIn, from_first, after, BranchOn, accepts, rejects, selects, Disrupted, Exits, BlockExits, in_disrupted, in_branch, in_continuing, fallen_into, fallen_out, later, behind, returns, kills, calls, contains, first, further}
 use Rattle.shader_chains.specs.Walks.{HasNoLoop, Walk, count, number, Enters, to_inner, to_accept, to_reject, selected, fallen, Finishes, at_end, on, Leaves, simply, call, through, past, Passes, starts, into, Alike, AlikeWalksAgree}
+use Rattle.shader_ir.specs.declared.module.Severity.TheVariants as severity
+use Rattle.shader_chains.specs.Exact.{IsExact}
+use Rattle.shader_chains.specs.Faults.{Settings, Cause, NonUniformControlFlow, IsFault, IsOriginOf, PairAt, misplaced}
+use Rattle.shader_chains.specs.Filters.{Governs}
+use Rattle.shader_chains.specs.Infos.{Info}
+use Rattle.shader_chains.specs.Needs.{Need, ExpressionNeeds, by_form, by_callee}
+use Rattle.shader_chains.proofs.FlowLemmas.{more_disrupted}
+use Rattle.shader_chains.proofs.ReasonLemmas.{reason}
 use Rattle.shader_chains.specs.Kills.{HasOrigin, KillsAt}
 use Rattle.shader_chains.specs.Disruption.{DisruptionMeansDivergence, AcceptedWalksAgree, InfosDecide}
 use Rattle.shader_chains.proofs.KillsLemmas.{origin_within}
-use Rattle.std.specs.List.{slice_get}
-use Rattle.std.proofs.lemmas.Option.{slice_get-get_or}
+use Rattle.std.specs.List.{slice_get, slice_index}
+use Rattle.std.proofs.lemmas.Option.{slice_get-get_or, slice_get_within}
 use Rattle.std.proofs.lemmas.Bool.{cases_lt}
 use Rattle.std.proofs.Common.{length, get_or}
 
@@ -247,10 +255,6 @@ alike_walks_agree V K decided root plain w v alike b p nd =
 pub disruption_means_divergence : DisruptionMeansDivergence
 disruption_means_divergence m f decided plain = alike_walks_agree (HasOrigin m f) (KillsAt m) decided f.body plain
 
-pub accepted_walks_agree : AcceptedWalksAgree
-accepted_walks_agree m f decided plain no_fault w v alike i j e n b p le lt needs =
-    disruption_means_divergence m f decided plain w v alike _ p (λ d. no_fault i j e n b p d le lt needs)
-
 pub infos_decide : InfosDecide
 infos_decide m f info exact e = elim (cases_lt e (length info.non_uniform)) [
   | inl lt ↦ at (get_or info.non_uniform e None) (slice_get-get_or info.non_uniform e None lt)
@@ -260,3 +264,44 @@ infos_decide m f info exact e = elim (cases_lt e (length info.non_uniform)) [
     at : (r : Option ℕ) → slice_get info.non_uniform e ≡ Some r → HasOrigin m f e ⊎ (HasOrigin m f e → ⊥)
     at (Some k) is = let (r, origin) = exact.origins e (Some k) is in inl (r, k, origin)
     at None is = inr (λ h. exact.origins e None is h.1 (h.0, h.2))
+
+-- a disrupted Emit of what needs undisrupted flow is a fault
+module _ (m : Module) (settings : Settings) (f : Function) (info : Info) (exact : IsExact m f info) where
+  abbrev by_source : ℕ → Type 0
+  by_source e = (h : ℕ) × IsOriginOf m f e h
+
+  need_within : (n : Need) (e : ℕ) → ExpressionNeeds m n f e → e < length f.expressions
+  need_within n e (by_form {x = x} stands asks) = slice_get_within f.expressions e x stands
+  need_within n e (by_callee stands is needs) = slice_get_within f.expressions e _ stands
+
+  turned_origin : (e : ℕ) → HasOrigin m f e → by_source e
+  turned_origin e (r, h, origin) = (h, (r, origin))
+
+  pub flow_fault : (i j e : ℕ) (n : Need) (b : Body) (p : At f.body (Then (Leaf (Emit i j)) b)) → Disrupted (HasOrigin m f) (KillsAt m) f.body _ p →
+      i ≤ e → e < j → ExpressionNeeds m n f e → IsTrue settings.checks_flow → Governs m.diagnostic_filters f.diagnostic_filter_leaf severity.Error →
+      (cause : Cause) × IsFault m f settings cause
+  flow_fault i j e n b p d le lt needs checks grave =
+      let moved : Disrupted by_source (KillsAt m) f.body _ p =
+      more_disrupted (HasOrigin m f) by_source (KillsAt m) (KillsAt m) f.body turned_origin (λ c arguments result b q k. k) _ p d in
+      let (disruptor, blamed) = reason (IsOriginOf m f) (KillsAt m) (λ n e. ExpressionNeeds m n f e) (PairAt m) m settings f _ p moved in (
+        NonUniformControlFlow (slice_index info.expression_needs e) e disruptor,
+        misplaced checks grave (record {
+          start = i;
+          finish = j;
+          left = b;
+          at = p;
+          from = le;
+          to = lt;
+          disrupted = moved;
+          need = n;
+          needed = needs;
+          small = exact.tables.few_expression_needs e;
+          bits = λ need. exact.expression_needs need e (need_within n e needs);
+          blamed = blamed;
+        }),
+      )
+
+pub accepted_walks_agree : AcceptedWalksAgree
+accepted_walks_agree m settings f info exact plain checks grave clean w v alike i j e n b p le lt needs =
+    disruption_means_divergence m f (infos_decide m f info exact) plain w v alike _ p
+    (λ d. let (cause, fault) = flow_fault m settings f info exact i j e n b p d le lt needs checks grave in clean cause fault)

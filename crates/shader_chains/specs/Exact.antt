@@ -1,7 +1,10 @@
 -- The recorded info is what is defined over all chains of calls.
-use Rattle.std.specs.Prelude.{◌≡◌, ℕ, List, Option, Some, slice_get, length, ◌↔◌, ◌<◌, IsTrue, slice_index}
+use Rattle.std.specs.Prelude.{◌≡◌, ℕ, List, [], Option, Some, slice_get, length, ◌↔◌, ◌<◌, IsTrue, slice_index}
 use Rattle.std.specs.Int.{IsBitSet}
 use Rattle.std.specs.List.{Contains}
+use Rattle.shader_ir.specs.declared.function.EntryPoint.{EntryPoint}
+use Rattle.shader_ir.specs.declared.proc.type_resolution.TypeResolution.{TypeResolution}
+use Rattle.shader_resolve.specs.Context.{context_of}
 use Rattle.shader_chains.specs.Program.{Function, Module}
 use Rattle.shader_chains.specs.Counts.{count_of}
 use Rattle.shader_chains.specs.Derivable.{AreTypes, function_context}
@@ -35,3 +38,12 @@ StepIsExact = (m : Module) (infos : List Info) (f : Function) (info : Info) →
 abbrev pub SummariesEqualChains : Type 0
 SummariesEqualChains = (m : Module) (infos : List Info) → length m.functions ≡ length infos →
     IsOrdered m → Pairwise (MeetsSteps m infos) m infos → Pairwise (IsExact m) m infos
+
+-- what is recorded of a whole module: the types of its global expressions, and exact infos of its functions and entry points, in order
+pub record IsExactModule (m : Module) (global_types : List TypeResolution) (functions entry_points : List Info) : Type 0 where
+  pub types : AreTypes (context_of m [] []) m.global_expressions global_types
+  pub each_function : length functions ≡ length m.functions
+  pub exact_functions : Pairwise (IsExact m) m functions
+  pub each_entry_point : length entry_points ≡ length m.entry_points
+  pub exact_entry_points : (i : ℕ) (entry : EntryPoint) (info : Info) → slice_get m.entry_points i ≡ Some entry → slice_get entry_points i ≡ Some info →
+      IsExact m entry.function info

@@ -136,30 +136,25 @@ module _ (OriginOf : ℕ → ℕ → Type 0) (Kills : ℕ → Type 0) (NeededBy 
     -- no usize holds how often an expression is named
     count_full : {e : ℕ} → 2 ^ 64 ≤ count_of f e → HasFault (CountFull e)
 
+-- what is recorded of the function at place c: it samples p with q
+abbrev pub RecordsPair : List Info → ℕ → Place → Place → Type 0
+RecordsPair infos c p q = (info : Info) × (slice_get infos c ≡ Some info) × Contains info.pairs (p, q)
+
 -- a fault of f, by the infos held of the functions before it
-module _ (m : Module) (infos : List Info) (f : Function) where
-  abbrev pub RecordsPair : ℕ → Place → Place → Type 0
-  RecordsPair c p q = (info : Info) × (slice_get infos c ≡ Some info) × Contains info.pairs (p, q)
+abbrev pub StepFault : Module → List Info → Function → Settings → Cause → Type 0
+StepFault m infos f settings = HasFault (StepOrigin m infos f) (RecordsKills infos) (StepExpressionNeed infos f) (RecordsPair infos) m settings f
 
-  abbrev pub StepNeededBy : Need → ℕ → Type 0
-  StepNeededBy n e = StepExpressionNeed infos f n e
+-- h is an origin of expression e of f
+abbrev pub IsOriginOf : Module → Function → ℕ → ℕ → Type 0
+IsOriginOf m f e h = (r : Function) × Origin m f e r h
 
-  abbrev pub StepFault : Settings → Cause → Type 0
-  StepFault settings = HasFault (StepOrigin m infos f) (RecordsKills infos) StepNeededBy RecordsPair m settings f
+-- the function at place c samples p with q
+abbrev pub PairAt : Module → ℕ → Place → Place → Type 0
+PairAt m c p q = (d : Function) × (slice_get m.functions c ≡ Some d) × IsPair m d p q
 
 -- a fault of f, over all chains of calls
-module _ (m : Module) (f : Function) where
-  abbrev pub SomeOrigin : ℕ → ℕ → Type 0
-  SomeOrigin e h = (r : Function) × Origin m f e r h
-
-  abbrev pub NeedsOf : Need → ℕ → Type 0
-  NeedsOf n e = ExpressionNeeds m n f e
-
-  abbrev pub PairAt : ℕ → Place → Place → Type 0
-  PairAt c p q = (d : Function) × (slice_get m.functions c ≡ Some d) × IsPair m d p q
-
-  abbrev pub IsFault : Settings → Cause → Type 0
-  IsFault settings = HasFault SomeOrigin (KillsAt m) NeedsOf PairAt m settings f
+abbrev pub IsFault : Module → Function → Settings → Cause → Type 0
+IsFault m f settings = HasFault (IsOriginOf m f) (KillsAt m) (λ n e. ExpressionNeeds m n f e) (PairAt m) m settings f
 
 -- what is analysed
 pub data Site : Type 0 where
@@ -173,3 +168,24 @@ pub data ModuleFault (m : Module) (settings : Settings) : Site → Cause → Typ
   in_function : {i : ℕ} {f : Function} {cause : Cause} → slice_get m.functions i ≡ Some f → IsFault m f settings cause → ModuleFault m settings (OfFunction i) cause
   in_entry_point : {i : ℕ} {entry : EntryPoint} {cause : Cause} → slice_get m.entry_points i ≡ Some entry → IsFault m entry.function settings cause →
       ModuleFault m settings (OfEntryPoint i) cause
+
+-- the order in which a module is analysed
+abbrev pub ComesBefore : Site → Site → Type 0
+ComesBefore (OfGlobalExpression e) (OfGlobalExpression d) = e < d
+ComesBefore (OfGlobalExpression e) (OfFunction i) = Unit {0}
+ComesBefore (OfGlobalExpression e) (OfEntryPoint i) = Unit {0}
+ComesBefore (OfFunction i) (OfGlobalExpression e) = ⊥
+ComesBefore (OfFunction i) (OfFunction j) = i < j
+ComesBefore (OfFunction i) (OfEntryPoint j) = Unit {0}
+ComesBefore (OfEntryPoint i) (OfGlobalExpression e) = ⊥
+ComesBefore (OfEntryPoint i) (OfFunction j) = ⊥
+ComesBefore (OfEntryPoint i) (OfEntryPoint j) = i < j
+
+-- a fault of the first faulty site
+pub record IsFirstFault (m : Module) (settings : Settings) (site : Site) (cause : Cause) : Type 0 where
+  pub stands : ModuleFault m settings site cause
+  pub first : (other : Site) (told : Cause) → ComesBefore other site → ModuleFault m settings other told → ⊥
+
+-- the module has no fault
+abbrev pub IsAccepted : Module → Settings → Type 0
+IsAccepted m settings = (site : Site) (cause : Cause) → ModuleFault m settings site cause → ⊥

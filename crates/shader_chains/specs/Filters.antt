@@ -1,5 +1,5 @@
 -- How grave a filter makes what is about derivative uniformity.
-use Rattle.std.specs.Prelude.{◌≡◌, ℕ, List, Option, Some, None, slice_get}
+use Rattle.std.specs.Prelude.{◌≡◌, ℕ, ◌<◌, List, Option, Some, None, IfSome, slice_get}
 use Rattle.shader_ir.specs.declared.module.DiagnosticFilterNode.{DiagnosticFilterNode}
 use Rattle.shader_ir.specs.declared.module.DiagnosticRule.TheVariants as rule
 use Rattle.shader_ir.specs.declared.module.Severity.{Severity}
@@ -12,3 +12,7 @@ pub data Governs (filters : List DiagnosticFilterNode) : Option ℕ → Severity
       Governs filters (Some i) filter.severity
   by_parent : {i : ℕ} {filter : DiagnosticFilterNode} {grave : Severity} → slice_get filters i ≡ Some filter → filter.rule ≡ rule.Other →
       Governs filters filter.parent grave → Governs filters (Some i) grave
+
+-- each filter's parent is an earlier one
+abbrev pub HaveEarlierParents : List DiagnosticFilterNode → Type 0
+HaveEarlierParents filters = (i : ℕ) (filter : DiagnosticFilterNode) → slice_get filters i ≡ Some filter → IfSome filter.parent (λ parent. parent < i)

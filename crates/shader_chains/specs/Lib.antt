@@ -3,7 +3,9 @@ pub mod Calls
 pub mod Counts
 pub mod Derivable
 pub mod Disruption
+pub mod Earlier
 pub mod Exact
+pub mod FaultLaws
 pub mod Faults
 pub mod Filters
 pub mod Flow
@@ -14,6 +16,7 @@ pub mod Needs
 pub mod Origins
 pub mod Pairs
 pub mod Program
+pub mod Samples
 pub mod Steps
 pub mod Sweep
 pub mod Uses

@@ -41,6 +41,16 @@ abbrev pub back : {m : Module} {f r : Function} → Chain m f r → Place → Op
 back here p = Some p
 back (via {f = f} call chain) p = option_and_then (in_caller f call.arguments) (back chain p)
 
+-- a chain and one that begins where it ends
+abbrev pub followed_by : {m : Module} {f r s : Function} → Chain m f r → Chain m r s → Chain m f s
+followed_by here second = second
+followed_by (via call first) second = via call (followed_by first second)
+
+-- a chain may be cut anywhere: a place leads back along it by way of the place at the cut
+abbrev pub PlacesLeadBackByParts : Type 0
+PlacesLeadBackByParts = (m : Module) (f r s : Function) (first : Chain m f r) (second : Chain m r s) (p : Place) →
+    back (followed_by first second) p ≡ option_and_then (back first) (back second p)
+
 -- some function that f reaches by a chain samples an image with a sampler whose places are, back in f, these
 pub record IsPair (m : Module) (f : Function) (image sampler : Place) : Type 0 where
   pub reached : Function

@@ -23,7 +23,6 @@ mod statement;
 mod types;
 
 pub use binding::{Binding, BuiltIn};
-pub use copies::TryCopy;
 pub use count::Count;
 pub use expression::{CooperativeData, Expression, ImageQuery, SampleLevel};
 pub use flags::{Barrier, ShaderStages, StorageAccess};
@@ -53,6 +52,7 @@ pub use proc::{
 };
 pub use same::Same;
 pub use scalar::{CooperativeRole, CooperativeSize, Scalar, ScalarKind, VectorSize};
+pub use shader_arena::TryCopy;
 pub use statement::{
     AtomicFunction, Block, CollectiveOperation, Direction, GatherMode, RayPipelineFunction,
     RayQueryFunction, Statement, SubgroupOperation, SwitchCase, SwitchValue,

@@ -3,11 +3,17 @@
 /// The kind of a scalar.
 #[derive(Clone, Copy, Debug, PartialEq, Eq, Hash)]
 pub enum ScalarKind {
+    /// Signed integers.
     Sint,
+    /// Unsigned integers.
     Uint,
+    /// Floats.
     Float,
+    /// Bools.
     Bool,
+    /// Integers of no type yet (WGSL `AbstractInt`).
     AbstractInt,
+    /// Floats of no type yet (WGSL `AbstractFloat`).
     AbstractFloat,
 }
 
@@ -98,7 +104,10 @@ pub enum CooperativeSize {
 /// The role of a cooperative matrix in a product.
 #[derive(Clone, Copy, Debug, PartialEq, Eq, Hash)]
 pub enum CooperativeRole {
+    /// The left factor of a product.
     A,
+    /// The right factor.
     B,
+    /// The summand, and the result.
     C,
 }

@@ -12,21 +12,32 @@ use std::alloc::{AllocError, Global};
 /// The space that a pointer points into.
 #[derive(Clone, Copy, Debug, PartialEq, Eq, Hash)]
 pub enum AddressSpace {
+    /// A local variable of one call of a function.
     Function,
+    /// A global variable of one invocation.
     Private,
+    /// Shared by a work group.
     WorkGroup,
+    /// A uniform buffer: the same for all invocations, read only.
     Uniform,
+    /// A storage buffer, with the access that is allowed.
     Storage { access: StorageAccess },
+    /// Images, samplers and acceleration structures, which are no memory.
     Handle,
+    /// Small data that a draw or a dispatch brings with it (push constants).
     Immediate,
+    /// Handed from a task shader to its mesh shaders.
     TaskPayload,
+    /// Handed to the shaders that a traced ray meets.
     RayPayload,
+    /// The payload that a ray brought here.
     IncomingRayPayload,
 }
 
 /// The number of an array's elements.
 #[derive(Clone, Copy, Debug, PartialEq, Eq, Hash)]
 pub enum ArraySize {
+    /// This many, known when the module is made.
     Constant(Count),
     /// What an override says once the pipeline is made.
     Pending(Handle<mark::Override>),
@@ -47,57 +58,71 @@ pub struct StructMember {
 /// A type without its name. Two of them are equal where all their fields are, handles by place.
 #[derive(Debug, PartialEq, Eq, Hash, Drop)]
 pub enum TypeInner {
+    /// One number or bool.
     Scalar(Scalar),
+    /// Two to four scalars.
     Vector {
         size: VectorSize,
         scalar: Scalar,
     },
+    /// Columns that are vectors of floats.
     Matrix {
         columns: VectorSize,
         rows: VectorSize,
         scalar: Scalar,
     },
+    /// A matrix that the invocations of a subgroup hold together.
     CooperativeMatrix {
         columns: CooperativeSize,
         rows: CooperativeSize,
         scalar: Scalar,
         role: CooperativeRole,
     },
+    /// A scalar in memory that invocations change atomically.
     Atomic(Scalar),
+    /// A pointer to a value of type `base`.
     Pointer {
         base: Handle<mark::Type>,
         space: AddressSpace,
     },
+    /// A pointer to a scalar, or to a vector where `size` is given, for which no type is registered.
     ValuePointer {
         size: Option<VectorSize>,
         scalar: Scalar,
         space: AddressSpace,
     },
+    /// Elements of type `base`, one after the other.
     Array {
         base: Handle<mark::Type>,
         size: ArraySize,
         /// The distance of two elements, in bytes.
         stride: u32,
     },
+    /// Members at their offsets.
     Struct {
         members: Items<StructMember>,
         /// In bytes.
         span: u32,
     },
+    /// An image (WGSL texture).
     Image {
         dim: ImageDimension,
         arrayed: bool,
         class: ImageClass,
     },
+    /// A sampler, one that compares with a depth where `comparison` says so.
     Sampler {
         comparison: bool,
     },
+    /// Geometry that rays are traced through.
     AccelerationStructure {
         vertex_return: bool,
     },
+    /// The state of a query of an acceleration structure.
     RayQuery {
         vertex_return: bool,
     },
+    /// Resources bound together, picked by an index.
     BindingArray {
         base: Handle<mark::Type>,
         size: ArraySize,

@@ -1,11 +1,13 @@
 -- What a form asks is among its operands.
-use Rattle.std.proofs.Common.{Option, Some, None, arith}
+use Rattle.std.proofs.Common.{ℕ, Option, Some, None, arith}
 use Rattle.shader_ir.specs.declared.expression.Expression.TheVariants as form
 use Rattle.shader_ir.specs.declared.expression.ImageQuery.TheVariants as query
 use Rattle.shader_ir.specs.declared.operators.BinaryOperator.TheVariants as operator
 use Rattle.shader_ir.specs.declared.operators.RelationalFunction.TheVariants as relational
 use Rattle.shader_ir.specs.declared.proc.operands.Label.TheVariants.{Read}
 use Rattle.shader_resolve.specs.AskedLaws.{AskedAreOperands}
+use Rattle.shader_resolve.specs.Follows.{EachAsked}
+use Rattle.shader_resolve.specs.Rows.{Row, Plain, One, Two}
 
 pub asked : AskedAreOperands
 asked context (form.Access base index) bound below = below 0 (0, Read) (omega arith)
@@ -32,3 +34,9 @@ asked context (form.As expr kind convert) bound below = below 0 (0, Read) (omega
 asked context (form.CooperativeLoad columns rows role tile) bound below = below 0 (0, Read) (omega arith)
 asked context (form.CooperativeMultiplyAdd a b c) bound below = below 2 (0, Read) (omega arith)
 asked context expression bound below = tt
+
+-- what follows of each operand follows of each that is asked
+pub each-asked : (P Q : ℕ → Type 0) → ((operand : ℕ) → P operand → Q operand) → (asks : Row) → EachAsked P asks → EachAsked Q asks
+each-asked P Q weaker (Plain outcome) held = tt
+each-asked P Q weaker (One operand answer) held = weaker operand held
+each-asked P Q weaker (Two left right answer) held = (weaker left held.0, weaker right held.1)

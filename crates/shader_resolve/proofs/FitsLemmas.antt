@@ -309,24 +309,24 @@ module _ (types : List «Type») where
   special-fits (Some ty) lt = lt
   special-fits None lt = tt
 
-  meets-fits : (result : Result TypeResolution ResolveError) (outcome : Outcome) → OutcomeFits outcome → Meets result outcome → IfOk result (λ resolution. FitsTypes types resolution)
-  meets-fits (Ok resolution) (Given given) fits meets = subst (λ told. FitsTypes types told) (sym meets) fits
-  meets-fits (Ok resolution) (Refused refusal) fits meets = absurd meets
-  meets-fits (Err failure) outcome fits meets = tt
+  meets-fits : (memory : Bool) (result : Result TypeResolution ResolveError) (outcome : Outcome) → OutcomeFits outcome → Meets memory result outcome → IfOk result (λ resolution. FitsTypes types resolution)
+  meets-fits memory (Ok resolution) (Given given) fits meets = subst (λ told. FitsTypes types told) (sym meets) fits
+  meets-fits memory (Ok resolution) (Refused refusal) fits meets = absurd meets
+  meets-fits memory (Err failure) outcome fits meets = tt
 
   failed : (result : Result TypeResolution ResolveError) (failure : ResolveError) → result ≡ Err failure → IfOk result (λ resolution. FitsTypes types resolution)
   failed result failure is = subst (λ answer. IfOk answer (λ resolution. FitsTypes types resolution)) (sym is) tt
 
   -- a result that follows such a row is in the arena
-  pub follows-fits : (Post : ℕ → Told → Type 0) (result : Result TypeResolution ResolveError)
-      → (asked : Row) → EachAsked (λ operand. (told : Told) → Post operand told → FitsTold types told) asked → RowFits asked → Follows Post result asked → IfOk result (λ resolution. FitsTypes types resolution)
-  follows-fits Post result (Plain outcome) told_fits fits follows = meets-fits result outcome fits follows
-  follows-fits Post result (One operand answer) told_fits fits (Ok told, posted, meets) = meets-fits result (answer told.now) (fits told.now (told_fits (Ok told) posted)) meets
-  follows-fits Post result (One operand answer) told_fits fits (Err failure, posted, is) = failed result failure is
-  follows-fits Post result (Two left right answer) told_fits fits (Err failure, posted, is) = failed result failure is
-  follows-fits Post result (Two left right answer) told_fits fits (Ok first, posted, (Err failure, more, is)) = failed result failure is
-  follows-fits Post result (Two left right answer) told_fits fits (Ok first, posted, (Ok second, more, meets)) =
-      meets-fits result (answer first.now second.now) (fits first.now second.now (told_fits.0 (Ok first) posted) (told_fits.1 (Ok second) more)) meets
+  pub follows-fits : (memory : Bool) (Post : ℕ → Told → Type 0) (result : Result TypeResolution ResolveError)
+      → (asked : Row) → EachAsked (λ operand. (told : Told) → Post operand told → FitsTold types told) asked → RowFits asked → Follows memory Post result asked → IfOk result (λ resolution. FitsTypes types resolution)
+  follows-fits memory Post result (Plain outcome) told_fits fits follows = meets-fits memory result outcome fits follows
+  follows-fits memory Post result (One operand answer) told_fits fits (Ok told, posted, meets) = meets-fits memory result (answer told.now) (fits told.now (told_fits (Ok told) posted)) meets
+  follows-fits memory Post result (One operand answer) told_fits fits (Err failure, posted, is) = failed result failure is
+  follows-fits memory Post result (Two left right answer) told_fits fits (Err failure, posted, is) = failed result failure is
+  follows-fits memory Post result (Two left right answer) told_fits fits (Ok first, posted, (Err failure, more, is)) = failed result failure is
+  follows-fits memory Post result (Two left right answer) told_fits fits (Ok first, posted, (Ok second, more, meets)) =
+      meets-fits memory result (answer first.now second.now) (fits first.now second.now (told_fits.0 (Ok first) posted) (told_fits.1 (Ok second) more)) meets
 
 call-fits : (context : Context) → All (λ (entry : PredeclaredType × ℕ). IsType context entry.1) context.special_types.predeclared_types → (fun : MathFunction) (arg : ℕ) (arg1 : Option ℕ) → RowFits context.types (math_row context fun arg arg1)
 call-fits context held fun arg None = λ told fits. at_inner-fits context.types (inner_of context.types told) _ (λ inner. first-fits context.types context.special_types held _ fun)

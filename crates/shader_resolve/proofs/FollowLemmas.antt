@@ -1,12 +1,13 @@
 -- A result that follows a row has the row's key.
-use Rattle.std.proofs.Common.{◌≡◌, ◌∙◌, ap, sym, refl, subst, ℕ, List, Option, Some, None, Result, Ok, Err, inl, inr}
+use Rattle.std.proofs.Common.{◌≡◌, ◌∙◌, ap, sym, refl, subst, ℕ, Bool, true, false, List, Option, Some, None, Result, Ok, Err, inl, inr}
 use Rattle.shader_ir.specs.declared.proc.type_resolution.TypeResolution.{TypeResolution}
 use Rattle.shader_ir.specs.Key.{Key, key_of}
 use Rattle.shader_resolve.specs.declared.error.ResolveError.{ResolveError}
+use Rattle.shader_resolve.specs.declared.error.ResolveError.TheVariants.{OutOfMemory}
 use Rattle.shader_ir.specs.declared.expression.Expression.{Expression}
 use Rattle.shader_resolve.specs.Context.{Context}
 use Rattle.shader_resolve.specs.Follows.{Told, Answered, Follows, EachAsked}
-use Rattle.shader_resolve.specs.Outcome.{Outcome, Given, Refused, Meets}
+use Rattle.shader_resolve.specs.Outcome.{Outcome, Given, Refused, Meets, WantsMemory}
 use Rattle.shader_resolve.specs.Rows.{Row, Plain, One, Two, row}
 use Rattle.shader_resolve.specs.Typing.{told_key, standing, at_key, outcome_key, row_key, TellsKeys, HasKey, typing}
 use Rattle.shader_resolve.proofs.RowLemmas.{Respects, row-respects}
@@ -25,11 +26,16 @@ at_key-same : (key : Option Key) (first second : TypeResolution → Option Key) 
 at_key-same (Some key) first second same = same (standing key)
 at_key-same None first second same = refl
 
-module _ (types : List «Type») where
-  meets-key : (result : Result TypeResolution ResolveError) (outcome : Outcome) → Meets result outcome → HasKey types result (outcome_key types outcome)
+-- memory that is wanted is the one error beside a row's refusals
+wanted : (memory : Bool) (failure : ResolveError) → WantsMemory memory failure → failure ≡ OutOfMemory
+wanted true failure wants = wants
+wanted false failure wants = absurd wants
+
+module _ (memory : Bool) (types : List «Type») where
+  meets-key : (result : Result TypeResolution ResolveError) (outcome : Outcome) → Meets memory result outcome → HasKey types result (outcome_key types outcome)
   meets-key (Ok resolution) (Given given) meets = ap (λ told. Some (key_of types told)) (sym meets)
   meets-key (Ok resolution) (Refused refusal) meets = absurd meets
-  meets-key (Err failure) (Given given) meets = inr meets
+  meets-key (Err failure) (Given given) meets = inr (wanted memory failure meets)
   meets-key (Err failure) (Refused refusal) meets = inl refl
 
   failed : (result : Result TypeResolution ResolveError) (failure : ResolveError) → result ≡ Err failure → HasKey types result None
@@ -39,7 +45,7 @@ module _ (types : List «Type») where
   along result key other same has = subst (λ told. HasKey types result told) (sym same) has
 
   module _ (Post : ℕ → Told → Type 0) (result : Result TypeResolution ResolveError) (keys : ℕ → Option Key) where
-    one : (operand : ℕ) (answer : TypeResolution → Outcome) → ((told : Told) → Post operand told → keys operand ≡ told_key types told) → Respects types (One operand answer) → Answered Post result operand (λ told. Meets result (answer told)) → HasKey types result (row_key types keys (One operand answer))
+    one : (operand : ℕ) (answer : TypeResolution → Outcome) → ((told : Told) → Post operand told → keys operand ≡ told_key types told) → Respects types (One operand answer) → Answered Post result operand (λ told. Meets memory result (answer told)) → HasKey types result (row_key types keys (One operand answer))
     one operand answer tells respects (Ok told, posted, meets) =
         along result _ _
         (ap (λ key. at_key key (λ there. outcome_key types (answer there))) (tells (Ok told) posted)
@@ -49,7 +55,7 @@ module _ (types : List «Type») where
         along result _ _ (ap (λ key. at_key key (λ there. outcome_key types (answer there))) (tells (Err failure) posted)) (failed result failure is)
 
     -- the result has the key that the row gives on keys
-    pub follows-key : (asked : Row) → TellsKeys types Post keys asked → Respects types asked → Follows Post result asked → HasKey types result (row_key types keys asked)
+    pub follows-key : (asked : Row) → TellsKeys types Post keys asked → Respects types asked → Follows memory Post result asked → HasKey types result (row_key types keys asked)
     follows-key (Plain outcome) tells respects follows = meets-key result outcome follows
     follows-key (One operand answer) tells respects follows = one operand answer tells respects follows
     follows-key (Two left right answer) tells respects (Err failure, posted, is) =
@@ -62,7 +68,8 @@ module _ (types : List «Type») where
         (one right (λ second. answer first.now second) tells.1 (λ second third same. respects first.now first.now second third refl same) follows)
 
 -- the result of an expression has the key that the expression has by the keys of its operands
-pub resolved-key : (context : Context) (expression : Expression) (Post : ℕ → Told → Type 0) (result : Result TypeResolution ResolveError) → Follows Post result (row context expression)
+pub resolved-key : (context : Context) (expression : Expression) (memory : Bool) (Post : ℕ → Told → Type 0) (result : Result TypeResolution ResolveError)
+    → Follows memory Post result (row context expression)
     → (keys : ℕ → Option Key) → TellsKeys context.types Post keys (row context expression) → HasKey context.types result (typing context keys expression)
-resolved-key context expression Post result follows keys tells =
-    follows-key context.types Post result keys (row context expression) tells (row-respects context expression) follows
+resolved-key context expression memory Post result follows keys tells =
+    follows-key memory context.types Post result keys (row context expression) tells (row-respects context expression) follows

@@ -1,11 +1,16 @@
 pub mod AskedLemmas
+pub mod BodyLemmas
 pub mod BuiltinLemmas
 pub mod ContextLemmas
 pub mod FitsLemmas
 pub mod FollowLemmas
 pub mod Joined
 pub mod KeyLemmas
+pub mod ModuleLemmas
 pub mod NumberLemmas
+pub mod PlaceLemmas
+pub mod PointerLemmas
 pub mod RangeLemmas
 pub mod RowLemmas
+pub mod TestLemmas
 pub mod TypingLemmas

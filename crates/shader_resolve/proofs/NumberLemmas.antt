@@ -1,10 +1,9 @@
 -- Where known numbers and sizes are looked for.
 use Rattle.std.proofs.Common.{◌≡◌, sym, subst, ℕ, zero, suc, ◌+◌, ◌<◌, List, [], ◌∷◌, Option, Some, None, IfSome, All, length, slice_get, arith}
-use Rattle.std.specs.List.{enumerate_from}
 use Rattle.std.specs.Option.{IsSomeAnd}
-use Rattle.std.proofs.lemmas.List.Elements.{All-head, All-tail}
+use Rattle.std.proofs.lemmas.List.Elements.{All-head, All-tail, All-weaker}
 use Rattle.shader_ir.specs.KnownNumbers.{IsConstantInRange, IsOverrideInRange, IsStepInRange, IsKnownInRange, IsInitInRange, IsSizeInRange, IsSizerInRange, IsSizingInRange}
-use Rattle.shader_ir.specs.Sizes.{AreSizesInRange, IsCountInRange, IsTypeSizeInRange}
+use Rattle.shader_ir.specs.Sizes.{IsCountInRange, IsTypeSizeInRange}
 use Rattle.shader_ir.specs.declared.expression.Expression.{Expression}
 use Rattle.shader_ir.specs.declared.expression.Expression.TheVariants as form
 use Rattle.shader_ir.specs.declared.«module».Constant.{Constant}
@@ -83,12 +82,8 @@ module _ (ctx : GlobalCtx) (numbered : Numbered ctx.types.now ctx.constants.now 
   abbrev IsSized : «Type» → Type 0
   IsSized type = IfSome (sizing_override type.inner) (λ override. override < length ctx.overrides.now)
 
-  types-in : (first : ℕ) (types : List «Type») → All IsSized types → AreSizesInRange ctx (enumerate_from first types)
-  types-in first [] all = tt
-  types-in first (type ∷ types) all = (type-in type.inner (All-head IsSized type types all), types-in (first + 1) types (All-tail IsSized type types all))
-
   numbers-fit : NumbersFit ctx
-  numbers-fit = record { expressions = known-in; overrides = size-in; type_sizes = types-in 0 ctx.types.now numbered.sizes }
+  numbers-fit = record { expressions = known-in; overrides = size-in; type_sizes = All-weaker IsSized (λ (type : «Type»). IsTypeSizeInRange ctx type.inner) (λ type sized. type-in type.inner sized) ctx.types.now numbered.sizes }
 
 -- so it is in a context that holds a module's parts
 pub module-numbers : (checked : Module) → Numbered checked.types checked.constants checked.overrides checked.global_expressions → (ctx : GlobalCtx) → IsCtxOf checked ctx → NumbersFit ctx

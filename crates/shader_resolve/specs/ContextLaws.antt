@@ -10,7 +10,7 @@ use Rattle.shader_ir.specs.declared.function.LocalVariable.{LocalVariable}
 use Rattle.shader_ir.specs.declared.function.EntryPoint.{EntryPoint}
 use Rattle.shader_ir.specs.declared.«module».GlobalCtx.{GlobalCtx}
 use Rattle.shader_ir.specs.declared.«module».Module.{Module}
-use Rattle.shader_resolve.specs.Context.{context_of, IsInRange, TypesInRange}
+use Rattle.shader_resolve.specs.Context.{Context, context_of, IsInRange, TypesInRange}
 use Rattle.shader_resolve.specs.Follows.{EachAsked}
 use Rattle.shader_resolve.specs.Rows.{row}
 use Rattle.shader_resolve.specs.WellFormed.{AtEach, IsWellFormed}
@@ -21,13 +21,17 @@ pub record NumbersFit (ctx : GlobalCtx) : Type 0 where
   pub overrides : (override : ℕ) → override < length ctx.overrides.now → IsSizeInRange ctx override
   pub type_sizes : AreTypeSizesInRange ctx
 
+-- each operand that an expression asks is earlier
+abbrev pub AskedEarlier : Context → List Expression → Type 0
+AskedEarlier context expressions = AtEach (λ place expression. EachAsked (λ operand. operand < place) (row context expression)) expressions
+
 module _ (checked : Module) where
   -- of these locals, arguments and expressions: the types that the context names are in range, so is what each expression
   -- names, and each operand that it asks is earlier
   pub record ContextFits (locals : List LocalVariable) (arguments : List FunctionArgument) (expressions : List Expression) : Type 0 where
     pub types : TypesInRange (context_of checked locals arguments)
     pub names : All (IsInRange (context_of checked locals arguments)) expressions
-    pub asked : AtEach (λ place expression. EachAsked (λ operand. operand < place) (row (context_of checked locals arguments) expression)) expressions
+    pub asked : AskedEarlier (context_of checked locals arguments) expressions
 
   abbrev pub FunctionFits : Function → Type 0
   FunctionFits function = ContextFits function.local_variables function.arguments function.expressions

@@ -1,8 +1,9 @@
 -- When a result follows a row, at what its operands are told to be.
 use denote.Ref.{Bor}
-use Rattle.std.specs.Prelude.{Option, Some, None, ℕ, ◌≡◌, List, Result, Err, IfOk, MatchResult}
+use Rattle.std.specs.Prelude.{Bool, true, false, Option, Some, None, ℕ, ◌≡◌, List, Result, Err, IfOk, MatchResult}
 use Rattle.shader_ir.specs.declared.expression.Expression.{Expression}
 use Rattle.shader_ir.specs.declared.expression.Expression.TheVariants as form
+use Rattle.shader_ir.specs.declared.operators.RelationalFunction.TheVariants as relational
 use Rattle.shader_ir.specs.declared.types.«Type».{«Type»}
 use Rattle.shader_ir.specs.declared.proc.type_resolution.TypeResolution.{TypeResolution}
 use Rattle.shader_ir.specs.Key.{FitsTypes}
@@ -14,16 +15,30 @@ use Rattle.shader_resolve.specs.Rows.{Row, Plain, One, Two}
 abbrev pub Told : Type 0
 Told = Result (Bor TypeResolution) ResolveError
 
+-- the forms that copy an operand's type, ask for the rules of a builtin or name an operation in their refusal; no other takes memory
+abbrev pub takes_memory : Expression → Bool
+takes_memory (form.Unary op expr) = true
+takes_memory (form.Binary op left right) = true
+takes_memory (form.Select condition accept reject) = true
+takes_memory (form.Derivative axis ctrl expr) = true
+takes_memory (form.Relational relational.IsNan argument) = true
+takes_memory (form.Relational relational.IsInf argument) = true
+takes_memory (form.Math fun arg arg1 arg2 arg3) = true
+takes_memory (form.As expr kind convert) = true
+takes_memory (form.CooperativeMultiplyAdd a b c) = true
+takes_memory _ = false
+
 module _ (Post : ℕ → Told → Type 0) (result : Result TypeResolution ResolveError) where
   -- the operand is told to be a type from which the rest follows, or an error, which is the result
   abbrev pub Answered : ℕ → (TypeResolution → Type 0) → Type 0
   Answered operand Rest = (told : Told) × Post operand told × MatchResult told (λ resolution. Rest resolution.now) (λ failure. result ≡ Err failure)
 
-  -- the result is what the row answers, or the first error of an operand
-  abbrev pub Follows : Row → Type 0
-  Follows (Plain outcome) = Meets result outcome
-  Follows (One operand answer) = Answered operand (λ resolution. Meets result (answer resolution))
-  Follows (Two left right answer) = Answered left (λ first. Answered right (λ second. Meets result (answer first second)))
+-- the result is what the row answers, or the first error of an operand; or, where some is taken, memory ran out
+abbrev pub Follows : Bool → (ℕ → Told → Type 0) → Result TypeResolution ResolveError → Row → Type 0
+Follows memory Post result (Plain outcome) = Meets memory result outcome
+Follows memory Post result (One operand answer) = Answered Post result operand (λ resolution. Meets memory result (answer resolution))
+Follows memory Post result (Two left right answer) =
+    Answered Post result left (λ first. Answered Post result right (λ second. Meets memory result (answer first second)))
 
 -- the condition holds of each operand that the row asks
 abbrev pub EachAsked : (ℕ → Type 0) → Row → Type 0
@@ -64,9 +79,9 @@ IsOperation (form.CooperativeMultiplyAdd a b c) = Unit {0}
 IsOperation _ = ⊥
 
 -- the result meets a row that asks nothing
-abbrev pub MeetsPlain : Result TypeResolution ResolveError → Row → Type 0
-MeetsPlain result (Plain outcome) = Meets result outcome
-MeetsPlain result _ = ⊥
+abbrev pub MeetsPlain : Bool → Result TypeResolution ResolveError → Row → Type 0
+MeetsPlain memory result (Plain outcome) = Meets memory result outcome
+MeetsPlain memory result _ = ⊥
 
 -- the form is of one of the groups that ask
 abbrev pub IsAsking : Expression → Type 0
@@ -91,5 +106,5 @@ IsAsking _ = ⊥
 
 -- the answer meets a row that asks nothing, and is none for a form of the groups that ask alone
 abbrev pub IsLeafAnswer : Option (Result TypeResolution ResolveError) → Expression → Row → Type 0
-IsLeafAnswer (Some result) expression asked = MeetsPlain result asked
+IsLeafAnswer (Some result) expression asked = MeetsPlain (takes_memory expression) result asked
 IsLeafAnswer None expression asked = IsAsking expression

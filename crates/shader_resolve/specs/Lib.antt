@@ -4,9 +4,11 @@ pub mod Context
 pub mod ContextLaws
 pub mod Follows
 pub mod Images
+pub mod ModuleTests
 pub mod Operations
 pub mod Outcome
 pub mod Part
+pub mod PointerLaws
 pub mod Rows
 pub mod Statements
 pub mod Typing

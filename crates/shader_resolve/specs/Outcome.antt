@@ -1,5 +1,5 @@
 -- What a row of the table answers, and when a result meets it.
-use Rattle.std.specs.Prelude.{ℕ, Bool, ◌≡◌, ◌⊎◌, Option, Some, None, Result, Ok, Err, List, [], string_bytes}
+use Rattle.std.specs.Prelude.{ℕ, Bool, true, false, ◌≡◌, ◌⊎◌, Option, Some, None, Result, Ok, Err, List, [], string_bytes}
 use Rattle.shader_ir.specs.declared.types.«Type».{«Type»}
 use Rattle.shader_ir.specs.declared.types.TypeInner.{TypeInner}
 use Rattle.shader_ir.specs.declared.proc.type_resolution.TypeResolution.{TypeResolution}
@@ -48,6 +48,13 @@ words_of (error.IncompatibleOperands words) = string_bytes words
 words_of (error.BuiltinArgumentsInvalid words) = string_bytes words
 words_of _ = []
 
+-- the error holds words
+abbrev pub HasWords : ResolveError → Type 0
+HasWords (error.FunctionNotDefined name) = Unit {0}
+HasWords (error.IncompatibleOperands words) = Unit {0}
+HasWords (error.BuiltinArgumentsInvalid words) = Unit {0}
+HasWords _ = ⊥
+
 -- a type or a refusal
 pub data Outcome : Type 0 where
   Given : TypeResolution → Outcome
@@ -62,13 +69,19 @@ at_inner None answer = Refused NoSuchHandle
 abbrev pub at_shape : List «Type» → TypeResolution → (TypeInner → Outcome) → Outcome
 at_shape types resolution answer = at_inner (inner_of types resolution) answer
 
--- the error is the refusal, with some words, or says that memory ran out
-abbrev pub IsRefusal : Refusal → ResolveError → Type 0
-IsRefusal refusal failure = (refusal_of failure ≡ refusal) ⊎ (failure ≡ error.OutOfMemory)
+-- memory ran out, where some is taken
+abbrev pub WantsMemory : Bool → ResolveError → Type 0
+WantsMemory true failure = failure ≡ error.OutOfMemory
+WantsMemory false failure = ⊥
 
--- the result is what the row answers, or says that memory ran out
-abbrev pub Meets : Result TypeResolution ResolveError → Outcome → Type 0
-Meets (Ok resolution) (Given given) = resolution ≡ given
-Meets (Ok resolution) (Refused refusal) = ⊥
-Meets (Err failure) (Given given) = failure ≡ error.OutOfMemory
-Meets (Err failure) (Refused refusal) = IsRefusal refusal failure
+module _ (memory : Bool) where
+  -- the error is the refusal, with some words, or says that memory ran out
+  abbrev pub IsRefusal : Refusal → ResolveError → Type 0
+  IsRefusal refusal failure = (refusal_of failure ≡ refusal) ⊎ WantsMemory memory failure
+
+  -- the result is what the row answers, or says that memory ran out
+  abbrev pub Meets : Result TypeResolution ResolveError → Outcome → Type 0
+  Meets (Ok resolution) (Given given) = resolution ≡ given
+  Meets (Ok resolution) (Refused refusal) = ⊥
+  Meets (Err failure) (Given given) = WantsMemory memory failure
+  Meets (Err failure) (Refused refusal) = IsRefusal refusal failure

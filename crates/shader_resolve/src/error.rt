@@ -1,6 +1,6 @@
 //! Why an expression has no type.
-ghost use Rattle.std.specs.Prelude.{◌≡◌, string_bytes, IfOk};
-ghost use Rattle.shader_resolve.specs.Outcome.{refusal_of, words_of};
+ghost use Rattle.std.specs.Prelude.{◌≡◌, string_bytes, IfErr, IfOk};
+ghost use Rattle.shader_resolve.specs.Outcome.{HasWords, refusal_of, words_of};
 
 use shader_arena::Handle;
 use shader_ir::mark;
@@ -87,10 +87,11 @@ fn copy_text(alloc: Global, text: &str) -> Result<String, AllocError>
 }
 
 impl ResolveError {
-    /// The same error again, with the same words.
+    /// The same error again, with the same words. Only an error that has some takes memory.
     pub fn copy(&self, alloc: Global) -> Result<ResolveError, AllocError>
         ensures refusal { IfOk result (λ copy. refusal_of copy ≡ refusal_of self.now) }
         ensures words { IfOk result (λ copy. words_of copy ≡ words_of self.now) }
+        ensures memory { IfErr result (λ _. HasWords self.now) }
     {
         Ok(match self {
             ResolveError::FunctionNotDefined { name } => ResolveError::FunctionNotDefined {

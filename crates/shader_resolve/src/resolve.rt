@@ -23,19 +23,20 @@ use values::scalar_type;
 type Resolved = Result<TypeResolution, ResolveError>;
 
 impl<'a> ResolveContext<'a> {
-    ghost use Rattle.std.specs.Prelude.{◌≡◌, ℕ, Option, length, Some, IfOk};
+    ghost use Rattle.std.specs.Prelude.{◌≡◌, ℕ, Option, length, Some, IfOk, true};
     ghost use Rattle.shader_ir.specs.Key.{Key, inner_of, FitsTypes};
     ghost use Rattle.shader_ir.specs.TypeTree.{IsBackward, PointsBelow};
     ghost use Rattle.shader_resolve.specs.Context.{IsInRange, TypesInRange};
     ghost use Rattle.shader_resolve.specs.Rows.{math_row, row};
-    ghost use Rattle.shader_resolve.specs.Follows.{EachAsked, FitsTold, Follows, IsAccessing, IsOfImage, IsOperation};
+    ghost use Rattle.shader_resolve.specs.Follows.{EachAsked, FitsTold, Follows, IsAccessing, IsOfImage, IsOperation, takes_memory};
     ghost use Rattle.shader_resolve.specs.Typing.{HasKey, TellsKeys, typing};
 
     /// The type of an expression, where `past` tells those of its operands. Only the operands that the type rests on are asked.
     ///
     /// # Errors
     ///
-    /// The refusal of the expression's form; an error of `past`, the first that it answers.
+    /// The refusal of the expression's form; an error of `past`, the first that it answers; want of memory, for the forms that copy
+    /// an operand's type, ask for the rules of a builtin or name an operation in their refusal.
     pub fn resolve<F>(&self, alloc: Global, expr: &Expression, past: F) -> Resolved
     where
         F: Fn(Handle<mark::Expression>) -> Result<&'a TypeResolution, ResolveError>,
@@ -43,7 +44,7 @@ impl<'a> ResolveContext<'a> {
         requires in_range { IsInRange self.now expr.now }
         requires asked { EachAsked (F.pre past) (row self.now expr.now) }
         requires told_fits { EachAsked (λ operand. (told : _) → F.post past operand told → FitsTold self.now.types told) (row self.now expr.now) }
-        ensures follows { Follows (F.post past) result (row self.now expr.now) }
+        ensures follows { Follows (takes_memory expr.now) (F.post past) result (row self.now expr.now) }
         ensures key { (keys : ℕ → Option Key) → TellsKeys self.now.types (F.post past) keys (row self.now expr.now) → HasKey self.now.types result (typing self.now keys expr.now) }
         ensures fits { TypesInRange self.now → IfOk result (λ resolution. FitsTypes self.now.types resolution) }
     {
@@ -57,7 +58,7 @@ impl<'a> ResolveContext<'a> {
         requires in_range { IsInRange self.now expr.now }
         requires asked { EachAsked (F.pre past) (row self.now expr.now) }
         requires told_fits { EachAsked (λ operand. (told : _) → F.post past operand told → FitsTold self.now.types told) (row self.now expr.now) }
-        ensures { Follows (F.post past) result (row self.now expr.now) }
+        ensures { Follows (takes_memory expr.now) (F.post past) result (row self.now expr.now) }
     {
         if let Some(resolved) = self.leaf_type(expr) {
             return resolved;
@@ -96,7 +97,7 @@ impl<'a> ResolveContext<'a> {
         requires form { IsAccessing expr.now }
         requires asked { EachAsked (F.pre past) (row self.now expr.now) }
         requires told_fits { EachAsked (λ operand. (told : _) → F.post past operand told → FitsTold self.now.types told) (row self.now expr.now) }
-        ensures { Follows (F.post past) result (row self.now expr.now) }
+        ensures { Follows (takes_memory expr.now) (F.post past) result (row self.now expr.now) }
     {
         match expr {
             Expression::Access { base, .. } => {
@@ -134,7 +135,7 @@ impl<'a> ResolveContext<'a> {
         requires form { IsOfImage expr.now }
         requires asked { EachAsked (F.pre past) (row self.now expr.now) }
         requires told_fits { EachAsked (λ operand. (told : _) → F.post past operand told → FitsTold self.now.types told) (row self.now expr.now) }
-        ensures { Follows (F.post past) result (row self.now expr.now) }
+        ensures { Follows (takes_memory expr.now) (F.post past) result (row self.now expr.now) }
     {
         match expr {
             Expression::ImageSample {
@@ -162,7 +163,7 @@ impl<'a> ResolveContext<'a> {
         requires form { IsOperation expr.now }
         requires asked { EachAsked (F.pre past) (row self.now expr.now) }
         requires told_fits { EachAsked (λ operand. (told : _) → F.post past operand told → FitsTold self.now.types told) (row self.now expr.now) }
-        ensures { Follows (F.post past) result (row self.now expr.now) }
+        ensures { Follows (takes_memory expr.now) (F.post past) result (row self.now expr.now) }
     {
         match expr {
             Expression::Unary { expr: operand, .. }
@@ -210,7 +211,7 @@ impl<'a> ResolveContext<'a> {
         requires backward { IsBackward self.now.types }
         requires asked { EachAsked (F.pre past) (math_row self.now fun arg arg1) }
         requires told_fits { EachAsked (λ operand. (told : _) → F.post past operand told → FitsTold self.now.types told) (math_row self.now fun arg arg1) }
-        ensures { Follows (F.post past) result (math_row self.now fun arg arg1) }
+        ensures { Follows true (F.post past) result (math_row self.now fun arg arg1) }
     {
         match arg1 {
             None => self.math_of_one(alloc, fun, past(arg)?),

@@ -1,18 +1,17 @@
 //! Whether a module is well formed.
-ghost use Rattle.std.specs.Prelude.{◌≡◌, ◌↔◌, length, IsOk, IfErr};
-ghost use Rattle.std.specs.List.{list_all};
-ghost use Rattle.shader_resolve.specs.WellFormed.{every, every_function, function_lacks, IsWellFormed, Stands};
+ghost use Rattle.std.specs.Prelude.{◌≡◌, ◌↔◌, IsOk, IfErr};
+ghost use Rattle.shader_resolve.specs.ModuleTests.{check_entry_point, check_function, check_module, in_arena, in_list};
+ghost use Rattle.shader_resolve.specs.WellFormed.{IsWellFormed, Stands};
 
 mod data;
 mod expressions;
 mod functions;
 mod statements;
 
-use data::{data_in_range, filters_earlier};
-use expressions::{operands_earlier, results_earlier};
-use functions::{function_in_range, takes_no_value_pointer};
-use shader_ir::{Function, Module, types_backward};
-use statements::body_lacks;
+use data::check_data;
+use expressions::check_expressions;
+use functions::check_function;
+use shader_ir::Module;
 
 /// Why a module isn't well formed.
 #[derive(Clone, Copy, Debug, PartialEq, Eq)]
@@ -37,90 +36,54 @@ pub enum ModuleFault {
     EmitRange,
 }
 
+/// How many functions, locals and expressions the expressions and statements of a function may name.
+#[derive(Clone, Copy)]
+pub struct Bounds {
+    /// The functions before it.
+    pub earlier: usize,
+    pub locals: usize,
+    pub expressions: usize,
+}
+
 /// Whether a module is well formed, or else a fault that stands in it. Nothing is asked of the
 /// module's handles, and no memory is taken.
 pub fn check_module(module: &Module) -> Result<(), ModuleFault>
     ensures ok { IsOk result ↔ IsWellFormed «module».now }
     ensures fault { IfErr result (λ fault. Stands «module».now fault) }
 {
-    if !data_in_range(module) || !every_function(module, ModuleFault::HandleOutOfRange) {
-        return Err(ModuleFault::HandleOutOfRange);
-    }
-    if !types_backward(&module.types) {
-        return Err(ModuleFault::TypeNotEarlier);
-    }
-    if !operands_earlier(&module.global_expressions)
-        || !every_function(module, ModuleFault::OperandNotEarlier)
-    {
-        return Err(ModuleFault::OperandNotEarlier);
-    }
-    if !results_earlier(&module.global_expressions, 0)
-        || !every_function(module, ModuleFault::CalleeNotEarlier)
-    {
-        return Err(ModuleFault::CalleeNotEarlier);
-    }
-    if !every_function(module, ModuleFault::ArgumentCount) {
-        return Err(ModuleFault::ArgumentCount);
-    }
-    if !filters_earlier(module) {
-        return Err(ModuleFault::FilterNotEarlier);
-    }
-    if !every_function(module, ModuleFault::ValuePointerArgument) {
-        return Err(ModuleFault::ValuePointerArgument);
-    }
-    if !every_function(module, ModuleFault::EmitRange) {
-        return Err(ModuleFault::EmitRange);
+    check_parts(module)
+}
+
+/// The first fault, types before expressions before functions before entry points.
+fn check_parts(module: &Module) -> Result<(), ModuleFault>
+    ensures { result ≡ check_module «module».now }
+{
+    check_data(module)?;
+    let bounds = Bounds {
+        earlier: 0,
+        locals: 0,
+        expressions: module.global_expressions.len(),
+    };
+    check_expressions(module, bounds, &module.global_expressions)?;
+    check_functions(module)?;
+    check_entry_points(module)
+}
+
+fn check_functions(module: &Module) -> Result<(), ModuleFault>
+    ensures { result ≡ in_arena (check_function «module».now) «module».now.functions }
+{
+    for (handle, function) in module.functions.iter() {
+        check_function(module, handle.index(), function)?;
     }
     Ok(())
 }
 
-/// Whether no function and no entry point has the fault.
-fn every_function(module: &Module, fault: ModuleFault) -> bool
-    ensures { result ≡ every_function (function_lacks «module».now fault) «module».now }
-{
-    functions_lack(module, fault) && entry_points_lack(module, fault)
-}
-
-fn functions_lack(module: &Module, fault: ModuleFault) -> bool
-    ensures { result ≡ every (function_lacks «module».now fault) «module».now.functions }
-{
-    for (handle, function) in module.functions.iter() {
-        if !function_lacks(module, fault, handle.index(), function) {
-            return false;
-        }
-    }
-    true
-}
-
 /// To an entry point all functions are earlier.
-fn entry_points_lack(module: &Module, fault: ModuleFault) -> bool
-    ensures { result ≡ list_all (λ entry. function_lacks «module».now fault (length «module».now.functions) entry.function) «module».now.entry_points }
+fn check_entry_points(module: &Module) -> Result<(), ModuleFault>
+    ensures { result ≡ in_list (check_entry_point «module».now) «module».now.entry_points }
 {
-    module.entry_points.as_slice().iter().all(|entry| function_lacks(
-        module,
-        fault,
-        module.functions.len(),
-        &entry.function,
-    ))
-}
-
-/// Whether a function that has so many earlier ones lacks the fault.
-fn function_lacks(module: &Module, fault: ModuleFault, earlier: usize, function: &Function) -> bool
-    ensures { result ≡ function_lacks «module».now fault earlier function.now }
-{
-    match fault {
-        ModuleFault::HandleOutOfRange => {
-            function_in_range(module, function) && body_lacks(module, fault, earlier, function)
-        }
-        ModuleFault::OperandNotEarlier => operands_earlier(&function.expressions),
-        ModuleFault::CalleeNotEarlier => {
-            results_earlier(&function.expressions, earlier)
-                && body_lacks(module, fault, earlier, function)
-        }
-        ModuleFault::ArgumentCount | ModuleFault::EmitRange => {
-            body_lacks(module, fault, earlier, function)
-        }
-        ModuleFault::ValuePointerArgument => takes_no_value_pointer(module, function),
-        ModuleFault::TypeNotEarlier | ModuleFault::FilterNotEarlier => true,
+    for entry in module.entry_points.as_slice() {
+        check_function(module, module.functions.len(), &entry.function)?;
     }
+    Ok(())
 }

@@ -1,7 +1,7 @@
 //! The types of expressions whose operands' types are held in a list.
-ghost use Rattle.std.specs.Prelude.{length, IsTrue};
+ghost use Rattle.std.specs.Prelude.{◌<◌, length, All, IsTrue};
 ghost use Rattle.shader_ir.specs.Key.{FitsTypes, IsNoStruct};
-ghost use Rattle.shader_ir.specs.TypeTree.{PointsBelow};
+ghost use Rattle.shader_ir.specs.TypeTree.{IsBackward, PointsBelow};
 ghost use Rattle.shader_resolve.specs.Context.{IsInRange};
 ghost use Rattle.shader_resolve.specs.Follows.{FitsTold};
 
@@ -93,4 +93,24 @@ pub fn resolve_held<'a>(
         { told(types, held, operand) },
     );
     Some(resolved)
+}
+
+/// The type of what a pointer points to, where the types of all expressions are held and are the module's.
+///
+/// Nothing is said of the closure: `resolve` asks of the one operand of a load alone, whose place is in the list.
+pub fn load_held<'a>(
+    context: &ResolveContext<'a>,
+    alloc: Global,
+    held: &'a [TypeResolution],
+    pointer: Handle<mark::Expression>,
+) -> Result<TypeResolution, ResolveError>
+    requires backward { IsBackward context.now.types }
+    requires fit { All (FitsTypes context.now.types) held.now }
+    requires there { pointer < length held.now }
+{
+    context.resolve(
+        alloc,
+        &Expression::Load { pointer },
+        |operand| Ok(&held[operand.index()]),
+    )
 }

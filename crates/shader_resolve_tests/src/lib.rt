@@ -5,4 +5,4 @@ mod held;
 #[cfg(test)]
 mod tests;
 
-pub use held::resolve_held;
+pub use held::{load_held, resolve_held};

@@ -13,9 +13,8 @@ use Rattle.shader_text.specs.declared.types.SpelledType.{SpelledType}
 use Rattle.shader_text.specs.Builtins.{builtin_of, builtin_text}
 use Rattle.typer.specs.Laws.{RequestsAreSpelled}
 use Rattle.typer.specs.Requests.{AreWritableTypes, IsWritableRequest, all_kinds, call_from, call_with, convert_from, kind_of, kind_text, layout_from, named_from, request_from, request_of, request_text, request_with, request_words, rules_from, types_of}
-use Rattle.shader_text.specs.Builtins.{named_builtins}
 use Rattle.shader_text.specs.Types.{type_of, type_text}
-use Rattle.shader_text.proofs.BuiltinFacts.{builtin_facts}
+use Rattle.shader_text.proofs.BuiltinFacts.{builtin_facts, name_is}
 use Rattle.shader_text.proofs.Found.{found_is, mapped}
 use Rattle.shader_text.proofs.Separators.{AreSolid, is_break, is_end, is_space, no_end, no_space, quiet_append, split_joined}
 use Rattle.shader_text.proofs.TypeSpellings.{type_is, type_named, type_quiet}
@@ -92,7 +91,7 @@ named_are (name ∷ words) named e =
     option_and_then_some {P = AreNamedOf (name ∷ words) named} (λ function. option_map (λ types. (function, types)) (types_of words)) (builtin_of name) named e
     (λ function found inner.
     let m = mapped (λ (types : List SpelledType). (function, types)) (types_of words) named inner in
-    let h = found_is builtin_text named_builtins name function found in
+    let h = name_is name function found in
     let k = types_are words m.0 m.1 in
     let spelled : builtin_text function ∷ map type_text m.0 ≡ name ∷ words =
     ap (λ (w : List ℕ). w ∷ map type_text m.0) (sym h) ∙ ap (λ (ws : List (List ℕ)). name ∷ ws) k.0 in

@@ -1,14 +1,18 @@
 -- The rules that are left of a builtin, argument by argument.
-use Rattle.std.proofs.Common.{◌≡◌, ℕ, ◌+◌, ◌<◌, Bool, true, false, cond, ◌&&◌, List, [], ◌∷◌, length, drop, get_or, refl, sym, subst, ap, ◌∙◌}
-use Rattle.std.specs.List.{filter}
+use Rattle.std.proofs.Common.{◌≡◌, ℕ, ◌+◌, ◌<◌, Bool, true, false, cond, ◌&&◌, List, [], ◌∷◌, length, map, drop, get_or, refl, sym, subst, ap, ◌∙◌}
+use Rattle.std.specs.List.{filter, list_all}
 use Rattle.std.proofs.lemmas.List.{drop_more}
 use Rattle.std.proofs.lemmas.List.Elements.{All-filter}
 use Rattle.shader_ir.specs.declared.operators.MathFunction.{MathFunction}
 use Rattle.shader_ir.specs.declared.types.«Type».{«Type»}
 use Rattle.shader_overloads.specs.declared.rule.Rule.{Rule}
-use Rattle.shader_overloads.specs.Remaining.{RuleFits, RulesFit}
+use Rattle.shader_overloads.specs.Builtins.{acceptance_of, rules_of}
+use Rattle.shader_overloads.specs.Remaining.{RuleFits, RulesFit, passes}
+use Rattle.shader_text.specs.declared.types.PlainType.{PlainType}
 use Rattle.shader_text.specs.declared.types.SpelledType.{SpelledType}
+use Rattle.shader_text.specs.declared.types.SpelledType.TheVariants.{Plain}
 use Rattle.typer.specs.Calls.{takes_all, takes_argument}
+use Rattle.typer.specs.Laws.{RulesLeftRemain, calls_from}
 
 at_rule : (p : Rule → Bool) (b c : Bool) (rule : Rule) (kept both : List Rule) → p rule ≡ c → filter p kept ≡ both
     → filter p (cond b (rule ∷ kept) kept) ≡ cond (b && c) (rule ∷ both) both
@@ -40,3 +44,18 @@ supplied function arguments k d argument before after all within at step rest =
 -- fewer rules still fit
 pub fewer_fit : (types : List «Type») (p : Rule → Bool) (before after : List Rule) → after ≡ filter p before → RulesFit types before → RulesFit types after
 fewer_fit types p before after step fit = subst (RulesFit types) (sym step) (record { each = All-filter p (RuleFits types) before fit.each })
+
+-- ---- the same rules in one arena
+
+filter_same : (p q : Rule → Bool) (rules : List Rule) → ((rule : Rule) → p rule ≡ q rule) → filter p rules ≡ filter q rules
+filter_same p q [] same = refl
+filter_same p q (rule ∷ rules) same = rw (same rule, filter_same p q rules same) refl
+
+takes_same : (function : MathFunction) (place : ℕ) (arguments : List PlainType) (rule : Rule)
+    → takes_all function place (map Plain arguments) rule ≡ list_all (passes (acceptance_of function) [] rule) (calls_from place arguments)
+takes_same function place [] rule = refl
+takes_same function place (argument ∷ arguments) rule =
+    ap (λ (b : Bool). takes_argument function place (Plain argument) rule && b) (takes_same function (place + 1) arguments rule)
+
+pub rules_left_remain : RulesLeftRemain
+rules_left_remain function arguments = filter_same _ _ (rules_of function) (takes_same function 0 arguments)

@@ -1,10 +1,19 @@
--- Laws of requests, and of whole inputs by what they spell.
-use Rattle.std.specs.Prelude.{◌≡◌, ◌≢◌, ◌==◌, ◌+◌, ℕ, false, List, [], ◌∷◌, ◌++◌, length, Some, codes}
+-- Laws of requests, of whole inputs by what they spell, and of the rules that are left.
+use Rattle.std.specs.Prelude.{◌≡◌, ◌≢◌, ◌==◌, ◌+◌, ℕ, false, List, [], ◌∷◌, ◌++◌, length, map, Some, codes}
 use Rattle.std.specs.List.{flat_map, list_any}
 use Rattle.std.specs.Fmt.{decimal}
+use Rattle.shader_ir.specs.declared.operators.MathFunction.{MathFunction}
+use Rattle.shader_overloads.specs.declared.overload_set.SetCall.{SetCall}
+use Rattle.shader_overloads.specs.declared.overload_set.SetCall.TheVariants.{Arg}
+use Rattle.shader_overloads.specs.Builtins.{acceptance_of, rules_of}
+use Rattle.shader_overloads.specs.Remaining.{remaining}
+use Rattle.shader_text.specs.declared.types.PlainType.{PlainType}
+use Rattle.shader_text.specs.declared.types.SpelledType.TheVariants.{Plain}
+use Rattle.shader_text.specs.Types.{inner_of}
 use Rattle.typer.specs.declared.answer.Outcome.TheVariants.{Done, BadLine}
 use Rattle.typer.specs.declared.request.Request.{Request}
 use Rattle.typer.specs.Answers.{reply_text, reply_of, answer_of}
+use Rattle.typer.specs.Calls.{rules_left}
 use Rattle.typer.specs.Requests.{request_text, request_of, IsWritableRequest}
 
 -- a line makes a request exactly where it is the request's text
@@ -41,3 +50,13 @@ BadLinesEndAnswers = (requests : List Request) (bad rest : List ℕ) → AreWrit
 -- the last line may lack its end
 abbrev pub LastLinesMayLackEnds : Type 0
 LastLinesMayLackEnds = (text : List ℕ) (last : ℕ) → last ≢ 10 → answer_of (text ++ last ∷ []) ≡ answer_of (text ++ last ∷ 10 ∷ [])
+
+-- calls that supply the types, the first as the argument of the place
+abbrev pub calls_from : ℕ → List PlainType → List SetCall
+calls_from place [] = []
+calls_from place (plain ∷ plains) = Arg place (inner_of plain) ∷ calls_from (place + 1) plains
+
+-- the rules that are left of a builtin are those that remain of its set after the arguments are supplied
+abbrev pub RulesLeftRemain : Type 0
+RulesLeftRemain = (function : MathFunction) (arguments : List PlainType)
+    → rules_left function (map Plain arguments) ≡ remaining (acceptance_of function) [] (calls_from 0 arguments) (rules_of function)

@@ -1,41 +1,44 @@
 -- The layouts of spelled types.
-use Rattle.std.specs.Prelude.{ℕ, ◌*◌, Option, Some, None, if◌then◌else◌}
-use Rattle.std.specs.Int.{is_power_of_two}
-use Rattle.std.specs.Option.{option_map}
-use Rattle.shader_ir.specs.Alignments.{vector_alignment, vector_count}
-use Rattle.shader_ir.specs.Layout.{alignment_of}
-use Rattle.shader_ir.specs.Sizes.{array_bytes}
+use Rattle.std.specs.Prelude.{ℕ, ◌+◌, List, [], ◌∷◌, ◌++◌, Option, Some, None}
+use Rattle.std.specs.Option.{option_or}
+use Rattle.shader_ir.specs.Layout.{layout_fault, layout_of}
+use Rattle.shader_ir.specs.TypeTree.{tree_of}
+use Rattle.shader_ir.specs.declared.expression.Expression.{Expression}
+use Rattle.shader_ir.specs.declared.«module».Constant.{Constant}
+use Rattle.shader_ir.specs.declared.«module».GlobalCtx.{GlobalCtx}
+use Rattle.shader_ir.specs.declared.«module».Override.{Override}
+use Rattle.shader_ir.specs.declared.proc.layouter.LayoutErrorInner.{LayoutErrorInner}
 use Rattle.shader_ir.specs.declared.proc.layouter.TypeLayout.{TypeLayout}
-use Rattle.shader_text.specs.declared.types.PlainType.{PlainType}
-use Rattle.shader_text.specs.declared.types.PlainType.TheVariants.{Scalar, Vector, Matrix}
+use Rattle.shader_ir.specs.declared.types.«Type».{«Type»}
 use Rattle.shader_text.specs.declared.types.SpelledType.{SpelledType}
-use Rattle.shader_text.specs.declared.types.SpelledType.TheVariants.{Plain, Array}
-use Rattle.typer.specs.Conversions.{tree_of_spelled}
+use Rattle.shader_text.specs.Placements.{own_inner, own_types, unnamed}
 
--- the width in bytes of the scalar that a type is built of
-abbrev pub plain_width : PlainType → ℕ
-plain_width (Scalar scalar) = scalar.width
-plain_width (Vector size scalar) = scalar.width
-plain_width (Matrix columns rows scalar) = scalar.width
+-- the types of an arena of its own: the base of an array, and then the type
+abbrev pub laid_types : SpelledType → List «Type»
+laid_types spelled = own_types spelled ++ unnamed (own_inner spelled) ∷ []
 
-abbrev pub spelled_width : SpelledType → ℕ
-spelled_width (Plain plain) = plain_width plain
-spelled_width (Array base count stride) = plain_width base
+-- where the arenas stand in memory doesn't matter
+abbrev pub context : List «Type» → List Constant → List Override → List Expression → GlobalCtx
+context types constants overrides expressions =
+    record {
+      types = record { ref_ptr = (0, 0); now = types };
+      constants = record { ref_ptr = (0, 0); now = constants };
+      overrides = record { ref_ptr = (0, 0); now = overrides };
+      global_expressions = record { ref_ptr = (0, 0); now = expressions };
+    }
 
--- the size in bytes: the columns of a matrix are aligned as vectors are
-abbrev pub plain_size : PlainType → ℕ
-plain_size (Scalar scalar) = scalar.width
-plain_size (Vector size scalar) = vector_count size * scalar.width
-plain_size (Matrix columns rows scalar) = vector_alignment rows * scalar.width * vector_count columns
+-- the first fault of types of which the first has the place
+abbrev pub first_fault : GlobalCtx → ℕ → List «Type» → Option LayoutErrorInner
+first_fault ctx place [] = None
+first_fault ctx place (type ∷ types) = option_or (layout_fault ctx place type.inner) (first_fault ctx (place + 1) types)
 
--- an array has a size where neither its count nor the product of count and stride is above the limit
-abbrev pub spelled_size : SpelledType → Option ℕ
-spelled_size (Plain plain) = Some (plain_size plain)
-spelled_size (Array base count stride) = array_bytes count stride
+abbrev pub layout_unless : Option LayoutErrorInner → TypeLayout → Option TypeLayout
+layout_unless None layout = Some layout
+layout_unless (Some fault) layout = None
 
--- the layout, where there is a size and the width is a power of two
+-- the layout of the type in its arena, where no type there has a fault
+abbrev pub layout_in : GlobalCtx → SpelledType → Option TypeLayout
+layout_in ctx spelled = layout_unless (first_fault ctx 0 (laid_types spelled)) (layout_of ctx (tree_of (laid_types spelled) (own_inner spelled)))
+
 abbrev pub layout_of_spelled : SpelledType → Option TypeLayout
-layout_of_spelled spelled =
-    if is_power_of_two (spelled_width spelled) then
-    option_map (λ size. record { size = size; alignment = alignment_of (tree_of_spelled spelled) }) (spelled_size spelled)
-    else None
+layout_of_spelled spelled = layout_in (context (laid_types spelled) [] [] []) spelled

@@ -8,6 +8,10 @@ use Rattle.typer.specs.declared.reading.InputError.TheVariants as inputs
 use Rattle.typer.specs.declared.status.Status.{Status}
 use Rattle.typer.specs.declared.status.Status.TheVariants.{Done, BadLine, ReadFailed, WriteFailed, OutOfMemory, TooLong}
 
+-- the most bytes that an input may have
+abbrev pub most_bytes : ℕ
+most_bytes = 1048576
+
 abbrev pub status_code : Status → ℕ
 status_code Done = 0
 status_code BadLine = 2

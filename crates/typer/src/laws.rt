@@ -1,6 +1,6 @@
-//! Laws of requests, and of whole inputs by what they spell.
+//! Laws of requests, of whole inputs by what they spell, and of the rules that are left.
 
-ghost use Rattle.typer.specs.Laws.{BadLinesEndAnswers, LastLinesMayLackEnds, RequestsAreAnswered, RequestsAreSpelled};
+ghost use Rattle.typer.specs.Laws.{BadLinesEndAnswers, LastLinesMayLackEnds, RequestsAreAnswered, RequestsAreSpelled, RulesLeftRemain};
 
 /// A line makes a request exactly where it is the request's text.
 pub fn requests_are_spelled()
@@ -20,4 +20,9 @@ pub fn bad_lines_end_answers()
 /// The last line may lack its end.
 pub fn last_lines_may_lack_ends()
     ensures { LastLinesMayLackEnds }
+{}
+
+/// The rules that are left of a builtin are those that remain of its set after the arguments are supplied.
+pub fn rules_left_remain()
+    ensures { RulesLeftRemain }
 {}

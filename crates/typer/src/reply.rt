@@ -4,9 +4,9 @@ use crate::call::{conclusion, remaining_rules};
 use crate::conversion::conversion;
 use crate::layout::layout;
 use crate::request::{Request, parse_request};
-use shader_ir::{Alignment, Items, MathFunction, Scalar, TypeLayout};
+use shader_ir::{Alignment, Items, Scalar, TypeLayout};
 use shader_overloads::{Conclusion, Rule};
-use shader_text::{ConclusionText, RulesText, ScalarText, SpelledType};
+use shader_text::{ConclusionText, RulesText, ScalarText};
 use std::alloc::{AllocError, Global};
 use std::fmt;
 
@@ -52,12 +52,9 @@ impl fmt::Display for Reply {
 }
 
 impl Reply {
-    ghost use Rattle.std.specs.Prelude.{◌≡◌, IfOk, IfSome, Some};
+    ghost use Rattle.std.specs.Prelude.{◌≡◌, IfOk, IfSome};
     ghost use Rattle.shader_ir.specs.Layout.{HasStride};
-    ghost use Rattle.typer.specs.Answers.{concluded, converted, laid_out, listed, reply_to};
-    ghost use Rattle.typer.specs.Calls.{conclusion_of, rules_left};
-    ghost use Rattle.typer.specs.Conversions.{conversion_of};
-    ghost use Rattle.typer.specs.Layouts.{layout_of_spelled};
+    ghost use Rattle.typer.specs.Answers.{concluded, converted, laid_out, listed, reply_of, reply_to};
 
     fn from_conversion(scalars: Option<(Scalar, Scalar)>) -> Reply
         ensures { result ≡ converted scalars }
@@ -100,44 +97,25 @@ impl Reply {
         Reply::Rules(rules)
     }
 
-    fn to_call(
-        alloc: Global,
-        function: MathFunction,
-        arguments: &[SpelledType],
-    ) -> Result<Option<Reply>, AllocError>
-        ensures { IfOk result (λ reply. reply ≡ Some (concluded (conclusion_of function arguments.now))) }
+    /// The reply to a request.
+    fn to_request(alloc: Global, request: Request) -> Result<Reply, AllocError>
+        ensures { IfOk result (λ reply. reply ≡ reply_of request) }
     {
-        let found = conclusion(alloc, function, arguments)?;
-        Ok(Some(Reply::from_conclusion(found)))
-    }
-
-    fn to_rules(
-        alloc: Global,
-        function: MathFunction,
-        arguments: &[SpelledType],
-    ) -> Result<Option<Reply>, AllocError>
-        ensures { IfOk result (λ reply. reply ≡ Some (listed (rules_left function arguments.now))) }
-    {
-        let rules = remaining_rules(alloc, function, arguments)?;
-        Ok(Some(Reply::from_rules(rules)))
-    }
-
-    fn to_layout(alloc: Global, spelled: SpelledType) -> Result<Option<Reply>, AllocError>
-        ensures { IfOk result (λ reply. reply ≡ Some (laid_out (layout_of_spelled spelled))) }
-    {
-        let found = layout(alloc, spelled)?;
-        Ok(Some(Reply::from_layout(found)))
-    }
-
-    fn to_conversion(
-        alloc: Global,
-        from: SpelledType,
-        to: SpelledType,
-    ) -> Result<Option<Reply>, AllocError>
-        ensures { IfOk result (λ reply. reply ≡ Some (converted (conversion_of from to))) }
-    {
-        let scalars = conversion(alloc, from, to)?;
-        Ok(Some(Reply::from_conversion(scalars)))
+        match request {
+            Request::Call(function, arguments) => {
+                let found = conclusion(alloc, function, arguments.as_slice())?;
+                Ok(Reply::from_conclusion(found))
+            }
+            Request::Rules(function, arguments) => {
+                let rules = remaining_rules(alloc, function, arguments.as_slice())?;
+                Ok(Reply::from_rules(rules))
+            }
+            Request::Layout(spelled) => Ok(Reply::from_layout(layout(alloc, spelled)?)),
+            Request::Convert(from, to) => {
+                let scalars = conversion(alloc, from, to)?;
+                Ok(Reply::from_conversion(scalars))
+            }
+        }
     }
 
     /// The reply to a line, if it asks for something.
@@ -147,15 +125,6 @@ impl Reply {
         let Some(request) = parse_request(alloc, line)? else {
             return Ok(None);
         };
-        match request {
-            Request::Call(function, arguments) => {
-                Reply::to_call(alloc, function, arguments.as_slice())
-            }
-            Request::Rules(function, arguments) => {
-                Reply::to_rules(alloc, function, arguments.as_slice())
-            }
-            Request::Layout(spelled) => Reply::to_layout(alloc, spelled),
-            Request::Convert(from, to) => Reply::to_conversion(alloc, from, to),
-        }
+        Ok(Some(Reply::to_request(alloc, request)?))
     }
 }

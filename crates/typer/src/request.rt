@@ -2,7 +2,7 @@
 
 ghost use Rattle.std.specs.Prelude.{◌≡◌, IfOk};
 ghost use Rattle.std.specs.Option.{option_map};
-ghost use Rattle.typer.specs.Requests.{call_from, convert_from, kind_of, layout_from, named_from, request_from, request_of, rules_from, types_of};
+ghost use Rattle.typer.specs.Requests.{call_from, convert_from, kind_of, layout_from, named_from, request_of, rules_from, types_of};
 
 use shader_ir::{Items, MathFunction};
 use shader_text::{Pieces, SpelledType, builtin_from_word};
@@ -135,10 +135,11 @@ fn parse_rules(alloc: Global, words: Pieces<'_>) -> Result<Option<Request>, Allo
     Ok(Some(Request::Rules(function, Items::from(arguments))))
 }
 
-/// The request that the words make.
-fn parse_words(alloc: Global, mut words: Pieces<'_>) -> Result<Option<Request>, AllocError>
-    ensures { IfOk result (λ request. request ≡ request_from words.entry) }
+/// The request that a line makes, if it makes one.
+pub fn parse_request(alloc: Global, line: &[u8]) -> Result<Option<Request>, AllocError>
+    ensures { IfOk result (λ request. request ≡ request_of line.now) }
 {
+    let mut words = Pieces::new(line, b' ');
     let Some(kind) = words.next().and_then(Kind::from_word) else {
         return Ok(None);
     };
@@ -148,11 +149,4 @@ fn parse_words(alloc: Global, mut words: Pieces<'_>) -> Result<Option<Request>, 
         Kind::Layout => Ok(parse_layout(words)),
         Kind::Convert => Ok(parse_convert(words)),
     }
-}
-
-/// The request that a line makes, if it makes one.
-pub fn parse_request(alloc: Global, line: &[u8]) -> Result<Option<Request>, AllocError>
-    ensures { IfOk result (λ request. request ≡ request_of line.now) }
-{
-    parse_words(alloc, Pieces::new(line, b' '))
 }

@@ -2,10 +2,10 @@
 
 ghost use Rattle.std.specs.Prelude.{◌≡◌, ◌<◌, ◌↔◌, ℕ, List, false, take, length, IsTrue, IfSome};
 ghost use Rattle.std.specs.Io.KnownBytes.{Appends, Consumes, IsAtEnd, Keeps};
-ghost use Rattle.typer.specs.Runs.{answer, OnAnswered, OnUnanswered};
+ghost use Rattle.typer.specs.Runs.{OnAnswered, OnUnanswered, answer, most_bytes};
 
 use crate::answer::Answer;
-use crate::reading::{INPUT_LIMIT, read_input};
+use crate::reading::read_input;
 use crate::sink::Sink;
 use crate::source::{Failed, Source};
 use crate::status::Status;
@@ -32,7 +32,7 @@ pub fn run<R: Source, W: Sink>(alloc: Global, reader: &mut R, writer: &mut W) ->
     ensures read_failed { (result ≡ Status.ReadFailed) ↔ IsTrue (R.has_failed reader.new) }
     ensures write_failed { (result ≡ Status.WriteFailed) ↔ IsTrue (W.has_failed writer.new) }
     ensures too_long { (read : List ℕ) × Consumes (R.remaining reader.old) (R.remaining reader.new) read
-        × ((result ≡ Status.TooLong) ↔ (INPUT_LIMIT < length read)) }
+        × ((result ≡ Status.TooLong) ↔ (most_bytes < length read)) }
 {
     let input = match read_input(alloc, reader) {
         Ok(input) => input,

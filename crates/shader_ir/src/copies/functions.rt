@@ -1,7 +1,6 @@
 //! Copies of functions and entry points.
 ghost use Rattle.std.specs.Prelude.{◌≡◌, IfOk};
 
-use crate::copies::copy_arena;
 use crate::{
     EntryPoint, Expression, Function, FunctionArgument, Items, LocalVariable, Name,
     NamedExpressions, TryCopy, mark,
@@ -91,8 +90,8 @@ impl Function {
         ensures variables { IfOk result (λ copies. copies.0 ≡ self.now.local_variables) }
         ensures expressions { IfOk result (λ copies. copies.1 ≡ self.now.expressions) }
     {
-        let variables = copy_arena(alloc, &self.local_variables)?;
-        Ok((variables, copy_arena(alloc, &self.expressions)?))
+        let variables = self.local_variables.copy(alloc)?;
+        Ok((variables, self.expressions.copy(alloc)?))
     }
 
     fn copy_names(

@@ -1,7 +1,6 @@
 //! Copies of modules and of what they declare.
 ghost use Rattle.std.specs.Prelude.{◌≡◌, IfOk, OnOk};
 
-use crate::copies::{copy_arena, copy_unique_arena};
 use crate::{
     Constant, DiagnosticFilterNode, GlobalVariable, Module, Override, PredeclaredType,
     SpecialTypes, TryCopy, Type,
@@ -131,15 +130,15 @@ impl Module {
     fn copy_from(&mut self, alloc: Global, other: &Module) -> Result<(), AllocError>
         ensures { OnOk result (self.new ≡ other.now) }
     {
-        self.types = copy_unique_arena(alloc, &other.types)?;
+        self.types = other.types.copy(alloc)?;
         self.special_types = other.special_types.copy(alloc)?;
-        self.constants = copy_arena(alloc, &other.constants)?;
-        self.overrides = copy_arena(alloc, &other.overrides)?;
-        self.global_variables = copy_arena(alloc, &other.global_variables)?;
-        self.global_expressions = copy_arena(alloc, &other.global_expressions)?;
-        self.functions = copy_arena(alloc, &other.functions)?;
+        self.constants = other.constants.copy(alloc)?;
+        self.overrides = other.overrides.copy(alloc)?;
+        self.global_variables = other.global_variables.copy(alloc)?;
+        self.global_expressions = other.global_expressions.copy(alloc)?;
+        self.functions = other.functions.copy(alloc)?;
         self.entry_points = other.entry_points.copy(alloc)?;
-        self.diagnostic_filters = copy_arena(alloc, &other.diagnostic_filters)?;
+        self.diagnostic_filters = other.diagnostic_filters.copy(alloc)?;
         Ok(())
     }
 }

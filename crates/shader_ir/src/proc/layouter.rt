@@ -60,8 +60,10 @@ pub struct LayoutError {
 #[derive(Clone, Copy, Debug, PartialEq, Error)]
 pub enum UpdateError {
     #[error("Layout")]
+    /// A type has no layout.
     Layout(LayoutError),
     #[error("OutOfMemory")]
+    /// An allocation failed.
     OutOfMemory,
 }
 

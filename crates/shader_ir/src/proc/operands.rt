@@ -18,7 +18,9 @@ use std::marker::Model;
 pub enum Label {
     /// A part of it is named, and nothing is read or written yet.
     Part,
+    /// The value is read.
     Read,
+    /// What the operand points to is written.
     Write,
     /// Read and written, in one occurrence.
     ReadWrite,

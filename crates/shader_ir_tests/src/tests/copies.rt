@@ -1,6 +1,6 @@
 //! Copies, with ample memory.
 use crate::tests::samples::{WANT, add};
-use shader_arena::{Arena, Handle, UniqueArena};
+use shader_arena::{Arena, Handle};
 use shader_ir::{
     AddressSpace, BinaryOperator, Block, Constant, EntryPoint, Expression, Function,
     FunctionArgument, GlobalVariable, Items, LocalVariable, Map, Module, Name, Override, Scalar,
@@ -253,11 +253,9 @@ fn of_an_entry_point(rt: HostRuntime) {
 }
 
 fn special_types(alloc: Global) -> SpecialTypes {
-    SpecialTypes {
-        ray_intersection: None,
-        ray_vertex_return: Some(Handle::from_index(0)),
-        predeclared_types: Map::new(alloc),
-    }
+    let mut special = SpecialTypes::new(alloc);
+    special.ray_vertex_return = Some(Handle::from_index(0));
+    special
 }
 
 #[test]
@@ -268,24 +266,10 @@ fn of_special_types(rt: HostRuntime) {
     assert!(rt; copy.ray_intersection.is_none());
 }
 
-/// A module with nothing in it but special types.
-fn module(alloc: Global) -> Module {
-    Module {
-        types: UniqueArena::new(alloc),
-        special_types: special_types(alloc),
-        constants: Arena::new(alloc),
-        overrides: Arena::new(alloc),
-        global_variables: Arena::new(alloc),
-        global_expressions: Arena::new(alloc),
-        functions: Arena::new(alloc),
-        entry_points: Items::from(Vec::new(alloc)),
-        diagnostic_filters: Arena::new(alloc),
-    }
-}
-
 /// A module of one type and one function.
 fn module_of_one(rt: &impl Abort, alloc: Global) -> Module {
-    let mut module = module(alloc);
+    let mut module = Module::new(alloc);
+    module.special_types = special_types(alloc);
     add(rt, &mut module.types, TypeInner::Scalar(Scalar::F32));
     let function = function(rt, alloc);
     assert!(rt; module.functions.len() < 100);

@@ -1,12 +1,11 @@
 //! Names, lists, maps, counts and sets of bits, and what a module lends.
 use crate::tests::samples::{WANT, add};
 use bitflags::Flags;
-use shader_arena::{Arena, Handle, UniqueArena};
+use shader_arena::Handle;
 use shader_ir::{
     Barrier, Count, GlobalCtx, Items, Map, Module, Name, PredeclaredType, Scalar, ShaderStages,
-    SpecialTypes, StorageAccess, TypeInner, mark,
+    StorageAccess, TypeInner, mark,
 };
-use std::alloc::Global;
 use std::process::Abort;
 
 #[test]
@@ -102,25 +101,6 @@ fn stages_have_their_bits(rt: HostRuntime) {
     assert!(rt; (stages & ShaderStages::VERTEX).bits() == 0);
 }
 
-/// A module with nothing in it.
-fn empty_module(alloc: Global) -> Module {
-    Module {
-        types: UniqueArena::new(alloc),
-        special_types: SpecialTypes {
-            ray_intersection: None,
-            ray_vertex_return: None,
-            predeclared_types: Map::new(alloc),
-        },
-        constants: Arena::new(alloc),
-        overrides: Arena::new(alloc),
-        global_variables: Arena::new(alloc),
-        global_expressions: Arena::new(alloc),
-        functions: Arena::new(alloc),
-        entry_points: Items::from(Vec::new(alloc)),
-        diagnostic_filters: Arena::new(alloc),
-    }
-}
-
 fn lends_one_type(ctx: GlobalCtx<'_>) -> bool {
     ctx.types.len() == 1
         && ctx.constants.len() == 0
@@ -130,7 +110,7 @@ fn lends_one_type(ctx: GlobalCtx<'_>) -> bool {
 
 #[test]
 fn a_module_lends_its_arenas(rt: HostRuntime) {
-    let mut module = empty_module(rt.alloc());
+    let mut module = Module::new(rt.alloc());
     add(&rt, &mut module.types, TypeInner::Scalar(Scalar::F32));
     assert!(rt; lends_one_type(module.to_ctx()));
 }

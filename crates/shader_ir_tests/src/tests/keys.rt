@@ -1,7 +1,7 @@
 //! Which types are the same, in an arena and as what expressions resolve to.
 ghost use Rattle.std.specs.Prelude.{◌≡◌, Some};
 
-use crate::tests::samples::{Types, WANT, add, member, pair, vector};
+use crate::tests::samples::{Types, WANT, add, array, member, pair, structure, vector};
 use shader_arena::{Handle, UniqueArena};
 use shader_ir::{
     AddressSpace, ArraySize, Name, PredeclaredType, Same, Scalar, Type, TypeInner, TypeResolution,
@@ -136,6 +136,20 @@ fn a_value_lends_itself(rt: HostRuntime) {
     let resolution = TypeResolution::Value(vector(VectorSize::Bi, Scalar::F32));
     assert!(rt; resolution.handle() == None);
     assert!(rt; *resolution.inner_with(&types) == pair_of_floats());
+}
+
+#[test]
+fn what_fits_has_its_handles_in_range(rt: HostRuntime) {
+    let mut types: Types = UniqueArena::new(rt.alloc());
+    let held = add(&rt, &mut types, pair_of_floats());
+    let past = Handle::from_index(1);
+    assert!(rt; TypeResolution::Handle(held).fits(&types));
+    assert!(rt; !TypeResolution::Handle(past).fits(&types));
+    assert!(rt; array(held, ArraySize::Dynamic, 8).is_in_range(&types));
+    let outside = array(past, ArraySize::Dynamic, 8);
+    assert!(rt; !TypeResolution::Value(outside).fits(&types));
+    let unnamed = structure(Vec::new(rt.alloc()), 0);
+    assert!(rt; !TypeResolution::Value(unnamed).fits(&types));
 }
 
 #[test]

@@ -3,7 +3,7 @@ use crate::tests::samples::{Arenas, WANT, add, array, counted, matrix, pair, str
 use shader_arena::Handle;
 use shader_ir::{
     AddressSpace, ArraySize, CooperativeRole, CooperativeSize, GlobalCtx, LayoutError,
-    LayoutErrorInner, Layouter, Scalar, ScalarKind, TypeInner, UpdateError, VectorSize, mark,
+    LayoutErrorInner, Layouter, Scalar, ScalarKind, Type, TypeInner, UpdateError, VectorSize, mark,
     sizes_in_range,
 };
 use std::alloc::Global;
@@ -234,4 +234,19 @@ fn a_struct_of_a_later_type_is_refused(rt: HostRuntime) {
     let ty = add(&rt, &mut arenas.types, two);
     let inner = LayoutErrorInner::InvalidStructMemberType(1, later);
     refuses(&rt, rt.alloc(), arenas.ctx(), ty, inner);
+}
+
+#[test]
+fn of_more_types_than_16_bits_count(rt: HostRuntime) {
+    let mut arenas = Arenas::new(rt.alloc());
+    add(&rt, &mut arenas.types, TypeInner::Scalar(Scalar::F32));
+    for count in 1..65_537 {
+        assert!(rt; !arenas.types.is_full());
+        let inner = floats(counted(&rt, count), 4);
+        let added = arenas.types.insert(Type { name: None, inner });
+        added.expect(&rt, WANT);
+    }
+    let mut layouter = Layouter::new(rt.alloc());
+    assert!(rt; refusal(&rt, &mut layouter, arenas.ctx()).is_none());
+    assert_eq!(rt; layouter.len(), 65_537);
 }

@@ -1,5 +1,5 @@
 //! Parts of types, and accesses to them.
-ghost use Rattle.std.specs.Prelude.{◌≡◌, ◌<◌, length};
+ghost use Rattle.std.specs.Prelude.{◌≡◌, ◌<◌, false, length};
 ghost use Rattle.shader_ir.specs.Alignments.{vector_count};
 ghost use Rattle.shader_ir.specs.TypeTree.{PointsBelow};
 ghost use Rattle.shader_resolve.specs.Outcome.{Meets};
@@ -128,7 +128,7 @@ pub fn access(
     inner: &TypeInner,
 ) -> Result<TypeResolution, ResolveError>
     requires { PointsBelow (length types.now) inner.now }
-    ensures { Meets result (lifted types.now base index inner.now) }
+    ensures { Meets false result (lifted types.now base index inner.now) }
 {
     let indexed = index.is_some();
     match inner {

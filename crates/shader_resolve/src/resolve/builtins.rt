@@ -1,5 +1,5 @@
 //! The types of calls of builtin functions.
-ghost use Rattle.std.specs.Prelude.{◌≡◌, ℕ, Bool, List, IfOk, length};
+ghost use Rattle.std.specs.Prelude.{◌≡◌, ℕ, Bool, true, List, IfOk, length};
 ghost use Rattle.shader_ir.specs.TypeTree.{IsBackward, PointsBelow};
 ghost use Rattle.shader_ir.specs.declared.types.«Type».{«Type»};
 ghost use Rattle.shader_ir.specs.declared.types.TypeInner.{TypeInner};
@@ -55,7 +55,7 @@ fn after_two(
 
 /// The error of arguments that no rule accepts, under the name of the builtin.
 fn invalid_arguments(name: Result<String, AllocError>) -> ResolveError
-    ensures { IsRefusal BuiltinArgumentsInvalid result }
+    ensures { IsRefusal true BuiltinArgumentsInvalid result }
 {
     match name {
         Ok(name) => ResolveError::BuiltinArgumentsInvalid(name),
@@ -64,6 +64,7 @@ fn invalid_arguments(name: Result<String, AllocError>) -> ResolveError
 }
 
 impl<'a> ResolveContext<'a> {
+    ghost use Rattle.std.specs.Prelude.{true};
     ghost use Rattle.shader_ir.specs.Key.{FitsTypes};
     ghost use Rattle.shader_ir.specs.TypeTree.{IsBackward};
     ghost use Rattle.shader_overloads.specs.AnySet.{rules_in};
@@ -80,7 +81,7 @@ impl<'a> ResolveContext<'a> {
     ) -> Resolved
         requires backward { IsBackward self.now.types }
         requires fits { FitsTypes self.now.types first.now }
-        ensures { Meets result (math_of_one self.now.types self.now.special_types fun first.now) }
+        ensures { Meets true result (math_of_one self.now.types self.now.special_types fun first.now) }
     {
         let left = after_one(alloc, self.types, fun, self.inner(first))?;
         self.conclude(alloc, fun, &left)
@@ -97,7 +98,7 @@ impl<'a> ResolveContext<'a> {
         requires backward { IsBackward self.now.types }
         requires first_fits { FitsTypes self.now.types first.now }
         requires second_fits { FitsTypes self.now.types second.now }
-        ensures { Meets result (math_of_two self.now.types self.now.special_types fun first.now second.now) }
+        ensures { Meets true result (math_of_two self.now.types self.now.special_types fun first.now second.now) }
     {
         let left = after_two(
             alloc,
@@ -111,7 +112,7 @@ impl<'a> ResolveContext<'a> {
 
     /// What the first rule of a builtin's set concludes.
     fn conclude(&self, alloc: Global, fun: MathFunction, left: &AnyOverloadSet) -> Resolved
-        ensures { Meets result (first_conclusion self.now.special_types (rules_in left.now)) }
+        ensures { Meets true result (first_conclusion self.now.special_types (rules_in left.now)) }
     {
         if left.is_empty() {
             return Err(invalid_arguments(format!(in alloc; "{fun:?}")));
@@ -121,7 +122,7 @@ impl<'a> ResolveContext<'a> {
     }
 
     fn conclusion_of(&self, rule: Rule) -> Resolved
-        ensures { Meets result (concluded (resolution_of self.now.special_types rule.conclusion)) }
+        ensures { Meets true result (concluded (resolution_of self.now.special_types rule.conclusion)) }
     {
         let resolution = rule.conclusion.into_resolution(self.special_types)?;
         Ok(resolution)

@@ -1,5 +1,5 @@
 //! What images hold, and how large they are.
-ghost use Rattle.std.specs.Prelude.{◌≡◌};
+ghost use Rattle.std.specs.Prelude.{◌≡◌, false};
 ghost use Rattle.shader_resolve.specs.Images.{extent_type, format_scalar, gather_type, sample_type};
 ghost use Rattle.shader_resolve.specs.Outcome.{Meets};
 
@@ -13,7 +13,7 @@ use shader_ir::{
 
 /// The type of four texels' components.
 pub fn gather(image: Handle<mark::Expression>, inner: &TypeInner) -> Resolved
-    ensures { Meets result (gather_type image inner.now) }
+    ensures { Meets false result (gather_type image inner.now) }
 {
     let TypeInner::Image { class, .. } = inner else {
         return Err(ResolveError::InvalidImage(image));
@@ -56,7 +56,7 @@ fn scalar_of_format(format: StorageFormat) -> Scalar
 
 /// The type of a texel.
 pub fn sample(image: Handle<mark::Expression>, inner: &TypeInner) -> Resolved
-    ensures { Meets result (sample_type image inner.now) }
+    ensures { Meets false result (sample_type image inner.now) }
 {
     let TypeInner::Image { class, .. } = inner else {
         return Err(ResolveError::InvalidImage(image));
@@ -73,7 +73,7 @@ pub fn sample(image: Handle<mark::Expression>, inner: &TypeInner) -> Resolved
 
 /// The type of an image's extent.
 pub fn image_extent(image: Handle<mark::Expression>, inner: &TypeInner) -> Resolved
-    ensures { Meets result (extent_type image inner.now) }
+    ensures { Meets false result (extent_type image inner.now) }
 {
     let TypeInner::Image { dim, .. } = inner else {
         return Err(ResolveError::InvalidImage(image));

@@ -1,5 +1,5 @@
 //! The types of expressions that rest on no operand's.
-ghost use Rattle.std.specs.Prelude.{◌≡◌};
+ghost use Rattle.std.specs.Prelude.{◌≡◌, false};
 ghost use Rattle.shader_resolve.specs.Outcome.{Meets};
 ghost use Rattle.shader_resolve.specs.Rows.{literal_scalar, special_type};
 
@@ -33,7 +33,7 @@ fn scalar_of_literal(literal: Literal) -> Scalar
 
 /// The type of what a module registers, if it does.
 fn special(ty: Option<Handle<mark::Type>>) -> Resolved
-    ensures { Meets result (special_type ty) }
+    ensures { Meets false result (special_type ty) }
 {
     match ty {
         Some(ty) => Ok(TypeResolution::Handle(ty)),
@@ -42,7 +42,7 @@ fn special(ty: Option<Handle<mark::Type>>) -> Resolved
 }
 
 impl<'a> ResolveContext<'a> {
-    ghost use Rattle.std.specs.Prelude.{◌≡◌, ◌<◌, length, slice_get};
+    ghost use Rattle.std.specs.Prelude.{◌≡◌, ◌<◌, false, length, slice_get};
     ghost use Rattle.shader_resolve.specs.Context.{IsInRange};
     ghost use Rattle.shader_resolve.specs.Follows.{IsLeafAnswer};
     ghost use Rattle.shader_resolve.specs.Outcome.{Given, Meets};
@@ -82,7 +82,7 @@ impl<'a> ResolveContext<'a> {
     }
 
     fn argument(&self, index: u32) -> Resolved
-        ensures { Meets result (argument_type index (slice_get self.now.arguments index)) }
+        ensures { Meets false result (argument_type index (slice_get self.now.arguments index)) }
     {
         match self.arguments.get(index as usize) {
             Some(argument) => Ok(TypeResolution::Handle(argument.ty)),
@@ -116,7 +116,7 @@ impl<'a> ResolveContext<'a> {
 
     fn call(&self, function: Handle<mark::Function>) -> Resolved
         requires { function < length self.now.functions }
-        ensures { Meets result (call_type (slice_get self.now.functions function)) }
+        ensures { Meets false result (call_type (slice_get self.now.functions function)) }
     {
         match &self.functions[function].result {
             Some(result) => Ok(TypeResolution::Handle(result.ty)),

@@ -1,4 +1,5 @@
 //! The types of tests, products and conversions.
+ghost use Rattle.std.specs.Prelude.{true};
 ghost use Rattle.shader_resolve.specs.Operations.{cast_type, logical_type, product_of, product_type, test_type};
 ghost use Rattle.shader_resolve.specs.Outcome.{IncompatibleOperands, IsRefusal, Meets};
 
@@ -10,6 +11,7 @@ use std::alloc::{AllocError, Global};
 use std::fmt::Debug;
 
 impl<'a> ResolveContext<'a> {
+    ghost use Rattle.std.specs.Prelude.{true};
     ghost use Rattle.shader_ir.specs.Key.{FitsTypes};
     ghost use Rattle.shader_ir.specs.TypeTree.{IsBackward};
     ghost use Rattle.shader_resolve.specs.Operations.{left_type, product};
@@ -25,7 +27,7 @@ impl<'a> ResolveContext<'a> {
         requires backward { IsBackward self.now.types }
         requires left_fits { FitsTypes self.now.types left.now }
         requires right_fits { FitsTypes self.now.types right.now }
-        ensures { Meets result (product self.now.types left.now right.now) }
+        ensures { Meets true result (product self.now.types left.now right.now) }
     {
         product(alloc, self.inner(left), self.inner(right), left, right)
     }
@@ -39,7 +41,7 @@ impl<'a> ResolveContext<'a> {
     ) -> Resolved
         requires backward { IsBackward self.now.types }
         requires fits { FitsTypes self.now.types left.now }
-        ensures { Meets result (left_type self.now.types op left.now) }
+        ensures { Meets true result (left_type self.now.types op left.now) }
     {
         match op {
             BinaryOperator::Equal
@@ -58,7 +60,7 @@ impl<'a> ResolveContext<'a> {
 
 /// The error of operands that don't go together, under the name of the operation.
 fn incompatible(name: Result<String, AllocError>) -> ResolveError
-    ensures { IsRefusal IncompatibleOperands result }
+    ensures { IsRefusal true IncompatibleOperands result }
 {
     match name {
         Ok(name) => ResolveError::IncompatibleOperands(name),
@@ -68,7 +70,7 @@ fn incompatible(name: Result<String, AllocError>) -> ResolveError
 
 /// The type of a test of each component.
 pub fn component_test(alloc: Global, operation: &impl Debug, inner: &TypeInner) -> Resolved
-    ensures { Meets result (test_type inner.now) }
+    ensures { Meets true result (test_type inner.now) }
 {
     match inner {
         TypeInner::Scalar(_) => Ok(scalar_type(Scalar::BOOL)),
@@ -79,7 +81,7 @@ pub fn component_test(alloc: Global, operation: &impl Debug, inner: &TypeInner) 
 
 /// The type of a conjunction or a disjunction.
 fn logical(alloc: Global, operation: &impl Debug, inner: &TypeInner) -> Resolved
-    ensures { Meets result (logical_type inner.now) }
+    ensures { Meets true result (logical_type inner.now) }
 {
     match inner {
         TypeInner::Scalar(scalar) if *scalar == Scalar::BOOL => Ok(scalar_type(Scalar::BOOL)),
@@ -89,7 +91,7 @@ fn logical(alloc: Global, operation: &impl Debug, inner: &TypeInner) -> Resolved
 
 /// The type of a conversion to a kind, and to a width where one is given.
 pub fn cast(alloc: Global, kind: ScalarKind, convert: Option<u8>, inner: &TypeInner) -> Resolved
-    ensures { Meets result (cast_type kind convert inner.now) }
+    ensures { Meets true result (cast_type kind convert inner.now) }
 {
     match inner {
         TypeInner::Scalar(old) => { Ok(scalar_type(scalar_of(kind, convert.unwrap_or(old.width)))) }
@@ -117,7 +119,7 @@ fn product(
     left: &TypeResolution,
     right: &TypeResolution,
 ) -> Resolved
-    ensures { Meets result (product_type (product_of left_inner.now right_inner.now) left.now right.now) }
+    ensures { Meets true result (product_type (product_of left_inner.now right_inner.now) left.now right.now) }
 {
     match (left_inner, right_inner) {
         (TypeInner::Matrix { rows, scalar, .. }, TypeInner::Matrix { columns, .. }) => {

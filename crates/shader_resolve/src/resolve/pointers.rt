@@ -1,5 +1,5 @@
 //! What pointers point to, and the components of vectors.
-ghost use Rattle.std.specs.Prelude.{◌≡◌};
+ghost use Rattle.std.specs.Prelude.{◌≡◌, false};
 ghost use Rattle.shader_resolve.specs.Outcome.{Meets};
 ghost use Rattle.shader_resolve.specs.Rows.{shape_scalar, splat_type, swizzle_type};
 
@@ -12,7 +12,7 @@ use shader_ir::{
 };
 
 pub fn splat(size: VectorSize, value: Handle<mark::Expression>, inner: &TypeInner) -> Resolved
-    ensures { Meets result (splat_type value size inner.now) }
+    ensures { Meets false result (splat_type value size inner.now) }
 {
     match inner {
         TypeInner::Scalar(scalar) => Ok(vector_type(size, *scalar)),
@@ -21,7 +21,7 @@ pub fn splat(size: VectorSize, value: Handle<mark::Expression>, inner: &TypeInne
 }
 
 pub fn swizzle(size: VectorSize, vector: Handle<mark::Expression>, inner: &TypeInner) -> Resolved
-    ensures { Meets result (swizzle_type vector size inner.now) }
+    ensures { Meets false result (swizzle_type vector size inner.now) }
 {
     match inner {
         TypeInner::Vector { scalar, .. } => Ok(vector_type(size, *scalar)),
@@ -43,7 +43,7 @@ fn shape_scalar(inner: &TypeInner) -> Option<Scalar>
 }
 
 impl<'a> ResolveContext<'a> {
-    ghost use Rattle.std.specs.Prelude.{◌≡◌, length};
+    ghost use Rattle.std.specs.Prelude.{◌≡◌, false, length};
     ghost use Rattle.shader_ir.specs.TypeTree.{PointsBelow};
     ghost use Rattle.shader_resolve.specs.Outcome.{Meets};
     ghost use Rattle.shader_resolve.specs.Rows.{load_type, pointed_scalar, tile_type};
@@ -51,7 +51,7 @@ impl<'a> ResolveContext<'a> {
     /// What a pointer points to; of an atomic its scalar.
     pub(super) fn load(&self, pointer: Handle<mark::Expression>, inner: &TypeInner) -> Resolved
         requires { PointsBelow (length self.now.types) inner.now }
-        ensures { Meets result (load_type pointer self.now.types inner.now) }
+        ensures { Meets false result (load_type pointer self.now.types inner.now) }
     {
         match inner {
             TypeInner::Pointer { base, .. } => match &self.types[*base].inner {
@@ -90,7 +90,7 @@ impl<'a> ResolveContext<'a> {
         inner: &TypeInner,
     ) -> Resolved
         requires { PointsBelow (length self.now.types) inner.now }
-        ensures { Meets result (tile_type pointer self.now.types columns rows role inner.now) }
+        ensures { Meets false result (tile_type pointer self.now.types columns rows role inner.now) }
     {
         match self.pointed_scalar(inner) {
             Some(scalar) => Ok(cooperative_type(columns, rows, scalar, role)),

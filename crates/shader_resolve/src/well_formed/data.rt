@@ -1,48 +1,55 @@
-//! Tests of what a module holds beside its functions.
+//! Checks of what a module holds beside its functions.
 ghost use Rattle.std.specs.Prelude.{◌≡◌, length, nat_lt};
 ghost use Rattle.std.specs.List.{list_all};
 ghost use Rattle.shader_ir.specs.TypeTree.{type_handles};
-ghost use Rattle.shader_resolve.specs.WellFormed.{constant_in_range, data_in_range, every, filter_in_range, global_in_range, is_below, override_in_range, pending_size, sizing_override, special_in_range, type_in_range};
+ghost use Rattle.shader_resolve.specs.ModuleTests.{all_below, check_data, check_filter, check_type, constant_in_range, every, global_in_range, in_arena, override_in_range, special_in_range, variables_in_range};
+ghost use Rattle.shader_resolve.specs.WellFormed.{pending_size, sizing_override};
 
-use super::expressions::{expressions_in_range, is_below, is_optional_below};
+use super::ModuleFault;
+use super::expressions::{is_below, is_optional_below};
 use shader_arena::Handle;
-use shader_ir::{ArraySize, Module, SpecialTypes, StructMember, TypeInner, mark};
+use shader_ir::{
+    ArraySize, DiagnosticFilterNode, Module, SpecialTypes, StructMember, TypeInner, mark,
+};
 
-/// Whether all handles outside of functions are in range.
-pub fn data_in_range(module: &Module) -> bool
-    ensures { result ≡ data_in_range «module».now }
+/// The first fault outside of functions and expressions.
+pub fn check_data(module: &Module) -> Result<(), ModuleFault>
+    ensures { result ≡ check_data «module».now }
 {
-    types_in_range(module)
-        && special_in_range(module, &module.special_types)
-        && constants_in_range(module)
-        && overrides_in_range(module)
-        && globals_in_range(module)
-        && expressions_in_range(module, 0, &module.global_expressions)
-        && filters_in_range(module)
-}
-
-fn types_in_range(module: &Module) -> bool
-    ensures { result ≡ every (λ place type. type_in_range «module».now type.inner) «module».now.types }
-{
-    for (_, ty) in module.types.iter() {
-        if !type_in_range(module, &ty.inner) {
-            return false;
-        }
+    if !variables_in_range(module) {
+        return Err(ModuleFault::HandleOutOfRange);
     }
-    true
+    check_types(module)?;
+    check_filters(module)
 }
 
-fn type_in_range(module: &Module, inner: &TypeInner) -> bool
-    ensures { result ≡ type_in_range «module».now inner.now }
+fn check_types(module: &Module) -> Result<(), ModuleFault>
+    ensures { result ≡ in_arena (λ place type. check_type «module».now place type.inner) «module».now.types }
 {
-    bases_below(inner, module.types.len())
-        && is_optional_below(sizing_override(inner), module.overrides.len())
+    for (handle, ty) in module.types.iter() {
+        check_type(module, handle.index(), &ty.inner)?;
+    }
+    Ok(())
+}
+
+fn check_type(module: &Module, place: usize, inner: &TypeInner) -> Result<(), ModuleFault>
+    ensures { result ≡ check_type «module».now place inner.now }
+{
+    if !bases_below(inner, module.types.len())
+        || !is_optional_below(sizing_override(inner), module.overrides.len())
+    {
+        return Err(ModuleFault::HandleOutOfRange);
+    }
+    if !bases_below(inner, place) {
+        return Err(ModuleFault::TypeNotEarlier);
+    }
+    Ok(())
 }
 
 /// Whether the types that a type names are below a bound.
 #[tactic(auto, using(crate::proofs::Joined::mapped))]
 fn bases_below(inner: &TypeInner, bound: usize) -> bool
-    ensures { result ≡ list_all (λ base. nat_lt base bound) (type_handles inner.now) }
+    ensures { result ≡ all_below bound (type_handles inner.now) }
 {
     match inner {
         TypeInner::Pointer { base, .. }
@@ -76,6 +83,16 @@ fn pending_size(size: ArraySize) -> Option<Handle<mark::Override>>
         ArraySize::Pending(handle) => Some(handle),
         ArraySize::Constant(_) | ArraySize::Dynamic => None,
     }
+}
+
+/// Whether the handles of the special types, constants, overrides and variables are in range.
+fn variables_in_range(module: &Module) -> bool
+    ensures { result ≡ variables_in_range «module».now }
+{
+    special_in_range(module, &module.special_types)
+        && constants_in_range(module)
+        && overrides_in_range(module)
+        && globals_in_range(module)
 }
 
 fn special_in_range(module: &Module, special: &SpecialTypes) -> bool
@@ -136,25 +153,27 @@ fn globals_in_range(module: &Module) -> bool
     true
 }
 
-fn filters_in_range(module: &Module) -> bool
-    ensures { result ≡ every (λ place node. filter_in_range «module».now node) «module».now.diagnostic_filters }
-{
-    for (_, node) in module.diagnostic_filters.iter() {
-        if !is_optional_below(node.parent, module.diagnostic_filters.len()) {
-            return false;
-        }
-    }
-    true
-}
-
-/// Whether each filter's parent is earlier.
-pub fn filters_earlier(module: &Module) -> bool
-    ensures { result ≡ every (λ place node. is_below place node.parent) «module».now.diagnostic_filters }
+fn check_filters(module: &Module) -> Result<(), ModuleFault>
+    ensures { result ≡ in_arena (check_filter «module».now) «module».now.diagnostic_filters }
 {
     for (handle, node) in module.diagnostic_filters.iter() {
-        if !is_optional_below(node.parent, handle.index()) {
-            return false;
-        }
+        check_filter(module, handle.index(), node)?;
     }
-    true
+    Ok(())
+}
+
+fn check_filter(
+    module: &Module,
+    place: usize,
+    node: &DiagnosticFilterNode,
+) -> Result<(), ModuleFault>
+    ensures { result ≡ check_filter «module».now place node.now }
+{
+    if !is_optional_below(node.parent, module.diagnostic_filters.len()) {
+        return Err(ModuleFault::HandleOutOfRange);
+    }
+    if !is_optional_below(node.parent, place) {
+        return Err(ModuleFault::FilterNotEarlier);
+    }
+    Ok(())
 }

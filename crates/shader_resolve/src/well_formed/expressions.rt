@@ -1,7 +1,9 @@
-//! Tests of expressions.
+//! Checks of expressions.
 ghost use Rattle.std.specs.Prelude.{◌≡◌, nat_lt};
-ghost use Rattle.shader_resolve.specs.WellFormed.{expression_callee, expressions_in_range, is_below, names_in_range, operands_below, operands_earlier, results_earlier};
+ghost use Rattle.shader_resolve.specs.ModuleTests.{check_expression, in_arena, is_below, names_in_range, operands_below};
+ghost use Rattle.shader_resolve.specs.WellFormed.{expression_callee};
 
+use super::{Bounds, ModuleFault};
 use shader_arena::{Arena, Handle};
 use shader_ir::{Expression, Module, Operands, expression_operands, mark};
 
@@ -76,36 +78,6 @@ fn names_in_range(module: &Module, locals: usize, expression: &Expression) -> bo
     }
 }
 
-/// Whether all handles of expressions are in range, beside so many locals.
-pub fn expressions_in_range(
-    module: &Module,
-    locals: usize,
-    expressions: &Arena<Expression, mark::Expression>,
-) -> bool
-    ensures { result ≡ expressions_in_range «module».now locals expressions.now }
-{
-    for (_, expression) in expressions.iter() {
-        if !operands_below(expression_operands(expression), expressions.len())
-            || !names_in_range(module, locals, expression)
-        {
-            return false;
-        }
-    }
-    true
-}
-
-/// Whether each expression's operands are earlier.
-pub fn operands_earlier(expressions: &Arena<Expression, mark::Expression>) -> bool
-    ensures { result ≡ operands_earlier expressions.now }
-{
-    for (handle, expression) in expressions.iter() {
-        if !operands_below(expression_operands(expression), handle.index()) {
-            return false;
-        }
-    }
-    true
-}
-
 /// The function whose result an expression is.
 fn expression_callee(expression: &Expression) -> Option<Handle<mark::Function>>
     ensures { result ≡ expression_callee expression.now }
@@ -116,14 +88,38 @@ fn expression_callee(expression: &Expression) -> Option<Handle<mark::Function>>
     }
 }
 
-/// Whether the functions whose results are named are among the first ones.
-pub fn results_earlier(expressions: &Arena<Expression, mark::Expression>, earlier: usize) -> bool
-    ensures { result ≡ results_earlier earlier expressions.now }
+fn check_expression(
+    module: &Module,
+    bounds: Bounds,
+    place: usize,
+    expression: &Expression,
+) -> Result<(), ModuleFault>
+    ensures { result ≡ check_expression «module».now bounds place expression.now }
 {
-    for (_, expression) in expressions.iter() {
-        if !is_optional_below(expression_callee(expression), earlier) {
-            return false;
-        }
+    if !operands_below(expression_operands(expression), bounds.expressions)
+        || !names_in_range(module, bounds.locals, expression)
+    {
+        return Err(ModuleFault::HandleOutOfRange);
     }
-    true
+    if !operands_below(expression_operands(expression), place) {
+        return Err(ModuleFault::OperandNotEarlier);
+    }
+    if !is_optional_below(expression_callee(expression), bounds.earlier) {
+        return Err(ModuleFault::CalleeNotEarlier);
+    }
+    Ok(())
+}
+
+/// The first fault of expressions that may name so much.
+pub fn check_expressions(
+    module: &Module,
+    bounds: Bounds,
+    expressions: &Arena<Expression, mark::Expression>,
+) -> Result<(), ModuleFault>
+    ensures { result ≡ in_arena (check_expression «module».now bounds) expressions.now }
+{
+    for (handle, expression) in expressions.iter() {
+        check_expression(module, bounds, handle.index(), expression)?;
+    }
+    Ok(())
 }

@@ -1,24 +1,41 @@
-//! Tests of functions, their statements aside.
+//! Checks of functions.
 ghost use Rattle.std.specs.Prelude.{◌≡◌, length, nat_lt, slice_get};
 ghost use Rattle.std.specs.List.{list_all};
-ghost use Rattle.shader_resolve.specs.WellFormed.{every, function_in_range, is_pointer_type, is_value_pointer, local_in_range, result_in_range, takes_no_value_pointer};
+ghost use Rattle.shader_resolve.specs.ModuleTests.{check_argument, check_function, every, function_in_range, in_list, is_pointer_type, is_value_pointer, local_in_range, result_in_range};
 
-use super::expressions::{expressions_in_range, is_below, is_optional_below};
+use super::expressions::{check_expressions, is_below, is_optional_below};
+use super::statements::check_block;
+use super::{Bounds, ModuleFault};
 use shader_arena::Handle;
-use shader_ir::{Function, FunctionResult, Module, TypeInner, mark};
+use shader_ir::{Function, FunctionArgument, FunctionResult, Module, TypeInner, mark};
 
-/// Whether all handles of a function are in range, those of its statements aside.
-pub fn function_in_range(module: &Module, function: &Function) -> bool
+/// The first fault of a function that has so many earlier ones.
+pub fn check_function(
+    module: &Module,
+    earlier: usize,
+    function: &Function,
+) -> Result<(), ModuleFault>
+    ensures { result ≡ check_function «module».now earlier function.now }
+{
+    if !function_in_range(module, function) {
+        return Err(ModuleFault::HandleOutOfRange);
+    }
+    check_arguments(module, function.arguments.as_slice())?;
+    let bounds = Bounds {
+        earlier,
+        locals: function.local_variables.len(),
+        expressions: function.expressions.len(),
+    };
+    check_expressions(module, bounds, &function.expressions)?;
+    check_block(&function.body, module, bounds)
+}
+
+/// Whether the handles of a function are in range, those of its arguments, expressions and statements aside.
+fn function_in_range(module: &Module, function: &Function) -> bool
     ensures { result ≡ function_in_range «module».now function.now }
 {
-    arguments_in_range(module, function)
-        && result_in_range(module, function.result)
+    result_in_range(module, function.result)
         && locals_in_range(module, function)
-        && expressions_in_range(
-            module,
-            function.local_variables.len(),
-            &function.expressions,
-        )
         && named_in_range(function)
         && is_optional_below(
             function.diagnostic_filter_leaf,
@@ -26,14 +43,25 @@ pub fn function_in_range(module: &Module, function: &Function) -> bool
         )
 }
 
-fn arguments_in_range(module: &Module, function: &Function) -> bool
-    ensures { result ≡ list_all (λ argument. nat_lt argument.ty (length «module».now.types)) function.now.arguments }
+fn check_arguments(module: &Module, arguments: &[FunctionArgument]) -> Result<(), ModuleFault>
+    ensures { result ≡ in_list (check_argument «module».now) arguments.now }
 {
-    function
-        .arguments
-        .as_slice()
-        .iter()
-        .all(|argument| is_below(argument.ty, module.types.len()))
+    for argument in arguments {
+        check_argument(module, argument)?;
+    }
+    Ok(())
+}
+
+fn check_argument(module: &Module, argument: &FunctionArgument) -> Result<(), ModuleFault>
+    ensures { result ≡ check_argument «module».now argument.now }
+{
+    if !is_below(argument.ty, module.types.len()) {
+        return Err(ModuleFault::HandleOutOfRange);
+    }
+    if is_pointer_type(module, argument.ty) {
+        return Err(ModuleFault::ValuePointerArgument);
+    }
+    Ok(())
 }
 
 fn result_in_range(module: &Module, function_result: Option<FunctionResult>) -> bool
@@ -67,17 +95,6 @@ fn locals_in_range(module: &Module, function: &Function) -> bool
         }
     }
     true
-}
-
-/// Whether no argument of a function is of a `ValuePointer` type.
-pub fn takes_no_value_pointer(module: &Module, function: &Function) -> bool
-    ensures { result ≡ takes_no_value_pointer «module».now function.now }
-{
-    function
-        .arguments
-        .as_slice()
-        .iter()
-        .all(|argument| !is_pointer_type(module, argument.ty))
 }
 
 fn is_pointer_type(module: &Module, ty: Handle<mark::Type>) -> bool

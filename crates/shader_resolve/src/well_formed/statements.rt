@@ -1,111 +1,85 @@
-//! Tests of statements, at any depth.
-ghost use Rattle.std.specs.Prelude.{◌≡◌, nat_lt, slice_get};
-ghost use Rattle.std.specs.List.{list_all};
+//! Checks of statements, at any depth.
+ghost use Rattle.std.specs.Prelude.{◌≡◌, slice_get};
 ghost use Rattle.shader_arena.specs.Places.{places_between};
-ghost use Rattle.shader_ir.specs.Occurs.{statements, statements_within};
 ghost use Rattle.shader_ir.specs.BodyOf.{step_of};
+ghost use Rattle.shader_resolve.specs.ModuleTests.{all_below, check_statement, counts_match, in_body, in_within, is_emitted, statement_in_range, takes};
 ghost use Rattle.shader_resolve.specs.Statements.{proceed_result, statement_callee, statement_result};
-ghost use Rattle.shader_resolve.specs.WellFormed.{body_lacks, counts_match, is_emitted, statement_in_range, statement_lacks, takes};
 
-use super::ModuleFault;
 use super::expressions::{is_below, is_optional_below, operands_below};
+use super::{Bounds, ModuleFault};
 use shader_arena::{Handle, Range};
-use shader_ir::{Block, Function, Module, RayQueryFunction, Statement, mark, statement_operands};
+use shader_ir::{Block, Module, RayQueryFunction, Statement, mark, statement_operands};
 
-/// Whether no statement of a function that has so many earlier ones has the fault.
-pub fn body_lacks(module: &Module, fault: ModuleFault, earlier: usize, function: &Function) -> bool
-    ensures { result ≡ body_lacks «module».now fault earlier function.now }
-{
-    block_lacks(&function.body, module, fault, earlier, function)
-}
-
+/// The first fault of a block's statements, each before those in its blocks.
 #[cycle(blocks)]
-#[tactic(auto, using(crate::proofs::Joined::joined))]
-fn block_lacks(
-    block: &Block,
-    module: &Module,
-    fault: ModuleFault,
-    earlier: usize,
-    function: &Function,
-) -> bool
-    ensures { result ≡ list_all (statement_lacks «module».now fault earlier function.now) (statements block.now) }
+pub fn check_block(block: &Block, module: &Module, bounds: Bounds) -> Result<(), ModuleFault>
+    ensures { result ≡ in_body (check_statement «module».now bounds) block.now }
 {
     for statement in &block.statements {
-        if !statement_lacks(module, fault, earlier, function, statement)
-            || !blocks_lack(statement, module, fault, earlier, function)
-        {
-            return false;
-        }
+        check_statement(module, bounds, statement)?;
+        check_blocks(statement, module, bounds)?;
     }
-    true
+    Ok(())
 }
 
-/// Whether no statement in the blocks of a statement has the fault.
+/// The first fault in the blocks of a statement.
 #[cycle(blocks)]
-#[tactic(auto, using(crate::proofs::Joined::joined))]
-fn blocks_lack(
-    statement: &Statement,
-    module: &Module,
-    fault: ModuleFault,
-    earlier: usize,
-    function: &Function,
-) -> bool
-    ensures { result ≡ list_all (statement_lacks «module».now fault earlier function.now) (statements_within (step_of statement.now)) }
+fn check_blocks(statement: &Statement, module: &Module, bounds: Bounds) -> Result<(), ModuleFault>
+    ensures { result ≡ in_within (check_statement «module».now bounds) (step_of statement.now) }
 {
     match statement {
-        Statement::Block(block) => block_lacks(block, module, fault, earlier, function),
+        Statement::Block(block) => check_block(block, module, bounds),
         Statement::If { accept, reject, .. } => {
-            block_lacks(accept, module, fault, earlier, function)
-                && block_lacks(reject, module, fault, earlier, function)
+            check_block(accept, module, bounds)?;
+            check_block(reject, module, bounds)
         }
         Statement::Switch { cases, .. } => {
             for case in cases {
-                if !block_lacks(&case.body, module, fault, earlier, function) {
-                    return false;
-                }
+                check_block(&case.body, module, bounds)?;
             }
-            true
+            Ok(())
         }
         Statement::Loop {
             body,
             continuing,
             ..
         } => {
-            block_lacks(body, module, fault, earlier, function)
-                && block_lacks(continuing, module, fault, earlier, function)
+            check_block(body, module, bounds)?;
+            check_block(continuing, module, bounds)
         }
-        _ => true,
+        _ => Ok(()),
     }
 }
 
-/// Whether a statement lacks the fault, the statements in its blocks aside.
-fn statement_lacks(
+/// The first fault of a statement, the statements in its blocks aside.
+fn check_statement(
     module: &Module,
-    fault: ModuleFault,
-    earlier: usize,
-    function: &Function,
+    bounds: Bounds,
     statement: &Statement,
-) -> bool
-    ensures { result ≡ statement_lacks «module».now fault earlier function.now (step_of statement.now) }
+) -> Result<(), ModuleFault>
+    ensures { result ≡ check_statement «module».now bounds (step_of statement.now) }
 {
-    match fault {
-        ModuleFault::HandleOutOfRange => statement_in_range(module, function, statement),
-        ModuleFault::CalleeNotEarlier => is_optional_below(statement_callee(statement), earlier),
-        ModuleFault::ArgumentCount => counts_match(module, statement),
-        ModuleFault::EmitRange => is_emitted(function.expressions.len(), statement),
-        ModuleFault::TypeNotEarlier
-        | ModuleFault::OperandNotEarlier
-        | ModuleFault::FilterNotEarlier
-        | ModuleFault::ValuePointerArgument => true,
+    if !statement_in_range(module, bounds.expressions, statement) {
+        return Err(ModuleFault::HandleOutOfRange);
     }
+    if !is_optional_below(statement_callee(statement), bounds.earlier) {
+        return Err(ModuleFault::CalleeNotEarlier);
+    }
+    if !counts_match(module, statement) {
+        return Err(ModuleFault::ArgumentCount);
+    }
+    if !is_emitted(bounds.expressions, statement) {
+        return Err(ModuleFault::EmitRange);
+    }
+    Ok(())
 }
 
 /// Whether the handles of a statement are in range, without the range of an `Emit`.
-fn statement_in_range(module: &Module, function: &Function, statement: &Statement) -> bool
-    ensures { result ≡ statement_in_range «module».now function.now (step_of statement.now) }
+fn statement_in_range(module: &Module, expressions: usize, statement: &Statement) -> bool
+    ensures { result ≡ statement_in_range «module».now expressions (step_of statement.now) }
 {
-    operands_below(statement_operands(statement), function.expressions.len())
-        && is_optional_below(statement_result(statement), function.expressions.len())
+    operands_below(statement_operands(statement), expressions)
+        && is_optional_below(statement_result(statement), expressions)
         && is_optional_below(statement_callee(statement), module.functions.len())
 }
 
@@ -198,7 +172,7 @@ fn is_emitted(expressions: usize, statement: &Statement) -> bool
 /// The last handle decides, so this takes no longer for a long range.
 #[tactic(auto, using(crate::proofs::RangeLemmas::places_below))]
 fn range_below(range: &Range<mark::Expression>, bound: usize) -> bool
-    ensures { result ≡ list_all (λ handle. nat_lt handle bound) (places_between range.now.0 range.now.1) }
+    ensures { result ≡ all_below bound (places_between range.now.0 range.now.1) }
 {
     match range.first_and_last() {
         Some((_, last)) => is_below(last, bound),

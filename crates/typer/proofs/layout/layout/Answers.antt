@@ -1,7 +1,14 @@
 use Rattle.std.proofs.Common.{◌∙◌, length, sym, ap}
 use Rattle.std.specs.Prelude.{slice_get}
-use Rattle.typer.proofs.Laying.{context, layout_is, no_layouts, place_laid, refused_is, types_laid}
+use Rattle.typer.specs.Layouts.{context}
+use Rattle.typer.proofs.Laying.{layout_is, no_layouts, place_laid, refused_is, sizes_in_range, types_laid}
 use Rattle.typer.proofs.layout.layout.Goals as goal
+
+pub update-requires : goal.update-requires
+update-requires c =
+    let placed = c.in_ok-inner.ensures.alone c.new-types.ensures in
+    let types = types_laid c.args.spelled c.place.new.types c.insert.new.self c.in_ok-inner.inner placed.0 placed.1 c.in_ok-handle.ensures.inserted in
+    record { sizes = sizes_in_range (context c.insert.new.self c.new-constants.result c.new-overrides.result c.new-global_expressions.result) c.args.spelled types }
 
 pub returns-in-Ok-clause-layout : goal.returns-in-Ok-clause-layout
 returns-in-Ok-clause-layout c =

@@ -1,5 +1,5 @@
 use Rattle.std.proofs.Common.{◌≡◌}
-use Rattle.shader_resolve.specs.WellFormed.{every, every_entry, global_in_range}
+use Rattle.shader_resolve.specs.ModuleTests.{every, every_entry, global_in_range}
 use Rattle.shader_resolve.proofs.well_formed.data.globals_in_range.Given as goal
 
 abbrev pub invariant-loop-variable : goal.invariant-loop-variable

@@ -1,5 +1,5 @@
 use Rattle.std.proofs.Common.{◌≡◌}
-use Rattle.shader_resolve.specs.WellFormed.{operands_below}
+use Rattle.shader_resolve.specs.ModuleTests.{operands_below}
 use Rattle.shader_resolve.proofs.well_formed.expressions.operands_below.Given as goal
 
 abbrev pub invariant-loop-operand : goal.invariant-loop-operand

@@ -1,0 +1,56 @@
+-- Whatever is disrupted has a reason that may be told.
+use Rattle.std.proofs.Common.{ℕ, Bool, true, List, Option}
+use Rattle.shader_ir.specs.declared.statement.SwitchValue.{SwitchValue}
+use Rattle.shader_chains.specs.Program.{Function, Module, Step, Leaf, Switch, Return, Kill, Call, Body, Then, Cases, Case}
+use Rattle.shader_chains.specs.Faults.{Settings, Disruptor, Source, EarlierReturn, EarlierDiscard, HasOriginOf, Around, branch, deeper, MayBlame, a_source, a_return, a_kill, a_call}
+use Rattle.shader_chains.specs.Faults as faults
+use Rattle.shader_chains.specs.Flow.{At, start, rest, inside, Part, case_of, CasesIn, after, BranchOn, selects, Disrupted, Exits, BlockExits, in_disrupted, in_branch, in_continuing, fallen_into, fallen_out, later, behind, returns, kills, calls, contains, first, further}
+use Rattle.shader_chains.specs.Infos.{Place}
+use Rattle.shader_chains.specs.Needs.{Need}
+use Rattle.shader_chains.proofs.FlowLemmas.{stands_within}
+
+module _ (O : ℕ → ℕ → Type 0) (K : ℕ → Type 0) (N : Need → ℕ → Type 0) (P : ℕ → Place → Place → Type 0) (m : Module) (settings : Settings) (f : Function) where
+  abbrev V : ℕ → Type 0
+  V e = (h : ℕ) × O e h
+
+  abbrev Blame : (b : Body) → At f.body b → Disruptor → Type 0
+  Blame b p d = MayBlame O K N P m settings f b p d
+
+  abbrev Reason : (b : Body) → At f.body b → Type 0
+  Reason b p = (d : Disruptor) × Blame b p d
+
+  -- a reason at one place that is one at another, where a source around the first is around the other
+  moved : (b c : Body) (p : At f.body b) (q : At f.body c) → ((h : ℕ) → Around O h f.body b p → Around O h f.body c q) → (d : Disruptor) → Blame b p d → Blame c q d
+  moved b c p q around _ (a_source a) = a_source (around _ a)
+  moved b c p q around _ (a_return r d) = a_return r d
+  moved b c p q around _ (a_kill r d) = a_kill r d
+  moved b c p q around _ (a_call holds k) = a_call holds k
+
+  next_case : (h e : ℕ) (all cs : Cases) (t u : SwitchValue) (b x y : Body) (fall : Bool) (p : At f.body (Then (Switch e all) b))
+      (k : CasesIn all (Case t x true (Case u y fall cs))) → Around O h f.body x (inside p (case_of k)) → Around O h f.body y (inside p (case_of (after k)))
+  next_case h e all cs t u b x y fall p k (branch _ (selects _) is) = branch p (selects (after k)) is
+  next_case h e all cs t u b x y fall p k (deeper a) = deeper a
+
+  mutual
+    -- what an exit tells anywhere
+    exit_reason : (s : Step) (b : Body) (p : At f.body (Then s b)) → Exits V K f.body s b p → (c : Body) (q : At f.body c) → Reason c q
+    exit_reason _ _ p (returns d) c q = (EarlierReturn, a_return p d)
+    exit_reason _ _ p (kills d) c q = (EarlierDiscard, a_kill p d)
+    exit_reason _ _ _ (calls {c = callee} {arguments = arguments} {result = result} {b = b} p k) c q =
+        (EarlierDiscard, a_call (stands_within f.body (Leaf (Call callee arguments result)) b p) k)
+    exit_reason _ _ _ (contains x) c q = block_reason _ _ x c q
+
+    block_reason : (b : Body) (p : At f.body b) → BlockExits V K f.body b p → (c : Body) (q : At f.body c) → Reason c q
+    block_reason _ _ (first x) c q = exit_reason _ _ _ x c q
+    block_reason _ _ (further x) c q = block_reason _ _ x c q
+
+  pub reason : (b : Body) (p : At f.body b) → Disrupted V K f.body b p → Reason b p
+  reason _ _ (in_disrupted {p = p} {part = part} d) = let (r, is) = reason _ _ d in (r, moved _ _ p (inside p part) (λ h a. deeper a) r is)
+  reason _ _ (in_branch {e = e} p o (h, is)) = (Source h, a_source (branch p o is))
+  reason _ _ (in_continuing x) = block_reason _ _ x _ _
+  reason _ _ (fallen_into {v = t} {w = u} {b = b} {x = x} {y = y} {e = e} {all = all} {cs = cs} {fall = fall} {p = p} {k = k} d) =
+      let (r, is) = reason _ _ d in
+      (r, moved x y (inside p (case_of k)) (inside p (case_of (after k))) (λ h a. next_case h e all cs t u b x y fall p k a) r is)
+  reason _ _ (fallen_out x) = block_reason _ _ x _ _
+  reason _ _ (later {p = p} d) = let (r, is) = reason _ _ d in (r, moved _ _ p (rest p) (λ h a. faults.later a) r is)
+  reason _ _ (behind x) = exit_reason _ _ _ x _ _

@@ -1,0 +1,40 @@
+-- What follows for faults, types and filters.
+use Rattle.std.specs.Prelude.{◌≡◌, ℕ, List, Option, Some, slice_get}
+use Rattle.shader_ir.specs.declared.module.DiagnosticFilterNode.{DiagnosticFilterNode}
+use Rattle.shader_ir.specs.declared.module.Severity.{Severity}
+use Rattle.shader_ir.specs.declared.proc.type_resolution.TypeResolution.{TypeResolution}
+use Rattle.shader_ir.specs.Key.{Key, key_of}
+use Rattle.shader_resolve.specs.Context.{Context}
+use Rattle.shader_resolve.specs.Outcome.{Refusal}
+use Rattle.shader_resolve.specs.Typing.{typing}
+use Rattle.shader_chains.specs.Program.{Function, Module, Expression, Body}
+use Rattle.shader_chains.specs.Derivable.{Derives, IsRefused}
+use Rattle.shader_chains.specs.Exact.{IsExact}
+use Rattle.shader_chains.specs.Faults.{Settings, Cause, StepFault, IsFault}
+use Rattle.shader_chains.specs.Filters.{Governs}
+use Rattle.shader_chains.specs.Infos.{Info, EachNamed}
+
+-- where the infos of the functions that f names are exact, a fault by these infos is one over all chains, and where there is one over chains
+-- there is one by the infos; only the source that a disruptor names may be another
+abbrev pub FaultsAgree : Type 0
+FaultsAgree = (m : Module) (infos : List Info) (f : Function) (settings : Settings) → EachNamed (IsExact m) m infos f →
+    ((cause : Cause) → StepFault m infos f settings cause → IsFault m f settings cause)
+    × ((cause : Cause) → IsFault m f settings cause → (told : Cause) × StepFault m infos f settings told)
+
+-- an expression has one type, and none where it is refused
+abbrev pub TypesAreUnique : Type 0
+TypesAreUnique = (context : Context) (expressions : List Expression) (e : ℕ) (resolution : TypeResolution) → Derives context expressions e resolution →
+    ((other : TypeResolution) → Derives context expressions e other → resolution ≡ other)
+    × ((refusal : Refusal) → IsRefused context expressions e refusal → ⊥)
+
+-- the key of an expression's type is that of the typing, by the keys of the types of expressions
+abbrev pub DerivedTypesHaveKeys : Type 0
+DerivedTypesHaveKeys = (context : Context) (expressions : List Expression) (keys : ℕ → Option Key) →
+    ((e : ℕ) (resolution : TypeResolution) → Derives context expressions e resolution → keys e ≡ Some (key_of context.types resolution)) →
+    (e : ℕ) (x : Expression) (resolution : TypeResolution) → slice_get expressions e ≡ Some x → Derives context expressions e resolution →
+    typing context keys x ≡ Some (key_of context.types resolution)
+
+-- a chain of filters gives one severity
+abbrev pub SeveritiesAreUnique : Type 0
+SeveritiesAreUnique = (filters : List DiagnosticFilterNode) (leaf : Option ℕ) (grave other : Severity) → Governs filters leaf grave → Governs filters leaf other →
+    grave ≡ other

@@ -1,0 +1,8 @@
+use Rattle.shader_resolve.proofs.PointerLemmas.{accesses, loads}
+use Rattle.shader_resolve.proofs.laws.pointers_are_followed.Goals as goal
+
+pub returns-clause-loads : goal.returns-clause-loads
+returns-clause-loads c = loads
+
+pub returns-clause-accesses : goal.returns-clause-accesses
+returns-clause-accesses c = accesses

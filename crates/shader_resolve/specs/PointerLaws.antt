@@ -1,0 +1,43 @@
+-- What loads and accesses through pointers are, on keys.
+use Rattle.std.specs.Prelude.{◌≡◌, ℕ, List, Option, Some, None, Result, Ok, Err, slice_get}
+use Rattle.shader_ir.specs.declared.expression.Expression.TheVariants as form
+use Rattle.shader_ir.specs.declared.types.«Type».{«Type»}
+use Rattle.shader_ir.specs.declared.types.AddressSpace.{AddressSpace}
+use Rattle.shader_ir.specs.declared.types.TypeInner.{TypeInner}
+use Rattle.shader_ir.specs.declared.types.TypeInner.TheVariants as type
+use Rattle.shader_ir.specs.Key.{Key, InnerKey, canonical, handle_key}
+use Rattle.shader_resolve.specs.declared.resolve.access.Part.{Part}
+use Rattle.shader_resolve.specs.declared.resolve.access.NoPart.{NoPart}
+use Rattle.shader_resolve.specs.Context.{Context}
+use Rattle.shader_resolve.specs.Part.{part, part_pointer}
+use Rattle.shader_resolve.specs.Typing.{typing}
+
+module _ (types : List «Type») where
+  -- the key of a pointer, which is that of a value pointer where it points to a scalar or a vector
+  abbrev pub pointer_key : ℕ → AddressSpace → Key
+  pointer_key base space = InnerKey (canonical types (type.Pointer base space))
+
+  -- the key of what is loaded from a type: of an atomic its scalar's, of all else its own
+  abbrev pub loaded_key : ℕ → TypeInner → Key
+  loaded_key base (type.Atomic scalar) = InnerKey (type.Scalar scalar)
+  loaded_key base inner = handle_key types base
+
+  -- the key of a pointer to a part, where one is reached
+  abbrev pub part_key : AddressSpace → Result Part NoPart → Option Key
+  part_key space (Ok reached) = Some (InnerKey (canonical types (part_pointer space reached)))
+  part_key space (Err nothing) = None
+
+-- a load is what is pointed to, whether the pointer names its base or is a value pointer
+abbrev pub LoadsArePointed : Type 0
+LoadsArePointed =
+    (context : Context) (keys : ℕ → Option Key) (pointer base : ℕ) (space : AddressSpace) (pointed : «Type»)
+    → slice_get context.types base ≡ Some pointed → keys pointer ≡ Some (pointer_key context.types base space)
+    → typing context keys (form.Load pointer) ≡ Some (loaded_key context.types base pointed.inner)
+
+-- an access through a pointer is a pointer in its space to the part of what is pointed to
+abbrev pub AccessesAreLifted : Type 0
+AccessesAreLifted =
+    (context : Context) (keys : ℕ → Option Key) (pointer base : ℕ) (space : AddressSpace) (pointed : «Type»)
+    → slice_get context.types base ≡ Some pointed → keys pointer ≡ Some (pointer_key context.types base space)
+    → ((index : ℕ) → typing context keys (form.Access pointer index) ≡ part_key context.types space (part None pointed.inner))
+    × ((index : ℕ) → typing context keys (form.AccessIndex pointer index) ≡ part_key context.types space (part (Some index) pointed.inner))

@@ -1,0 +1,4 @@
+//! The analysis of functions and modules.
+#![tactic(auto)]
+
+pub mod valid;

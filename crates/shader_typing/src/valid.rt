@@ -1,0 +1,11 @@
+//! What the analysis records, and why it refuses.
+
+mod module_info;
+
+pub use module_info::ModuleInfo;
+pub use shader_info::{
+    AnalysisError, AnalysisPlace, Capabilities, ExpressionError, ExpressionInfo, FunctionError,
+    FunctionInfo, GlobalOrArgument, GlobalUse, NonUniformResult, Sampling, SamplingKey, Uniformity,
+    UniformityDisruptor, UniformityRequirements, ValidationFlags,
+};
+pub use shader_resolve::{ModuleFault, check_module};

@@ -1,0 +1,3 @@
+mod infos;
+mod modules;
+mod texts;

@@ -1,0 +1,92 @@
+//! What is recorded of functions and modules, put together by hand.
+use shader_arena::Handle;
+use shader_ir::{Items, Scalar, ShaderStages, TypeInner, TypeResolution, mark};
+use shader_typing::valid::{
+    ExpressionInfo, FunctionInfo, GlobalOrArgument, GlobalUse, Sampling, SamplingKey, Uniformity,
+    UniformityRequirements,
+};
+use std::alloc::Global;
+use std::collections::HashSet;
+use std::process::Abort;
+
+/// What a test says that fails for want of memory alone.
+pub const WANT: &str = "want of memory";
+
+const IMAGE: GlobalOrArgument = GlobalOrArgument::Argument(0);
+
+fn global(place: u32) -> GlobalOrArgument {
+    GlobalOrArgument::Global(Handle::from_index(place))
+}
+
+fn uniformity() -> Uniformity {
+    Uniformity {
+        non_uniform_result: None,
+        requirements: UniformityRequirements::DERIVATIVE,
+    }
+}
+
+/// An info of a function with one argument and one expression, in a module with one global.
+pub fn info(rt: &impl Abort, alloc: Global, uses: GlobalUse) -> FunctionInfo {
+    let mut sampling_set = HashSet::new(alloc);
+    let key = SamplingKey {
+        image: Handle::from_index(0),
+        sampler: Handle::from_index(0),
+    };
+    sampling_set.insert(key).expect(rt, WANT);
+    let mut sampling = HashSet::new(alloc);
+    let pair = Sampling {
+        image: IMAGE,
+        sampler: global(0),
+    };
+    sampling.insert(pair).expect(rt, WANT);
+    let expression = ExpressionInfo {
+        uniformity: uniformity(),
+        ref_count: 3,
+        ty: TypeResolution::Value(TypeInner::Scalar(Scalar::U32)),
+    };
+    let expressions = vec![in alloc; expression].expect(rt, WANT);
+    let global_uses = vec![in alloc; uses].expect(rt, WANT);
+    FunctionInfo {
+        available_stages: ShaderStages::VERTEX | ShaderStages::FRAGMENT,
+        uniformity: uniformity(),
+        may_kill: true,
+        sampling_set,
+        global_uses: Items::from(global_uses),
+        expressions: Items::from(expressions),
+        sampling,
+        dual_source_blending: false,
+    }
+}
+
+#[test]
+fn uses_dominate_those_among_them(rt: HostRuntime) {
+    let alloc = rt.alloc();
+    let read = info(&rt, alloc, GlobalUse::READ);
+    let both = info(&rt, alloc, GlobalUse::READ | GlobalUse::WRITE);
+    assert!(rt; both.dominates_global_use(&read) && both.dominates_global_use(&both));
+    assert!(rt; !read.dominates_global_use(&both));
+}
+
+#[test]
+fn pairs_with_an_argument_are_told(rt: HostRuntime) {
+    let alloc = rt.alloc();
+    let sampled = info(&rt, alloc, GlobalUse::READ);
+    assert!(rt; sampled.has_sampling(IMAGE, global(0)));
+    assert!(rt; !sampled.has_sampling(global(0), IMAGE));
+    assert!(rt; !sampled.has_sampling(global(0), global(0)));
+}
+
+#[test]
+fn a_copy_has_all(rt: HostRuntime) {
+    let alloc = rt.alloc();
+    let first = info(&rt, alloc, GlobalUse::QUERY);
+    let copy = first.copy(alloc).expect(&rt, WANT);
+    let global_handle: Handle<mark::GlobalVariable> = Handle::from_index(0);
+    let expression_handle: Handle<mark::Expression> = Handle::from_index(0);
+    assert!(rt; copy.global_variable_count() == 1);
+    assert!(rt; copy[global_handle] == GlobalUse::QUERY);
+    assert!(rt; copy.expression_count() == 1);
+    assert!(rt; copy[expression_handle].ref_count == 3);
+    assert!(rt; copy.has_sampling(IMAGE, global(0)) && copy.sampling_set.len() == 1);
+    assert!(rt; copy.may_kill && copy.available_stages == first.available_stages);
+}

@@ -1,0 +1,115 @@
+"""What the scripts of tests/ share: the crates of the repository, their wrong bodies, and commands that are measured."""
+import os
+import pathlib
+import re
+import subprocess
+import tempfile
+import time
+
+TOP = pathlib.Path(__file__).resolve().parent.parent
+FUNCTION = re.compile(r"( *)(?:pub(?:\(\w+\))? )?(?:final |const )*fn (\w+)")
+# What else an edit may change: a constant, a derive.
+ITEM = re.compile(r" *(pub(\(\w+\))? )?(const|static|struct|enum|impl|trait|type|mod|use|ghost use|macro_rules!)\b(?! fn)")
+OWNER = re.compile(r"(?:impl(?:<.*?>)? (?:(?:\w+::)*(\w+)(?:<.*>)? for )?&?|(?:pub(?:\(\w+\))? )?trait )(\w+)")
+CYCLE = re.compile(r" *#\[cycle\((\w+)\)\]")
+
+
+def listed():
+    """Returns for each crate of crates.txt, lowest first, its line and the crates of the repository that it uses."""
+    rows = [it.partition("#")[0].strip() for it in (TOP / "crates.txt").read_text().splitlines()]
+    rows = {re.match(r"\w+", it)[0]: it for it in rows if it}
+    uses = {name: [it for it in re.findall(r"\w+", row.partition(":")[2]) if it in rows] for name, row in rows.items()}
+    return {name: (rows[name], uses[name]) for name in sorted(rows, key=lambda it: len(uses[it]))}
+
+
+class Ran:
+    """A command that has ended: its status, what it printed, when it printed each line, its processor seconds and its memory in bytes."""
+
+    def __init__(self, words, folder):
+        started = subprocess.Popen(words, cwd=folder, stdin=subprocess.DEVNULL, stdout=subprocess.PIPE, stderr=subprocess.STDOUT)
+        begun, self.lines = time.time(), []
+        for line in started.stdout:
+            self.lines.append((time.time() - begun, line.decode(errors="replace").rstrip("\n")))
+        started.stdout.close()
+        _, status, used = os.wait4(started.pid, 0)
+        started.returncode = self.status = os.waitstatus_to_exitcode(status)
+        self.seconds, self.memory = used.ru_utime + used.ru_stime, 1024 * used.ru_maxrss
+        self.said = "".join(f"{it}\n" for _, it in self.lines)
+
+
+def module_of(file):
+    """Returns the module of a source file as a path, empty for the crate's root."""
+    return re.sub(r"^(lib|main)$", "", file[len("src/") : -len(".rt")])
+
+
+class Function:
+    """A function of a source file, and how the folder of its proof is named."""
+
+    def __init__(self, file, lines, at):
+        self.file = file
+        found = FUNCTION.match(lines[at])
+        self.indent, self.name = len(found[1]), found[2]
+        self.module = module_of(file)
+        above = [it for it in lines[:at] if not it.startswith((" ", "}"))] if self.indent else []
+        self.owner = next((it for it in (OWNER.match(it) for it in reversed(above)) if it), None)
+        ring = next((it for it in (CYCLE.match(lines[it]) for it in range(at - 1, max(at - 8, -1), -1)) if it), None)
+        self.ring = ring and f"+{ring[1]}"
+
+    def key(self):
+        # Functions that call one another have one proof.
+        return self.file, self.ring or (self.owner and self.owner.groups(), self.name)
+
+    def is_of(self, folder):
+        """Returns whether a folder of proofs/ is the function's: below its module, or below the type whose method it is."""
+        *above, name = folder.split("/")
+        if self.ring or not self.owner:
+            return name == self.ring or (name == self.name and "/".join(above) == self.module)
+        trait, kind = self.owner.groups()
+        is_owned = bool(above) and (above[-1].startswith(kind + trait) if trait else above[-1] == kind)
+        return is_owned and name in (self.name, f"+{self.name}")
+
+
+def function_at(file, lines, place):
+    """Returns the function around a line, None for one of another item; an attribute belongs to the function below it."""
+    while place + 1 < len(lines) and lines[place].lstrip().startswith("#["):
+        place += 1
+    indent = len(lines[place])
+    for at in range(place, -1, -1):
+        if FUNCTION.match(lines[at]):
+            found = Function(file, lines, at)
+            return found if found.indent < indent else None
+        if ITEM.match(lines[at]):
+            indent = min(indent, len(lines[at]) - len(lines[at].lstrip()))
+    return None
+
+
+class Edit:
+    """One wrong body: a file, and the texts that it exchanges there."""
+
+    def __init__(self, path, crate):
+        self.name = path.stem
+        self.file, self.pairs, old = "", [], ""
+        for line in path.read_text().splitlines():
+            word, _, text = line.partition(": ")
+            if word == "file":
+                self.file = text
+            elif word == "old":
+                old = text
+            elif word == "new":
+                self.pairs.append((old, text))
+        text = (crate / self.file).read_text()
+        self.fits = bool(self.pairs) and all(text.count(old) == 1 for old, _ in self.pairs)
+        lines = text.split("\n")
+        found = [function_at(self.file, lines, text[: text.find(old)].count("\n")) for old, _ in self.pairs]
+        # None where the edit changes more than functions.
+        self.functions = {it.key(): it for it in found} if all(found) else {}
+        self.is_refused, self.seconds = False, 0.0
+
+    def apply(self, text):
+        for old, new in self.pairs:
+            text = text.replace(old, new)
+        return text
+
+
+def edits_of(crate):
+    return [Edit(it, crate) for it in sorted((crate / "wrong-bodies").glob("*.edit"))]

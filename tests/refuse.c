@@ -1,0 +1,22 @@
+// Loaded before the C library (LD_PRELOAD), it refuses the request for memory whose number REFUSE names, and says so on standard error.
+typedef unsigned long size;
+
+char *getenv(const char *);
+long atol(const char *);
+long write(int, const void *, size);
+void *__libc_malloc(size);
+void *__libc_realloc(void *, size);
+
+static int is_refused(void) {
+    static long left = -1;
+    static const char told[] = "refuse: this request is refused\n";
+    if (left < 0) {
+        const char *number = getenv("REFUSE");
+        left = number ? atol(number) : 0;
+    }
+    if (left == 0 || --left > 0) return 0;
+    return write(2, told, sizeof told - 1) > 0;
+}
+
+void *malloc(size bytes) { return is_refused() ? 0 : __libc_malloc(bytes); }
+void *realloc(void *at, size bytes) { return is_refused() ? 0 : __libc_realloc(at, bytes); }
