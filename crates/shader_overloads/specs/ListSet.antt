@@ -7,8 +7,8 @@ use Rattle.shader_overloads.specs.declared.list.List.TheInside.{Inside}
 use Rattle.shader_overloads.specs.Bits.{IsWithin, has_bit, items_where}
 use Rattle.shader_overloads.specs.Remaining.{has_no_struct}
 
-abbrev pub rules_left : Inside → List Rule
-rules_left set = items_where (has_bit set.members) (rc_slice_items set.rules)
+abbrev pub member_rules : Inside → List Rule
+member_rules set = items_where (has_bit set.members) (rc_slice_items set.rules)
 
 -- the rules are few enough for the mask, it has none beyond them, and none takes a free-standing struct
 pub record IsListSet (set : Inside) : Type 0 where

@@ -31,9 +31,9 @@ impl Model for List {
 
     ghost Value = { List Rule };
 
-    ghost use Rattle.shader_overloads.specs.ListSet.{rules_left, IsListSet};
+    ghost use Rattle.shader_overloads.specs.ListSet.{member_rules, IsListSet};
 
-    ghost view = { rules_left };
+    ghost view = { member_rules };
 
     ghost invariant = { IsListSet };
 }
