@@ -1,0 +1,6 @@
+pub mod Scalars
+pub mod Arguments
+pub mod Orders
+pub mod Tables
+pub mod Accepted
+pub mod Optimal

@@ -1,0 +1,26 @@
+-- Nothing beats the preferred rule.
+use Rattle.std.specs.Prelude.{◌≡◌, ◌↔◌, ℕ, IsSome, IsTrue, List, Some, slice_get}
+use Rattle.shader_ir.specs.declared.operators.MathFunction.{MathFunction}
+use Rattle.shader_ir.specs.declared.scalar.Scalar.{Scalar}
+use Rattle.shader_ir.specs.declared.types.«Type».{«Type»}
+use Rattle.shader_ir.specs.Scalars.{is_convertible}
+use Rattle.shader_overloads.specs.declared.overload_set.SetCall.{SetCall}
+use Rattle.shader_overloads.specs.declared.rule.Rule.{Rule}
+use Rattle.shader_overloads.specs.Builtins.{acceptance_of, rules_of}
+use Rattle.shader_overloads.specs.Rank.{Beats, conversion_rank}
+use Rattle.shader_overloads.specs.Remaining.{remaining}
+
+-- the rules of a builtin that remain after calls
+abbrev pub remaining_of : MathFunction → List «Type» → List SetCall → List Rule
+remaining_of function types calls = remaining (acceptance_of function) types calls (rules_of function)
+
+-- no rule that remains beats the first one
+abbrev pub PreferredIsUnbeaten : Type 0
+PreferredIsUnbeaten =
+    (function : MathFunction) (types : List «Type») (calls : List SetCall) (first rule : Rule) (place : ℕ)
+    → slice_get (remaining_of function types calls) 0 ≡ Some first → slice_get (remaining_of function types calls) place ≡ Some rule
+    → Beats types calls rule first → ⊥
+
+-- what has a rank is what converts by itself
+abbrev pub ConversionsHaveRanks : Type 0
+ConversionsHaveRanks = (from to : Scalar) → IsTrue (is_convertible from to) ↔ IsSome (conversion_rank from to)
