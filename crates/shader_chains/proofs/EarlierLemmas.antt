@@ -35,7 +35,7 @@ point_backwards m well =
     let callees = well.callees.functions in
     let operands = well.operands.functions in
     let at : (P : Function → Type 0) → All (λ (entry : EntryPoint). P entry.function) m.entry_points → (i : ℕ) (entry : EntryPoint) → slice_get m.entry_points i ≡ Some entry → P entry.function =
-        λ P all i entry is. All-contains (λ (entry : EntryPoint). P entry.function) m.entry_points entry all (is_item m.entry_points i entry is) in
+    λ P all i entry is. All-contains (λ (entry : EntryPoint). P entry.function) m.entry_points entry all (is_item m.entry_points i entry is) in
     record {
       functions = λ i f is. names_earlier m i f (within.functions i f is) (callees.functions i f is);
       entry_points = λ i entry is. names_earlier m (length m.functions) entry.function
