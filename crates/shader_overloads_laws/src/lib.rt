@@ -1,10 +1,15 @@
-//! Laws of preference among the overloads of built-in functions, each the contract of a function that does nothing.
+//! Laws of preference among the overloads of built-in functions, each the contract of a function that does nothing, and the
+//! conversion ranks that they speak of.
 #![tactic(auto)]
+
+mod ranks;
 
 ghost use Rattle.std.specs.Prelude.{◌≡◌, ◌∷◌, [], None, Some, map};
 ghost use Rattle.shader_ir.specs.Scalars.{abstract_float, abstract_int, named_scalars};
 ghost use Rattle.shader_overloads.specs.Rank.{conversion_rank};
 ghost use Rattle.shader_overloads_laws.specs.Optimality.{ConversionsHaveRanks, PreferredIsUnbeaten};
+
+pub use ranks::conversion_rank;
 
 /// Whatever calls narrow the rules of a built-in function, no rule that remains beats the first one.
 ///
