@@ -1,0 +1,5 @@
+//! The step equations of one function.
+#![tactic(auto)]
+
+pub mod laws;
+pub mod uniformity;
