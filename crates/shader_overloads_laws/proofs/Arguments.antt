@@ -79,7 +79,7 @@ made_alike ty a b p q = ap (λ o. same_found o (constructor_of b)) (sym (same_ma
 pub made_through : (ty a b : TypeInner) → same_made ty a ≡ true → same_made a b ≡ true → same_made ty b ≡ true
 made_through ty a b p q = ap (λ o. same_found o (constructor_of b)) (same_made_told ty a p) ∙ q
 
-found_first : (a b : Option ConstructorSize) → same_found a b ≡ true → is_some a ≡ true
+pub found_first : (a b : Option ConstructorSize) → same_found a b ≡ true → is_some a ≡ true
 found_first (Some a) (Some b) e = refl
 found_first (Some a) None e = cc
 found_first None b e = cc
@@ -105,7 +105,7 @@ made_rank ty a e =
     ap (λ o. leaf_rank o (leaf_scalar a)) (made_leaf ty (found_first (constructor_of ty) (constructor_of a) e))
     ∙ ap (leaf_rank (Some (leaf ty))) (made_leaf a (found_second (constructor_of ty) (constructor_of a) e))
 
-same_parts : (a b : TypeInner) → is_some (constructor_of a) ≡ true → constructor_of a ≡ constructor_of b → leaf a ≡ leaf b → a ≡ b
+pub same_parts : (a b : TypeInner) → is_some (constructor_of a) ≡ true → constructor_of a ≡ constructor_of b → leaf a ≡ leaf b → a ≡ b
 same_parts (Scalar a) (Scalar b) some c l = ap Scalar l
 same_parts (Vector m a) (Vector n b) some c l = let size : m ≡ n = cc in ap (λ x. Vector x a) size ∙ ap (Vector n) l
 same_parts (Matrix m n a) (Matrix p q b) some c l =

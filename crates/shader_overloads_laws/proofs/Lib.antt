@@ -4,3 +4,4 @@ pub mod Orders
 pub mod Tables
 pub mod Accepted
 pub mod Optimal
+pub mod Ties

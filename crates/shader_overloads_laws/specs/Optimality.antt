@@ -7,7 +7,7 @@ use Rattle.shader_ir.specs.Scalars.{is_convertible}
 use Rattle.shader_overloads.specs.declared.overload_set.SetCall.{SetCall}
 use Rattle.shader_overloads.specs.declared.rule.Rule.{Rule}
 use Rattle.shader_overloads.specs.Builtins.{acceptance_of, rules_of}
-use Rattle.shader_overloads.specs.Rank.{Beats, conversion_rank}
+use Rattle.shader_overloads.specs.Rank.{Beats, HaveEqualRanks, IsSupplied, conversion_rank}
 use Rattle.shader_overloads.specs.Remaining.{remaining}
 
 -- the rules of a builtin that remain after calls
@@ -20,6 +20,14 @@ PreferredIsUnbeaten =
     (function : MathFunction) (types : List «Type») (calls : List SetCall) (first rule : Rule) (place : ℕ)
     → slice_get (remaining_of function types calls) 0 ≡ Some first → slice_get (remaining_of function types calls) place ≡ Some rule
     → Beats types calls rule first → ⊥
+
+-- where all arguments are supplied, one that ranks as the first one does at each is the same rule
+abbrev pub EquallyRankedRulesAreEqual : Type 0
+EquallyRankedRulesAreEqual =
+    (function : MathFunction) (types : List «Type») (calls : List SetCall) (first rule : Rule) (place : ℕ)
+    → slice_get (remaining_of function types calls) 0 ≡ Some first → slice_get (remaining_of function types calls) place ≡ Some rule
+    → IsSupplied calls first → HaveEqualRanks types calls rule first
+    → (rule.arguments ≡ first.arguments) × (rule.conclusion ≡ first.conclusion)
 
 -- what has a rank is what converts by itself
 abbrev pub ConversionsHaveRanks : Type 0

@@ -7,7 +7,7 @@ mod ranks;
 ghost use Rattle.std.specs.Prelude.{◌≡◌, ◌∷◌, [], None, Some, map};
 ghost use Rattle.shader_ir.specs.Scalars.{abstract_float, abstract_int, named_scalars};
 ghost use Rattle.shader_overloads.specs.Rank.{conversion_rank};
-ghost use Rattle.shader_overloads_laws.specs.Optimality.{ConversionsHaveRanks, PreferredIsUnbeaten};
+ghost use Rattle.shader_overloads_laws.specs.Optimality.{ConversionsHaveRanks, EquallyRankedRulesAreEqual, PreferredIsUnbeaten};
 
 pub use ranks::conversion_rank;
 
@@ -17,6 +17,11 @@ pub use ranks::conversion_rank;
 /// that WGSL prefers (section "Overload resolution").
 pub fn preferred_is_unbeaten()
     ensures { PreferredIsUnbeaten }
+{}
+
+/// Once all arguments are supplied, a rule that remains and has the first one's rank at each has its arguments and its conclusion.
+pub fn equally_ranked_rules_are_equal()
+    ensures { EquallyRankedRulesAreEqual }
 {}
 
 /// The conversions that have a rank are those that are automatic, and the ranks are these, in the order of the named scalars.
