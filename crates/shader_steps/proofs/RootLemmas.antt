@@ -12,7 +12,7 @@ use Rattle.shader_sweeps.specs.declared.facts.Fact.{Fact}
 use Rattle.shader_info.specs.declared.info.FunctionInfo.{FunctionInfo}
 use Rattle.shader_sweeps.specs.Facts.{root_at, own_root, entry, swept}
 use Rattle.shader_sweeps.specs.InfoOf.{PointsBackwards}
-use Rattle.shader_sweeps.proofs.ListLemmas.{here}
+use Rattle.shader_chains.proofs.ListLemmas.{here}
 use Rattle.shader_sweeps.proofs.FactLemmas.{stands_between, swept_long, get_seam, get_left}
 
 module _ (m : Module) (infos : List FunctionInfo) (f : Function) (all : List Fact)

@@ -18,7 +18,7 @@ use Rattle.shader_sweeps.specs.Ends.{killing}
 use Rattle.shader_steps.proofs.FoundWords.{calls_killing, is_kill, varies}
 use Rattle.shader_sweeps.specs.InfoOf.{info_of, infos_of}
 use Rattle.shader_sweeps.proofs.StepOrigins.{nu}
-use Rattle.shader_sweeps.proofs.ListLemmas.{nowhere, here, there, cases}
+use Rattle.shader_chains.proofs.ListLemmas.{nowhere, here, there, cases}
 use Rattle.shader_sweeps.proofs.HeldInfoLemmas.{held_of, of_held}
 
 or_left : (a b : Bool) → IsTrue a → IsTrue (a || b)

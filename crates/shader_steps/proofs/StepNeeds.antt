@@ -23,7 +23,7 @@ use Rattle.shader_sweeps.specs.Joined.{asked_by, statement_needs}
 use Rattle.shader_sweeps.proofs.FactLemmas.{stands_between, get_seam}
 use Rattle.shader_sweeps.proofs.HeldInfoLemmas.{held_of, of_held}
 use Rattle.shader_sweeps.proofs.StepOrigins.{same_expression, facts_long}
-use Rattle.shader_sweeps.proofs.JoinLemmas.{no_bit, not_bit, of_bit, or_to, or_of, joined_to, joined_old, joined_of, range_to, of_range}
+use Rattle.shader_chains.proofs.JoinLemmas.{no_bit, not_bit, of_bit, or_to, or_of, joined_to, joined_old, joined_of, range_to, of_range}
 
 -- the bits with a name are those of the needs
 bit_power : Need → ℕ

@@ -30,7 +30,7 @@ use Rattle.shader_sweeps.specs.Tallied.{Tallied, bits, occurred}
 use Rattle.shader_sweeps.proofs.HeldInfoLemmas.{held_of, of_held}
 use Rattle.shader_steps.proofs.RootLemmas.{root_to, root_from}
 use Rattle.shader_sweeps.proofs.CountLemmas.{if_true, if_false}
-use Rattle.shader_sweeps.proofs.JoinLemmas.{no_bit, not_bit, of_bit, or_to, or_of, joined_to, joined_old, joined_of}
+use Rattle.shader_chains.proofs.JoinLemmas.{no_bit, not_bit, of_bit, or_to, or_of, joined_to, joined_old, joined_of}
 use Rattle.shader_steps.proofs.UsesLemmas.{eq_true, eq_false, put_one, put_at, puts_are, puts_long, name_at, names_are, names_long, used_named, named_cases, Named}
 
 -- the bits of a label are its uses

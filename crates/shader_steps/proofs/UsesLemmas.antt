@@ -9,7 +9,7 @@ use Rattle.shader_sweeps.specs.declared.facts.Fact.{Fact}
 use Rattle.shader_sweeps.specs.Facts.{root_at}
 use Rattle.shader_sweeps.specs.Joined.{named_once, named_by}
 use Rattle.shader_sweeps.specs.Tallied.{Tallied, occurred, put_on, bits}
-use Rattle.shader_sweeps.proofs.ListLemmas.{nowhere, here, there, cases}
+use Rattle.shader_chains.proofs.ListLemmas.{nowhere, here, there, cases}
 use Rattle.shader_sweeps.proofs.CountLemmas.{if_true, if_false}
 
 pub eq_true : (a b : ℕ) → a ≡ b → nat_eq a b ≡ true

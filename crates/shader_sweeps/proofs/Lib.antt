@@ -2,9 +2,6 @@ pub mod CountLemmas
 pub mod FactLemmas
 pub mod FlowLemmas
 pub mod HeldInfoLemmas
-pub mod JoinLemmas
-pub mod KeptLemmas
-pub mod ListLemmas
 pub mod MissedLemmas
 pub mod PairLemmas
 pub mod StepOrigins

@@ -14,7 +14,7 @@ use Rattle.shader_sweeps.specs.Paired.{SameMembers, pairs_in, key_pair, sampling
 use Rattle.shader_info.specs.declared.info.FunctionInfo.{FunctionInfo}
 use Rattle.shader_chains.specs.Program.{Function, Step, Leaf, Call}
 use Rattle.std.specs.Option.{option_map}
-use Rattle.shader_sweeps.proofs.ListLemmas.{there, cases, in_map, of_map}
+use Rattle.shader_chains.proofs.ListLemmas.{there, cases, in_map, of_map}
 use Rattle.shader_chains.specs.Infos.{Place}
 use Rattle.std.proofs.lemmas.Grind.{flat_map-append}
 use Rattle.shader_arena.proofs.PlacesLemmas.{items_of-enumerate_from}

@@ -18,7 +18,7 @@ use Rattle.shader_sweeps.specs.Facts.{callee_of, callee_origin, entry, first_ori
 use Rattle.shader_sweeps.specs.InfoOf.{infos_of, PointsBackwards}
 use Rattle.shader_sweeps.proofs.FactLemmas.{stands_between, swept_long, get_seam, get_left}
 use Rattle.shader_sweeps.proofs.HeldInfoLemmas.{result_to, of_result}
-use Rattle.shader_sweeps.proofs.ListLemmas.{nowhere, here, there, cases}
+use Rattle.shader_chains.proofs.ListLemmas.{nowhere, here, there, cases}
 
 abbrev pub nu : Fact → Option ℕ
 nu fact = fact.origin

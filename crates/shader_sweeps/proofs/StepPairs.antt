@@ -13,7 +13,7 @@ use Rattle.shader_info.specs.declared.info.FunctionInfo.{FunctionInfo}
 use Rattle.shader_sweeps.specs.InfoOf.{infos_of}
 use Rattle.shader_sweeps.specs.Paired.{SameMembers, pair_of, placed, passed, passed_all, called, sampled_pair, info_pairs}
 use Rattle.shader_sweeps.proofs.HeldInfoLemmas.{held_of, of_held}
-use Rattle.shader_sweeps.proofs.ListLemmas.{nowhere, here, cases, in_flat, of_flat}
+use Rattle.shader_chains.proofs.ListLemmas.{nowhere, here, cases, in_flat, of_flat}
 
 -- the i-th item is a member, and a member has a place
 pub member_of : {X : Type 0} (xs : List X) (k : ℕ) (x : X) → slice_get xs k ≡ Some x → Contains xs x

@@ -12,14 +12,14 @@ use Rattle.shader_chains.specs.Program.{Function, Module, Expression, Label, Ste
 use Rattle.shader_chains.specs.Steps.{StepOrigin, StepResult}
 use Rattle.shader_chains.specs.Steps as step
 use Rattle.shader_chains.proofs.OriginsLemmas.{Picks-same, Picks-some}
-use Rattle.shader_sweeps.proofs.KeptLemmas.{kept}
+use Rattle.shader_chains.proofs.KeptLemmas.{kept}
 use Rattle.shader_info.specs.declared.info.FunctionInfo.{FunctionInfo}
 use Rattle.shader_sweeps.specs.declared.facts.Fact.{Fact}
 use Rattle.shader_sweeps.specs.Facts.{origin_at, result_at, swept}
 use Rattle.shader_sweeps.specs.InfoOf.{infos_of, PointsBackwards}
 use Rattle.shader_sweeps.specs.Joined.{given_by}
 use Rattle.shader_sweeps.proofs.HeldInfoLemmas.{result_to, of_result}
-use Rattle.shader_sweeps.proofs.ListLemmas.{nowhere, here, cases}
+use Rattle.shader_chains.proofs.ListLemmas.{nowhere, here, cases}
 use Rattle.shader_sweeps.proofs.StepOrigins.{nu, OfOperand, first_is, origins_long, step_origins}
 
 picks_itself : (o : Option ℕ) → Picks (λ h. o ≡ Some h) o

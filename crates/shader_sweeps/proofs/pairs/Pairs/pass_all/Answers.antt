@@ -4,7 +4,7 @@ use Rattle.std.specs.List.{flat_map}
 use Rattle.shader_ir.specs.BodyOf.{step_of}
 use Rattle.shader_sweeps.specs.Gathered.{listed}
 use Rattle.shader_sweeps.specs.Paired.{called, pairs_of}
-use Rattle.shader_sweeps.proofs.ListLemmas.{drop_item}
+use Rattle.shader_chains.proofs.ListLemmas.{drop_item}
 use Rattle.shader_sweeps.proofs.PairLemmas.{more_at}
 use Rattle.shader_sweeps.proofs.pairs.Pairs.pass_all.Goals as goal
 
