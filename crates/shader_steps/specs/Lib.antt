@@ -1,3 +1,4 @@
+pub mod Causes
 pub mod Conditions
 pub mod Found
 pub mod OfTheStep
