@@ -39,6 +39,6 @@ IsNamedOf IsCause e expression.BindingArrayElement = IsCause (BindingArrayElemen
 -- the cause that a refusal names is one of the causes; want of memory names none
 abbrev pub IsNamed : (Cause → Type 0) → FunctionError → Type 0
 IsNamed IsCause (error.Expression e source) = IsNamedOf IsCause e source
-IsNamed IsCause (error.NonUniformControlFlow needs e disruptor) = IsCause (NonUniformControlFlow needs.0 e (disruptor_of disruptor))
+IsNamed IsCause (error.NonUniformControlFlow needs e blamed) = IsCause (NonUniformControlFlow needs.0 e (disruptor_of blamed))
 IsNamed IsCause (error.CountFull e) = IsCause (CountFull e)
 IsNamed IsCause error.OutOfMemory = Unit {0}
