@@ -1,1 +1,4 @@
+pub mod AddedTypes
+pub mod Analyzable
+pub mod Processed
 pub mod Recorded
