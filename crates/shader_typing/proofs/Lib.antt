@@ -1,0 +1,2 @@
+pub mod FewNeeds
+pub mod FoundLemmas

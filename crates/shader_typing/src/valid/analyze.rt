@@ -1,10 +1,17 @@
 //! The analysis of a module.
-ghost use Rattle.std.specs.Prelude.{IfErr, IfOk};
+ghost use Rattle.std.specs.Prelude.{◌≡◌, ◌⊎◌, [], ◌∷◌, ◌++◌, IfErr, IfOk, OnOk, length};
+ghost use Rattle.shader_chains.specs.Derivable.{AreTypes};
 ghost use Rattle.shader_chains.specs.Exact.{IsExactModule};
-ghost use Rattle.shader_chains.specs.Faults.{IsAccepted, IsFirstFault};
+ghost use Rattle.shader_chains.specs.Faults.{Cause, IsAccepted, IsFirstFault, Settings, Untyped};
+ghost use Rattle.shader_info.specs.declared.error.AnalysisPlace.TheVariants.{ConstExpression};
+ghost use Rattle.shader_info.specs.declared.error.FunctionError.TheVariants as cause;
+ghost use Rattle.shader_resolve.specs.Context.{context_of};
+ghost use Rattle.shader_resolve.specs.Outcome.{refusal_of};
+ghost use Rattle.shader_resolve.specs.declared.error.ResolveError.TheVariants.{OutOfMemory};
 ghost use Rattle.shader_resolve.specs.WellFormed.{IsWellFormed};
 ghost use Rattle.shader_steps.specs.Causes.{IsNamed, settings_of};
 ghost use Rattle.shader_sweeps.specs.InfoOf.{infos_of};
+ghost use Rattle.shader_typing.specs.Analyzed.{EntryPointsFound, FunctionsFound};
 ghost use Rattle.shader_typing.specs.Processed.{site_of};
 
 use crate::valid::ModuleInfo;
@@ -15,10 +22,14 @@ use shader_info::{
 };
 use shader_ir::{Module, mark};
 use shader_resolve::{ResolveContext, ResolveError};
-use std::alloc::{AllocFailed, Global};
+use std::alloc::Global;
 
 /// What is told of a global expression without a type.
-fn type_error(place: AnalysisPlace, handle: Handle<mark::Expression>, source: ResolveError) -> AnalysisError {
+fn type_error(handle: Handle<mark::Expression>, source: ResolveError) -> AnalysisError
+    ensures place { result.place ≡ ConstExpression handle }
+    ensures cause { (IsCause : Cause → Type 0) → (source ≡ OutOfMemory) ⊎ IsCause (Untyped handle (refusal_of source)) → IsNamed IsCause result.cause }
+{
+    let place = AnalysisPlace::ConstExpression(handle);
     let cause = match source {
         ResolveError::OutOfMemory => FunctionError::OutOfMemory,
         source => FunctionError::Expression {
@@ -30,7 +41,13 @@ fn type_error(place: AnalysisPlace, handle: Handle<mark::Expression>, source: Re
 }
 
 /// Adds the types of all global expressions.
-fn add_types(alloc: Global, module: &Module, info: &mut ModuleInfo) -> Result<(), AnalysisError> {
+fn add_types(alloc: Global, module: &Module, info: &mut ModuleInfo) -> Result<(), AnalysisError>
+    requires well_formed { IsWellFormed «module».now }
+    requires none { info.old.global_expressions ≡ [] }
+    ensures rest { OnOk result (info.new ≡ record info.old { global_expressions = info.new.global_expressions }) }
+    ensures types { OnOk result (AreTypes (context_of «module».now [] []) «module».now.global_expressions info.new.global_expressions) }
+    ensures refused { IfErr result (λ error. (settings : Settings) → IsNamed (IsFirstFault «module».now settings (site_of error.place)) error.cause) }
+{
     let locals = Arena::new(alloc);
     let context = ResolveContext::with_locals(module, &locals, &[]);
     let gctx = module.to_ctx();
@@ -38,16 +55,41 @@ fn add_types(alloc: Global, module: &Module, info: &mut ModuleInfo) -> Result<()
         match info.process_const_expression(alloc, handle, &context, &gctx) {
             Ok(()) => {}
             Err(source) => {
-                return Err(type_error(AnalysisPlace::ConstExpression(handle), handle, source));
+                return Err(type_error(handle, source));
             }
         }
     }
     Ok(())
 }
 
-/// What is told where an info isn't held for want of memory.
-fn held(place: AnalysisPlace, added: Result<(), AllocFailed<FunctionInfo>>) -> Result<(), AnalysisError> {
-    match added {
+/// Adds the info of the next function.
+fn add_function(
+    place: AnalysisPlace,
+    info: &mut ModuleInfo,
+    found: FunctionInfo,
+) -> Result<(), AnalysisError>
+    ensures ok { OnOk result (info.new ≡ record info.old { functions = info.old.functions ++ found ∷ [] }) }
+    ensures cause { IfErr result (λ error. error.cause ≡ cause.OutOfMemory) }
+{
+    match info.add_function(found) {
+        Ok(()) => Ok(()),
+        Err(_) => Err(AnalysisError {
+            place,
+            cause: FunctionError::OutOfMemory,
+        }),
+    }
+}
+
+/// Adds the info of the next entry point.
+fn add_entry_point(
+    place: AnalysisPlace,
+    info: &mut ModuleInfo,
+    found: FunctionInfo,
+) -> Result<(), AnalysisError>
+    ensures ok { OnOk result (info.new ≡ record info.old { entry_points = info.old.entry_points ++ found ∷ [] }) }
+    ensures cause { IfErr result (λ error. error.cause ≡ cause.OutOfMemory) }
+{
+    match info.add_entry_point(found) {
         Ok(()) => Ok(()),
         Err(_) => Err(AnalysisError {
             place,
@@ -63,11 +105,19 @@ fn add_functions(
     flags: ValidationFlags,
     capabilities: Capabilities,
     info: &mut ModuleInfo,
-) -> Result<(), AnalysisError> {
+) -> Result<(), AnalysisError>
+    requires well_formed { IsWellFormed «module».now }
+    requires types { AreTypes (context_of «module».now [] []) «module».now.global_expressions info.old.global_expressions }
+    requires none { info.old.functions ≡ [] }
+    ensures rest { OnOk result (info.new ≡ record info.old { functions = info.new.functions }) }
+    ensures all { OnOk result (length info.new.functions ≡ length «module».now.functions) }
+    ensures found { OnOk result (FunctionsFound «module».now (settings_of flags capabilities) info.new.functions) }
+    ensures refused { IfErr result (λ error. IsNamed (IsFirstFault «module».now (settings_of flags capabilities) (site_of error.place)) error.cause) }
+{
     for (handle, _) in module.functions.iter() {
         let place = AnalysisPlace::Function(handle);
         let found = info.process_function(alloc, place, module, flags, capabilities)?;
-        held(place, info.add_function(found))?;
+        add_function(place, info, found)?;
     }
     Ok(())
 }
@@ -79,11 +129,21 @@ fn add_entry_points(
     flags: ValidationFlags,
     capabilities: Capabilities,
     info: &mut ModuleInfo,
-) -> Result<(), AnalysisError> {
+) -> Result<(), AnalysisError>
+    requires well_formed { IsWellFormed «module».now }
+    requires types { AreTypes (context_of «module».now [] []) «module».now.global_expressions info.old.global_expressions }
+    requires all { length info.old.functions ≡ length «module».now.functions }
+    requires found { FunctionsFound «module».now (settings_of flags capabilities) info.old.functions }
+    requires none { info.old.entry_points ≡ [] }
+    ensures rest { OnOk result (info.new ≡ record info.old { entry_points = info.new.entry_points }) }
+    ensures all { OnOk result (length info.new.entry_points ≡ length «module».now.entry_points) }
+    ensures found { OnOk result (EntryPointsFound «module».now (settings_of flags capabilities) info.new.entry_points) }
+    ensures refused { IfErr result (λ error. IsNamed (IsFirstFault «module».now (settings_of flags capabilities) (site_of error.place)) error.cause) }
+{
     for index in 0..module.entry_points.len() {
         let place = AnalysisPlace::EntryPoint(index);
         let found = info.process_function(alloc, place, module, flags, capabilities)?;
-        held(place, info.add_entry_point(found))?;
+        add_entry_point(place, info, found)?;
     }
     Ok(())
 }

@@ -2,7 +2,7 @@
 mod expressions;
 mod parts;
 
-ghost use Rattle.std.specs.Prelude.{⊥, IfErr, IfOk};
+ghost use Rattle.std.specs.Prelude.{◌≡◌, IfErr, IfOk, false};
 ghost use Rattle.shader_chains.specs.Faults.{Cause, StepFault};
 ghost use Rattle.shader_chains.specs.Steps.{MeetsSteps};
 ghost use Rattle.shader_info.specs.Fit.{Fits};
@@ -10,6 +10,7 @@ ghost use Rattle.shader_steps.specs.Causes.{IsNamed, settings_of};
 ghost use Rattle.shader_sweeps.specs.InfoOf.{info_of, infos_of};
 ghost use Rattle.shader_typing.specs.Analyzable.{IsAnalyzable};
 
+use bitflags::Flags;
 use expressions::expression_infos;
 use parts::{counted, kills, placed_pairs, uses_of};
 use shader_expression_types::types_of;
@@ -32,6 +33,8 @@ pub(crate) fn function_info(
     requires { IsAnalyzable «module».now infos.now function.now }
     ensures steps { IfOk result (λ info. MeetsSteps «module».now (infos_of infos.now) function.now (info_of info)) }
     ensures fits { IfOk result (λ info. Fits «module».now function.now info) }
+    ensures stages { IfOk result (λ info. info.available_stages.0 ≡ 31) }
+    ensures one_source { IfOk result (λ info. info.dual_source_blending ≡ false) }
     ensures clean { IfOk result (λ _. (cause : Cause) → StepFault «module».now (infos_of infos.now) function.now (settings_of flags capabilities) cause → ⊥) }
     ensures fault { IfErr result (IsNamed (StepFault «module».now (infos_of infos.now) function.now (settings_of flags capabilities))) }
 {
@@ -39,7 +42,7 @@ pub(crate) fn function_info(
     let all = statements.as_slice();
     let found = facts_of(alloc, module, infos, function)?;
     let facts = found.as_slice();
-    let types = types_of(alloc, module, infos, function, facts, capabilities)?;
+    let types = types_of(alloc, module, function, facts, capabilities)?;
     let pairs = placed_pairs(alloc, infos, function, all)?;
     let tally = counted(alloc, module, function, facts, all)?;
     let may_kill = kills(module, infos, function, facts, flags)?;

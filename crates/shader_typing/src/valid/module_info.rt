@@ -1,17 +1,13 @@
 //! What is recorded of a module.
-ghost use Rattle.std.specs.Prelude.{◌≡◌, ◌<◌, ⊥, [], ◌∷◌, ◌++◌, All, length, slice_get, Some, IfErr, IfOk, OnOk, OnErr};
+ghost use Rattle.std.specs.Prelude.{◌≡◌, ◌<◌, [], ◌∷◌, ◌++◌, length, slice_get, Some, false, IfErr, IfOk, OnOk, OnErr};
 ghost use Rattle.shader_chains.specs.Faults.{Cause, StepFault};
 ghost use Rattle.shader_chains.specs.Program.{Function};
 ghost use Rattle.shader_chains.specs.Steps.{MeetsSteps};
 ghost use Rattle.shader_info.specs.Fit.{Fits};
-ghost use Rattle.shader_ir.specs.Key.{FitsTypes};
-ghost use Rattle.shader_ir.specs.TypeTree.{IsBackward};
-ghost use Rattle.shader_resolve.specs.Context.{IsInRange};
-ghost use Rattle.shader_resolve.specs.ContextLaws.{AskedEarlier};
 ghost use Rattle.shader_resolve.specs.WellFormed.{IsWellFormed};
 ghost use Rattle.shader_steps.specs.Causes.{IsNamed, settings_of};
 ghost use Rattle.shader_sweeps.specs.InfoOf.{info_of, infos_of};
-ghost use Rattle.shader_typing.specs.AddedTypes.{AddsType, IsTypeRefusal};
+ghost use Rattle.shader_typing.specs.AddedTypes.{AddsType, CanType, IsTypeRefusal};
 ghost use Rattle.shader_typing.specs.Processed.{CanProcess, HasFunction, IsFunctionAt, functions_before, infos_before};
 
 use crate::valid::analyzer::function_info;
@@ -125,12 +121,7 @@ impl ModuleInfo {
         resolve_context: &ResolveContext<'_>,
         gctx: &GlobalCtx<'_>,
     ) -> Result<(), ResolveError>
-        requires next { handle ≡ length self.old.global_expressions }
-        requires there { handle < length gctx.now.global_expressions.now }
-        requires backward { IsBackward resolve_context.now.types }
-        requires names { All (IsInRange resolve_context.now) gctx.now.global_expressions.now }
-        requires asked { AskedEarlier resolve_context.now gctx.now.global_expressions.now }
-        requires types { All (FitsTypes resolve_context.now.types) self.old.global_expressions }
+        requires { CanType resolve_context.now gctx.now.global_expressions.now self.old handle }
         ensures ok { OnOk result (AddsType resolve_context.now gctx.now.global_expressions.now self.old self.new) }
         ensures err { OnErr result (self.new ≡ self.old) }
         ensures refused { IfErr result (IsTypeRefusal resolve_context.now gctx.now.global_expressions.now self.old) }
@@ -141,8 +132,10 @@ impl ModuleInfo {
             self.global_expressions.as_slice(),
             &gctx.global_expressions[handle],
         )?;
-        self.global_expressions.push(ty)?;
-        Ok(())
+        match self.global_expressions.push(ty) {
+            Ok(()) => Ok(()),
+            Err(_) => Err(ResolveError::OutOfMemory),
+        }
     }
 
     /// Analyses the function at a place, over the infos of the functions before it.
@@ -165,6 +158,8 @@ impl ModuleInfo {
         requires held { CanProcess «module».now self.now place }
         ensures steps { IfOk result (λ info. (f : Function) → IsFunctionAt «module».now place f → MeetsSteps «module».now (infos_of (infos_before «module».now self.now place)) f (info_of info)) }
         ensures fits { IfOk result (λ info. (f : Function) → IsFunctionAt «module».now place f → Fits «module».now f info) }
+        ensures stages { IfOk result (λ info. info.available_stages.0 ≡ 31) }
+        ensures one_source { IfOk result (λ info. info.dual_source_blending ≡ false) }
         ensures clean { IfOk result (λ _. (f : Function) (cause : Cause) → IsFunctionAt «module».now place f → StepFault «module».now (infos_of (infos_before «module».now self.now place)) f (settings_of flags capabilities) cause → ⊥) }
         ensures place { IfErr result (λ error. error.place ≡ place) }
         ensures fault { IfErr result (λ error. (f : Function) → IsFunctionAt «module».now place f → IsNamed (StepFault «module».now (infos_of (infos_before «module».now self.now place)) f (settings_of flags capabilities)) error.cause) }

@@ -1,5 +1,5 @@
 //! What is found of a function, or refused: its pairs, its counts, how it ends, and its uses of globals.
-ghost use Rattle.std.specs.Prelude.{◌≡◌, ◌<◌, ⊥, ℕ, IfErr, IfOk, IfSome, IsTrue, Some, false, length, map, slice_get};
+ghost use Rattle.std.specs.Prelude.{◌≡◌, ◌<◌, ℕ, IfErr, IfOk, IfSome, IsTrue, Some, false, length, map, slice_get};
 ghost use Rattle.shader_chains.specs.Counts.{count_of};
 ghost use Rattle.shader_chains.specs.Faults.{Disruptor, NoPlace, NonUniformControlFlow, Settings, StepFault};
 ghost use Rattle.shader_chains.specs.Filters.{HaveEarlierParents};
@@ -16,7 +16,7 @@ ghost use Rattle.shader_typing.specs.Analyzable.{ChecksFlow};
 
 use bitflags::Flags;
 use shader_arena::Handle;
-use shader_chains::filters::derivative_severity;
+use shader_chains::derivative_severity;
 use shader_info::{ExpressionError, FunctionError, FunctionInfo, GlobalUse, ValidationFlags};
 use shader_ir::{Function, Items, Module, Severity, Statement, mark};
 use shader_sweeps::facts::Fact;
