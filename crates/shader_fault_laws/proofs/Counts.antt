@@ -72,7 +72,7 @@ module _ (m : Module) (f : Function) (fits : FunctionInRange m f) where
       let of_own = all_flat Within expression_operands f.expressions of_expression in
       let of_locals = all_flat Within local_operands f.local_variables of_local in
       let of_others = all_flat Within statement_operands (statements f.body) of_statement in
-      All-append Within own (locals ++ others) of_own (All-append Within locals others of_locals of_others)
+      All-append Within (own ++ locals) others (All-append Within own locals of_own of_locals) of_others
 
   pub none_past : (e : ℕ) → length f.expressions ≤ e → count_of f e ≡ 0
   none_past e le = none_named (length f.expressions) e le (occurrences f) all_within
