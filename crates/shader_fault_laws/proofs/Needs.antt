@@ -1,5 +1,5 @@
 -- What is found that an expression asks of the flow, as a number.
-use Rattle.std.proofs.Common.{◌≡◌, ◌≢◌, refl, sym, ap, subst, ◌∙◌, ℕ, zero, suc, ◌<◌, ◌≤◌, ◌↔◌, ◌⊎◌, inl, inr, Bool, true, false, not, IsTrue, List, Option, Some, None, map, nat_eq, nat_lt, slice_get, slice_index, length, get_or, unwrap_or, bit_and, arith}
+use Rattle.std.proofs.Common.{◌≡◌, ◌≢◌, refl, sym, ap, subst, ◌∙◌, ℕ, zero, suc, ◌<◌, ◌≤◌, ◌↔◌, ◌⊎◌, inl, inr, Bool, true, false, not, IsTrue, List, [], Option, Some, None, map, nat_eq, nat_lt, slice_get, slice_index, length, get_or, unwrap_or, bit_and, arith}
 use borrow.Author.Tests.{ltb-true, ltb-false}
 use Rattle.std.specs.Int.{IsBitSet, bit_at}
 use Rattle.std.specs.Option.{option_map}
