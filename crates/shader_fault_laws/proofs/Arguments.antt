@@ -1,14 +1,15 @@
 -- An argument that is named where it has a type is there.
-use Rattle.std.proofs.Common.{◌≡◌, refl, sym, subst, ◌∙◌, ℕ, ◌<◌, Option, Some, None, slice_get, length}
-use Rattle.std.proofs.lemmas.Option.{same_Some, slice_get_within}
+use Rattle.std.proofs.Common.{◌≡◌, refl, sym, subst, ◌∙◌, ℕ, ◌<◌, Option, Some, None, slice_get, length, get_or, arith}
+use Rattle.std.proofs.lemmas.Option.{same_Some, slice_get-get_or, slice_get_within}
 use Rattle.shader_ir.specs.declared.expression.Expression.TheVariants as form
 use Rattle.shader_ir.specs.declared.function.FunctionArgument.{FunctionArgument}
 use Rattle.shader_ir.specs.declared.proc.type_resolution.TypeResolution.{TypeResolution}
+use Rattle.shader_ir.specs.declared.proc.type_resolution.TypeResolution.TheVariants.{Handle}
 use Rattle.shader_resolve.specs.Outcome.{Outcome, Given}
 use Rattle.shader_resolve.specs.Rows.{Row, Plain, One, Two, argument_type, row}
-use Rattle.shader_chains.specs.Derivable.{Answers, plain, by_one, by_two, Derives, given, function_context}
+use Rattle.shader_chains.specs.Derivable.{Answers, plain, by_one, by_two, given, function_context}
 use Rattle.shader_chains.specs.Program.{Function, Module, Expression, Stands}
-use Rattle.shader_fault_laws.specs.PairsFit.{TypedArgumentsAreWithin}
+use Rattle.shader_fault_laws.specs.PairsFit.{TypedArgumentsAreWithin, TypedFunctionsHaveArguments}
 
 module _ (m : Module) (f : Function) (i : ℕ) where
   abbrev Asked : Expression → Row
@@ -37,3 +38,9 @@ module _ (m : Module) (f : Function) (i : ℕ) where
 
 pub typed_arguments_are_within : TypedArgumentsAreWithin
 typed_arguments_are_within m f e i resolution stands (given {outcome = outcome} answers is) = answered m f i e outcome stands answers resolution is
+
+pub typed_functions_have_arguments : TypedFunctionsHaveArguments
+typed_functions_have_arguments m f types are e i stands =
+    let lt : e < length types = omega (arith, slice_get_within f.expressions e (form.FunctionArgument i) stands, are.complete) in
+    let resolution = get_or types e (Handle 0) in
+    typed_arguments_are_within m f e i resolution stands (are.derived e resolution (slice_get-get_or types e (Handle 0) lt))

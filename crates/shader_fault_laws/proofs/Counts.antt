@@ -1,9 +1,9 @@
 -- How often an expression is named, where all that is named is there.
-use Rattle.std.proofs.Common.{◌≡◌, ◌≢◌, refl, ℕ, ◌+◌, ◌<◌, ◌≤◌, ◌^◌, List, [], ◌∷◌, ◌++◌, Bool, true, false, Option, Some, None, IfSome, All, length, nat_lt, arith}
+use Rattle.std.proofs.Common.{◌≡◌, ◌≢◌, refl, ℕ, ◌<◌, ◌≤◌, ◌^◌, List, [], ◌∷◌, ◌++◌, Bool, true, false, Option, Some, None, IfSome, All, length, nat_lt, arith}
 use borrow.Author.Tests.{ltb-true, ltb-false}
 use Rattle.std.specs.List.{Contains, flat_map}
 use Rattle.std.proofs.lemmas.Bool.Decides.{nat_tests}
-use Rattle.std.proofs.lemmas.List.Elements.{All-append, All-cons, All-contains, All-contains_itself, All-head, All-nil, All-tail, All-weaker}
+use Rattle.std.proofs.lemmas.List.Elements.{All-append, All-cons, All-contains, All-head, All-nil, All-tail}
 use Rattle.shader_ir.specs.declared.function.LocalVariable.{LocalVariable}
 use Rattle.shader_ir.specs.declared.proc.operands.Label.TheVariants.{Read}
 use Rattle.shader_ir.specs.Occurs.{local_operands}
@@ -11,20 +11,12 @@ use Rattle.shader_ir.specs.Slots.{kept, read_optional}
 use Rattle.shader_resolve.specs.Context.{context_of}
 use Rattle.shader_resolve.specs.WellFormed.{ExpressionInRange, FunctionInRange, LocalInRange, StatementInRange}
 use Rattle.shader_chains.specs.Counts.{one_of, times, count_of}
-use Rattle.shader_chains.specs.Faults.{Cause, CountFull, Settings, StepFault, HasFault, untyped, no_capability, bad_element, no_image_place, no_sampler_place, no_image_passed, no_sampler_passed, misplaced, count_full}
+use Rattle.shader_chains.specs.Faults.{Cause, CountFull, Settings, StepFault, untyped, no_capability, bad_element, no_image_place, no_sampler_place, no_image_passed, no_sampler_passed, misplaced, count_full}
 use Rattle.shader_chains.specs.Infos.{Info}
 use Rattle.shader_chains.specs.Program.{Function, Module, Expression, Label, Step, expression_operands, statement_operands, statements, occurrences}
-use Rattle.shader_chains.proofs.ListLemmas.{in_flat}
-use Rattle.shader_info.specs.declared.info.FunctionInfo.{FunctionInfo}
 use Rattle.shader_sweeps.specs.InfoOf.{infos_of}
 use Rattle.shader_fault_laws.specs.Refused.{CountsFit, FullCountsAreFaults}
-
--- what holds of each member holds of all
-pub all_members : {X : Type 0} (P : X → Type 0) (xs : List X) → ((x : X) → Contains xs x → P x) → All P xs
-all_members P xs each = All-weaker (Contains xs) P each xs (All-contains_itself xs)
-
-all_flat : {X Y : Type 0} (P : Y → Type 0) (g : X → List Y) (xs : List X) → ((x : X) → Contains xs x → All P (g x)) → All P (flat_map g xs)
-all_flat P g xs each = all_members P (flat_map g xs) (λ y h. let at = in_flat g xs y h in All-contains P (g at.0) y (each at.0 at.1) at.2)
+use Rattle.shader_fault_laws.proofs.Members.{all_flat}
 
 one_other : (i e : ℕ) → i ≢ e → one_of e i ≡ 0
 one_other i e h = grind (arith, nat_tests)

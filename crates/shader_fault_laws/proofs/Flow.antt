@@ -6,10 +6,8 @@ use Rattle.std.proofs.lemmas.Bool.{or_cases}
 use Rattle.shader_ir.specs.declared.statement.SwitchValue.{SwitchValue}
 use Rattle.shader_chains.specs.Faults.{Around, branch, deeper, Disruptor, Source, EarlierReturn, EarlierDiscard, MayBlame, a_source, a_return, a_kill, a_call, RecordsPair, Settings}
 use Rattle.shader_chains.specs.Faults as faults
-use Rattle.shader_chains.specs.Flow.{At, start, rest, inside, Part, inner, accept, reject, body, continuing, case_of, CasesIn, from_first, after, BranchOn, accepts, rejects, selects, Disrupted}
-use Rattle.shader_chains.specs.Infos.{Place}
-use Rattle.shader_chains.specs.Needs.{Need}
-use Rattle.shader_chains.specs.Program.{Function, Module, Simple, Emit, Return, Kill, Call, Step, Leaf, Nested, If, Switch, Loop, Body, End, Then, Cases, NoCase, Case, statements}
+use Rattle.shader_chains.specs.Flow.{At, rest, inside, Part, inner, accept, reject, body, continuing, case_of, CasesIn, from_first, after, BranchOn, Disrupted}
+use Rattle.shader_chains.specs.Program.{Function, Module, Simple, Return, Kill, Call, Step, Leaf, Nested, If, Switch, Loop, Body, End, Then, Cases, NoCase, Case, statements}
 use Rattle.shader_chains.specs.Steps.{RecordsKills, StepExpressionNeed, StepOrigin}
 use Rattle.shader_chains.specs.Sweep.{flag, case_flag, step_exits, block_exits}
 use Rattle.shader_chains.proofs.FlowLemmas.{more_disrupted, stands_within}

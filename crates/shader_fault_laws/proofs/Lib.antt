@@ -1,8 +1,9 @@
-mod Arguments
-mod Counts
+pub mod Arguments
+pub mod Counts
 mod Flow
-mod Misplaced
+mod Members
+pub mod Misplaced
 mod Needs
-mod Pairs
-mod Unplaced
+pub mod Pairs
+pub mod Unplaced
 mod Varied

@@ -177,7 +177,7 @@ module _ (m : Module) (infos : List FunctionInfo) (f : Function) (settings : Set
         x.at,
         emits_needed x.start x.finish e (of_range x.start x.finish e x.from x.to) x.need x.needed,
         more_disrupted (flow.V m infos f settings below) (λ e. IsTrue (VB e)) (flow.K m infos f settings below) (λ c. IsTrue (KB c)) f.body
-        (of_origin m infos f below) (λ c _ _ _ _ k. of_killing infos c k) _ x.at x.disrupted,
+            (of_origin m infos f below) (λ c _ _ _ _ k. of_killing infos c k) _ x.at x.disrupted,
       )
 
   none_found : misplaced_found m infos f ≡ None → IsTrue (found VB KB (emits_needy facts) false f.body) → ⊥

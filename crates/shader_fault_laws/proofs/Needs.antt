@@ -1,5 +1,5 @@
 -- What is found that an expression asks of the flow, as a number.
-use Rattle.std.proofs.Common.{◌≡◌, ◌≢◌, refl, sym, ap, subst, ◌∙◌, ℕ, zero, suc, ◌<◌, ◌≤◌, ◌↔◌, ◌⊎◌, inl, inr, Bool, true, false, not, IsTrue, List, [], Option, Some, None, map, nat_eq, nat_lt, slice_get, slice_index, length, get_or, unwrap_or, bit_and, arith}
+use Rattle.std.proofs.Common.{◌≡◌, ◌≢◌, refl, ap, subst, ◌∙◌, ℕ, zero, suc, ◌<◌, ◌≤◌, ◌↔◌, ◌⊎◌, inl, inr, Bool, true, false, not, IsTrue, List, [], Option, Some, None, map, nat_eq, nat_lt, slice_get, slice_index, length, get_or, unwrap_or, bit_and, arith}
 use borrow.Author.Tests.{ltb-true, ltb-false}
 use Rattle.std.specs.Int.{IsBitSet, bit_at}
 use Rattle.std.specs.Option.{option_map}
@@ -127,11 +127,8 @@ module _ (m : Module) (infos : List FunctionInfo) (f : Function) where
   same_needs : (e : ℕ) → e < length f.expressions → slice_index (expression_needs_found m infos f) e ≡ needs_at facts e
   same_needs e lt = at (slice_get facts e) refl where
     at : (o : Option Fact) → slice_get facts e ≡ o → slice_index (map rq facts) e ≡ unwrap_or (option_map rq o) 0
-    at None is = at_end is where
-      at_end : slice_get facts e ≡ None → slice_index (map rq facts) e ≡ 0
-      at_end is =
-          let d = entry m infos f [] 0 form.RayQueryProceedResult in
-          let some = slice_get-get_or facts e d (omega (arith, facts_long, lt)) in absurd (cc)
+    at None is =
+        let some = slice_get-get_or facts e (entry m infos f [] 0 form.RayQueryProceedResult) (omega (arith, facts_long, lt)) in absurd (cc)
     at (Some fact) is = get_or_from_slice_get (map rq facts) e (rq fact) 0 (slice_get-map rq facts e ∙ ap (option_map rq) is)
 
   pub needs_bits : (e : ℕ) (n : Need) → e < length f.expressions → IsBitSet (needs_at facts e) (bit_of_need n) ↔ StepExpressionNeed (infos_of infos) f n e

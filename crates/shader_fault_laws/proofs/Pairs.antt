@@ -14,15 +14,15 @@ use Rattle.shader_info.specs.declared.info.GlobalOrArgument.{GlobalOrArgument}
 use Rattle.shader_info.specs.declared.info.GlobalOrArgument.TheVariants.{Global, Argument}
 use Rattle.shader_info.specs.declared.info.Sampling.{Sampling}
 use Rattle.shader_info.specs.declared.info.SamplingKey.{SamplingKey}
-use Rattle.shader_info.specs.Fit.{Fits, IsKnown, IsOpen, IsPlace}
+use Rattle.shader_info.specs.Fit.{IsKnown, IsOpen, IsPlace}
 use Rattle.shader_steps.specs.Conditions.{GlobalsWithin}
 use Rattle.shader_steps.specs.Found.{pairs_found}
 use Rattle.shader_steps.proofs.FoundLemmas.{pairs_of_the_step}
 use Rattle.shader_sweeps.specs.InfoOf.{infos_of}
-use Rattle.shader_sweeps.specs.Paired.{SameMembers, info_pairs, key_pair, pairs_in, place_view, sampling_pair}
+use Rattle.shader_sweeps.specs.Paired.{SameMembers, key_pair, pairs_in, place_view, sampling_pair}
 use Rattle.shader_sweeps.proofs.HeldInfoLemmas.{of_held}
 use Rattle.shader_fault_laws.specs.PairsFit.{ArgumentsWithin, CollectedPairsFit, FitHeld, FoundPairsAreWithin, IsWithin}
-use Rattle.shader_fault_laws.proofs.Counts.{all_members}
+use Rattle.shader_fault_laws.proofs.Members.{all_members}
 
 -- places as infos hold them
 module _ (globals arguments : ℕ) where
@@ -116,7 +116,7 @@ found_pairs_are_within m infos f held globals arguments image sampler h =
 pub collected_pairs_fit : CollectedPairsFit
 collected_pairs_fit m infos f held globals arguments known open_pairs same =
     let each : (pair : Place × Place) → Contains (pairs_in known open_pairs) pair → Both (length m.global_variables) (length f.arguments) pair =
-        λ pair h. found_pairs_are_within m infos f held globals arguments pair.0 pair.1 (same.to pair h) in (
+    λ pair h. found_pairs_are_within m infos f held globals arguments pair.0 pair.1 (same.to pair h) in (
       to_known (length m.global_variables) (length f.arguments) known open_pairs each,
       to_open (length m.global_variables) (length f.arguments) known open_pairs each,
     )

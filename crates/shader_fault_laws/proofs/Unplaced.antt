@@ -2,7 +2,7 @@
 use Rattle.std.proofs.Common.{◌≡◌, refl, sym, ap, subst, ◌∙◌, ℕ, ◌⊎◌, inl, inr, List, [], Option, Some, None, fold, slice_get, unwrap_or}
 use Rattle.std.specs.Option.{option_and_then, option_map}
 use Rattle.std.specs.List.{Contains, enumerate_from}
-use Rattle.shader_chains.specs.Faults.{Cause, NoPlace, Settings, StepFault, HasFault, untyped, no_capability, bad_element, no_image_place, no_sampler_place, no_image_passed, no_sampler_passed, misplaced, count_full}
+use Rattle.shader_chains.specs.Faults.{Cause, NoPlace, Settings, StepFault, untyped, no_capability, bad_element, no_image_place, no_sampler_place, no_image_passed, no_sampler_passed, misplaced, count_full}
 use Rattle.shader_chains.specs.Infos.{Info, Place, InGlobal, InArgument, Picks}
 use Rattle.shader_chains.specs.Pairs.{place, in_caller, sampled, samples}
 use Rattle.shader_chains.specs.Program.{Function, Module, Expression, Step, Leaf, Call, Stands, statements}

@@ -1,8 +1,7 @@
 -- The origins that are found, as the definitions speak of them.
-use Rattle.std.proofs.Common.{◌≡◌, refl, ap, subst, ◌∙◌, ℕ, ◌<◌, IsTrue, List, Option, Some, None, map, slice_get, length, get_or, arith}
+use Rattle.std.proofs.Common.{◌≡◌, refl, ap, ◌∙◌, ℕ, ◌<◌, IsTrue, List, Option, Some, None, map, slice_get, length, get_or, arith}
 use Rattle.std.specs.Option.{option_and_then, option_map}
 use Rattle.std.proofs.lemmas.Option.{slice_get-get_or, slice_get-map, slice_get_within}
-use Rattle.shader_chains.specs.Infos.{Picks}
 use Rattle.shader_chains.specs.Origins.{Leads, itself, through}
 use Rattle.shader_chains.specs.Program.{Function, Module, Expression, Stands}
 use Rattle.shader_chains.specs.Steps.{StepOrigin, own, callee}

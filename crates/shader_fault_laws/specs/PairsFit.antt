@@ -3,7 +3,7 @@ use Rattle.std.specs.Prelude.{◌≡◌, ℕ, ◌<◌, List, Some, All, slice_ge
 use Rattle.std.specs.List.{Contains}
 use Rattle.shader_ir.specs.declared.expression.Expression.TheVariants as form
 use Rattle.shader_ir.specs.declared.proc.type_resolution.TypeResolution.{TypeResolution}
-use Rattle.shader_chains.specs.Derivable.{Derives, function_context}
+use Rattle.shader_chains.specs.Derivable.{AreTypes, Derives, function_context}
 use Rattle.shader_chains.specs.Infos.{Place, InGlobal, InArgument}
 use Rattle.shader_chains.specs.Program.{Function, Module, Stands}
 use Rattle.shader_info.specs.declared.info.FunctionInfo.{FunctionInfo}
@@ -31,6 +31,9 @@ ArgumentsWithin f = (e i : ℕ) → Stands f e (form.FunctionArgument i) → i <
 abbrev pub TypedArgumentsAreWithin : Type 0
 TypedArgumentsAreWithin = (m : Module) (f : Function) (e i : ℕ) (resolution : TypeResolution) → Stands f e (form.FunctionArgument i) →
     Derives (function_context m f) f.expressions e resolution → i < length f.arguments
+
+abbrev pub TypedFunctionsHaveArguments : Type 0
+TypedFunctionsHaveArguments = (m : Module) (f : Function) (types : List TypeResolution) → AreTypes (function_context m f) f.expressions types → ArgumentsWithin f
 
 abbrev pub FoundPairsAreWithin : Type 0
 FoundPairsAreWithin = (m : Module) (infos : List FunctionInfo) (f : Function) → FitHeld m infos → GlobalsWithin m f → ArgumentsWithin f →

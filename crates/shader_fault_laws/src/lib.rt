@@ -2,30 +2,35 @@
 //! function that does nothing.
 #![tactic(auto)]
 
-ghost use Rattle.shader_fault_laws.specs.PairsFit.{CollectedPairsFit, FoundPairsAreWithin, TypedArgumentsAreWithin};
+ghost use Rattle.shader_fault_laws.specs.PairsFit.{CollectedPairsFit, FoundPairsAreWithin, TypedArgumentsAreWithin, TypedFunctionsHaveArguments};
 ghost use Rattle.shader_fault_laws.specs.Refused.{FullCountsAreFaults, MisplacedAreFaults, UnplacedAreFaults};
 
-/// An expression without a place that is found where one is wanted; where none is found, each has its place.
+/// An expression that is found to have no place where one is wanted; where none is found, there is none.
 pub fn unplaced_are_faults()
     ensures { UnplacedAreFaults }
 {}
 
-/// A count that no `usize` holds. In a function whose operands are in range, the counts of its expressions are all that there are.
+/// A count that no `usize` holds; where the counts of a function's expressions fit and its operands are in range, there is none.
 pub fn full_counts_are_faults()
     ensures { FullCountsAreFaults }
 {}
 
-/// An argument that an expression names is there, where the expression has a type.
+/// An argument that an expression names is there, where that expression has a type.
 pub fn typed_arguments_are_within()
     ensures { TypedArgumentsAreWithin }
 {}
 
-/// The places of the pairs that are found.
+/// So each argument that a function names is there, where all its expressions have types.
+pub fn typed_functions_have_arguments()
+    ensures { TypedFunctionsHaveArguments }
+{}
+
+/// Each place of the pairs that are found is a global of the module or an argument of the function.
 pub fn found_pairs_are_within()
     ensures { FoundPairsAreWithin }
 {}
 
-/// The same of pairs that are kept as two sets, as `Fits` asks of an info.
+/// The same of pairs that are kept in two sets, in the words of `Fits`.
 pub fn collected_pairs_fit()
     ensures { CollectedPairsFit }
 {}
