@@ -1,2 +1,3 @@
 pub mod FewNeeds
 pub mod FoundLemmas
+pub mod MisplacedFaults

@@ -1,10 +1,10 @@
 //! What is found of a function, or refused: its pairs, its counts, how it ends, and its uses of globals.
 ghost use Rattle.std.specs.Prelude.{◌≡◌, ◌<◌, ℕ, IfErr, IfOk, IfSome, IsTrue, Some, false, length, map, slice_get};
 ghost use Rattle.shader_chains.specs.Counts.{count_of};
-ghost use Rattle.shader_chains.specs.Faults.{Disruptor, NoPlace, NonUniformControlFlow, Settings, StepFault};
+ghost use Rattle.shader_chains.specs.Faults.{Cause, Disruptor, NoPlace, NonUniformControlFlow, Settings, StepFault};
 ghost use Rattle.shader_chains.specs.Filters.{HaveEarlierParents};
 ghost use Rattle.shader_chains.specs.Program.{Module, statements};
-ghost use Rattle.shader_steps.specs.Causes.{IsNamed, settings_of};
+ghost use Rattle.shader_steps.specs.Causes.{IsNamed, disruptor_of, settings_of};
 ghost use Rattle.shader_info.specs.declared.flags.Capabilities.{Capabilities};
 ghost use Rattle.shader_steps.specs.Conditions.{EachFits, GlobalsWithin};
 ghost use Rattle.shader_steps.specs.Found.{facts_found, kill_found, own_uses, pairs_found, tallied};
@@ -20,7 +20,7 @@ use shader_chains::derivative_severity;
 use shader_info::{ExpressionError, FunctionError, FunctionInfo, GlobalUse, ValidationFlags};
 use shader_ir::{Function, Items, Module, Severity, Statement, mark};
 use shader_sweeps::facts::Fact;
-use shader_sweeps::flow::{Found, sweep_block};
+use shader_sweeps::flow::{Found, Misplaced, sweep_block};
 use shader_sweeps::joins::{join_calls, name_globals, uses_of_bits};
 use shader_sweeps::pairs::Pairs;
 use shader_sweeps::tally::Tally;
@@ -82,6 +82,17 @@ fn checks_flow(module: &Module, function: &Function, flags: ValidationFlags) -> 
         )
 }
 
+/// What is told of an expression that is emitted in disrupted flow though it asks for uniform flow.
+fn misplaced_error(misplaced: &Misplaced) -> FunctionError
+    ensures { (IsCause : Cause → Type 0) → IsCause (NonUniformControlFlow misplaced.now.requirements.0 misplaced.now.expression (disruptor_of misplaced.now.disruptor)) → IsNamed IsCause result }
+{
+    FunctionError::NonUniformControlFlow(
+        misplaced.requirements,
+        misplaced.expression,
+        misplaced.disruptor,
+    )
+}
+
 /// Whether the function may end an invocation while others go on, where nothing is misplaced in its flow.
 pub fn kills(
     module: &Module,
@@ -102,12 +113,8 @@ pub fn kills(
     let undisrupted = None;
     let exits = sweep_block(infos, facts, &mut found, &undisrupted, &function.body);
     if checks_flow(module, function, flags) {
-        if let Some(misplaced) = found.first {
-            return Err(FunctionError::NonUniformControlFlow(
-                misplaced.requirements,
-                misplaced.expression,
-                misplaced.disruptor,
-            ));
+        if let Some(misplaced) = &found.first {
+            return Err(misplaced_error(misplaced));
         }
     }
     Ok(exits.kills)
@@ -123,7 +130,7 @@ pub fn uses_of(
     all: &[&Statement],
 ) -> Result<Items<GlobalUse>, AllocError>
     requires { listed all.now ≡ statements function.now.body }
-    ensures { IfOk result (λ uses. (m : Module) → PointsBackwards function.now → GlobalsWithin m function.now → EachFits m infos.now → facts.now ≡ facts_found m infos.now function.now → own.entry.items ≡ own_uses m infos.now function.now → HasUses m infos.now function.now (map (λ at. at.0) uses)) }
+    ensures { IfOk result (λ uses. (m : Module) → PointsBackwards function.now → GlobalsWithin m function.now → EachFits m infos.now → facts.now ≡ facts_found m infos.now function.now → own.items ≡ own_uses m infos.now function.now → HasUses m infos.now function.now (map (λ at. at.0) uses)) }
 {
     let mut uses = own;
     join_calls(infos, &mut uses, all);
