@@ -1,5 +1,5 @@
 -- What is told of a refused access, or of a refused type, is a fault of the function; and where nothing is told there is none.
-use Rattle.std.proofs.Common.{◌≡◌, refl, ap, sym, subst, ◌∙◌, ◌⊎◌, ⊎_elim, inl, inr, ◌==◌, ℕ, ◌<◌, Bool, true, false, if◌then◌else◌, List, Option, Some, None, Result, Ok, Err, slice_get, length, get_or, ◌≤◌, map, bit_and, arith}
+use Rattle.std.proofs.Common.{◌≡◌, refl, ap, sym, subst, ◌∙◌, ◌⊎◌, ⊎_elim, inl, inr, ◌==◌, ℕ, ◌<◌, Bool, true, false, if◌then◌else◌, List, Option, Some, None, Result, Ok, Err, slice_get, length, get_or, ◌≤◌, bit_and, arith}
 use Rattle.std.specs.Option.{option_and_then, option_map}
 use Rattle.std.proofs.lemmas.Option.{same_Some, slice_get-map, slice_get_within, slice_get_cases}
 use Rattle.shader_chains.proofs.TypeLemmas.{types_are_unique}

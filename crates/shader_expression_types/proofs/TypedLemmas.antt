@@ -1,10 +1,9 @@
 -- What a resolved expression is told to be is what the derivable types say of it.
 use Rattle.std.proofs.Common.{◌≡◌, ap, sym, subst, ◌⊎◌, inl, inr, ℕ, ◌<◌, Bool, List, Some, Result, Ok, Err, IsOkAnd, slice_get, length, get_or, None, ◌≤◌, refl, All, arith}
-use Rattle.std.specs.List.{Contains}
 use Rattle.std.proofs.lemmas.List.Elements.{All-contains}
 use Rattle.std.proofs.lemmas.Option.{slice_get_cases}
 use Rattle.shader_ir.specs.declared.proc.type_resolution.TypeResolution.{TypeResolution}
-use Rattle.shader_chains.specs.Derivable.{Answers, plain, by_one, by_two, Derives, given, IsRefused}
+use Rattle.shader_chains.specs.Derivable.{Answers, plain, by_one, by_two, Derives, given}
 use Rattle.shader_chains.specs.Program.{Expression, Label, expression_operands}
 use Rattle.shader_expression_types.specs.Typed.{AreOfTheFirst, IsToldOf}
 use Rattle.shader_expression_types.proofs.ListLemmas.{at_place}
@@ -13,7 +12,7 @@ use Rattle.shader_resolve.proofs.AskedLemmas.{asked, each-asked}
 use Rattle.shader_resolve.specs.declared.error.ResolveError.{ResolveError}
 use Rattle.shader_resolve.specs.Context.{Context}
 use Rattle.shader_resolve.specs.Follows.{Told, Follows, Answered, EachAsked, FitsTold}
-use Rattle.shader_resolve.specs.Outcome.{Outcome, Given, Refused, Refusal, Meets, refusal_of}
+use Rattle.shader_resolve.specs.Outcome.{Outcome, Given, Refused, Refusal, Meets}
 use Rattle.shader_resolve.specs.Rows.{Row, Plain, One, Two, row}
 use Rattle.shader_resolve.specs.WellFormed.{OperandsBelow}
 

@@ -2,7 +2,7 @@ use Rattle.std.proofs.Common.{sym, subst, ◌∙◌, length}
 use Rattle.shader_chains.specs.Derivable.{function_context}
 use Rattle.shader_expression_types.proofs.FaultLemmas.{names_failure_at, names_refusal_at, sound_at, told_here}
 use Rattle.shader_expression_types.proofs.ListLemmas.{at_place, operands_below}
-use Rattle.shader_expression_types.specs.Checked.{NamesFault, untyped_error}
+use Rattle.shader_expression_types.specs.Checked.{NamesFault}
 use Rattle.shader_expression_types.specs.Typed.{IsToldOf}
 use Rattle.shader_resolve.specs.Context.{IsInRange}
 use Rattle.shader_resolve.specs.Follows.{takes_memory}

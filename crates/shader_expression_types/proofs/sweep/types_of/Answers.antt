@@ -1,4 +1,4 @@
-use Rattle.std.proofs.Common.{◌≡◌, sym, ap, subst, ◌∙◌, ℕ, ◌+◌, ◌<◌, [], ◌∷◌, ◌++◌, List, length, length-append, All, arith}
+use Rattle.std.proofs.Common.{◌≡◌, sym, ap, subst, ◌∙◌, ◌+◌, [], ◌∷◌, ◌++◌, length, length-append, All, arith}
 use Rattle.shader_chains.specs.Derivable.{Derives, function_context}
 use Rattle.shader_chains.specs.Program.{Expression}
 use Rattle.shader_expression_types.proofs.FaultLemmas.{sound_beyond}
