@@ -70,7 +70,7 @@ module _ (m : Module) (infos : List FunctionInfo) (f : Function) (facts : List F
       past (inl there) = let clash = sym is ∙ there.2 in cc
       past (inr beyond) = omega (arith, beyond.0, lt, long)
 
-  -- what an access to a binding array takes, where nothing else is known of it
+  -- an access by an index to a binding array with these elements
   module _ (k index element : ℕ) (flags : ValidationFlags) (at : IndexesBindings m f k index element) where
     -- what is told of it is a fault
     refused : (needed : Option Capability) → element_capability (found_inner (slice_get m.types element)) ≡ needed →

@@ -1,6 +1,5 @@
 -- Which faults of a function are met where its expressions are typed.
-use Rattle.std.specs.Prelude.{◌≡◌, ℕ}
-use Rattle.std.specs.Prelude.{List}
+use Rattle.std.specs.Prelude.{◌≡◌, ℕ, List}
 use Rattle.shader_chains.specs.Faults.{Cause, Untyped, MissingCapability, BindingArrayElement, StepFault}
 use Rattle.shader_chains.specs.Program.{Function, Module}
 use Rattle.shader_info.specs.declared.error.ExpressionError.TheVariants as expression

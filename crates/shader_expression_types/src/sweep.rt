@@ -82,8 +82,8 @@ fn next_type(
 ///
 /// # Errors
 ///
-/// The first expression that has no type, or that indexes a binding array by what may differ among invocations where the
-/// capabilities don't allow it, or one of neither images nor samplers; want of memory.
+/// An expression that has no type, or that indexes a binding array by what may differ among invocations where the capabilities
+/// don't allow it, or one of neither images nor samplers; want of memory.
 pub fn types_of(
     alloc: Global,
     module: &Module,
