@@ -15,28 +15,22 @@ fn literal(literal: Literal) -> Expression {
 
 #[test]
 fn literals(rt: HostRuntime) {
-    let module = module(&rt, rt.alloc());
-    let locals = Arena::new(rt.alloc());
-    let context = ResolveContext::with_locals(&module, &locals, &[]);
-    literals_rows(&Rows::new(&rt, &context, rt.alloc()))
-}
-
-fn literals_rows<R: Abort>(rows: &Rows<'_, R>) {
-    rows.expects(&[], literal(Literal::F64(0)), Ok(scalar(Scalar::F64)));
-    rows.expects(&[], literal(Literal::F16(0)), Ok(scalar(Scalar::F16)));
+    let rows = Rows::new(&rt, rt.alloc());
+    rows.expects([], literal(Literal::F64(0)), Ok(scalar(Scalar::F64)));
+    rows.expects([], literal(Literal::F16(0)), Ok(scalar(Scalar::F16)));
     rows.expects(
-        &[],
+        [],
         literal(Literal::AbstractFloat(0)),
         Ok(scalar(Scalar::ABSTRACT_FLOAT)),
     );
-    rows.expects(&[], literal(Literal::U32(0)), Ok(scalar(Scalar::U32)));
-    rows.expects(&[], literal(Literal::I64(0)), Ok(scalar(Scalar::I64)));
+    rows.expects([], literal(Literal::U32(0)), Ok(scalar(Scalar::U32)));
+    rows.expects([], literal(Literal::I64(0)), Ok(scalar(Scalar::I64)));
     rows.expects(
-        &[],
+        [],
         literal(Literal::AbstractInt(0)),
         Ok(scalar(Scalar::ABSTRACT_INT)),
     );
-    rows.expects(&[], literal(Literal::Bool(true)), Ok(scalar(Scalar::BOOL)));
+    rows.expects([], literal(Literal::Bool(true)), Ok(scalar(Scalar::BOOL)));
 }
 
 #[test]
@@ -49,12 +43,13 @@ fn arguments(rt: HostRuntime) {
         binding: None,
     }];
     let context = ResolveContext::with_locals(&module, &locals, &arguments);
-    arguments_rows(&Rows::new(&rt, &context, rt.alloc()))
+    arguments_rows(Rows::new(&rt, rt.alloc()), &context)
 }
 
-fn arguments_rows<R: Abort>(rows: &Rows<'_, R>) {
-    rows.expects(&[], Expression::FunctionArgument(0), Ok(of(1)));
-    rows.expects(
+fn arguments_rows<R: Abort>(rows: Rows<'_, R>, context: &ResolveContext<'_>) {
+    rows.expects_in(context, &[], Expression::FunctionArgument(0), Ok(of(1)));
+    rows.expects_in(
+        context,
         &[],
         Expression::FunctionArgument(1),
         Err(ResolveError::FunctionArgumentNotFound(1)),
@@ -63,21 +58,15 @@ fn arguments_rows<R: Abort>(rows: &Rows<'_, R>) {
 
 #[test]
 fn results(rt: HostRuntime) {
-    let module = module(&rt, rt.alloc());
-    let locals = Arena::new(rt.alloc());
-    let context = ResolveContext::with_locals(&module, &locals, &[]);
-    results_rows(&Rows::new(&rt, &context, rt.alloc()))
-}
-
-fn results_rows<R: Abort>(rows: &Rows<'_, R>) {
-    rows.expects(&[], Expression::ArrayLength(at(9)), Ok(scalar(Scalar::U32)));
+    let rows = Rows::new(&rt, rt.alloc());
+    rows.expects([], Expression::ArrayLength(at(9)), Ok(scalar(Scalar::U32)));
     rows.expects(
-        &[],
+        [],
         Expression::RayQueryProceedResult,
         Ok(scalar(Scalar::BOOL)),
     );
     rows.expects(
-        &[],
+        [],
         Expression::SubgroupBallotResult,
         Ok(vector(VectorSize::Quad, Scalar::U32)),
     );
@@ -85,12 +74,12 @@ fn results_rows<R: Abort>(rows: &Rows<'_, R>) {
         query: at(9),
         committed: true,
     };
-    rows.expects(&[], intersection, Ok(of(5)));
+    rows.expects([], intersection, Ok(of(5)));
     let positions = Expression::RayQueryVertexPositions {
         query: at(9),
         committed: true,
     };
-    rows.expects(&[], positions, Err(ResolveError::MissingSpecialType));
+    rows.expects([], positions, Err(ResolveError::MissingSpecialType));
 }
 
 fn composed(alloc: Global, ty: Handle<mark::Type>) -> Expression {
@@ -102,26 +91,14 @@ fn composed(alloc: Global, ty: Handle<mark::Type>) -> Expression {
 
 #[test]
 fn named_types(rt: HostRuntime) {
-    let module = module(&rt, rt.alloc());
-    let locals = Arena::new(rt.alloc());
-    let context = ResolveContext::with_locals(&module, &locals, &[]);
-    let made = composed(rt.alloc(), Handle::from_index(2));
-    let rows = Rows::new(&rt, &context, rt.alloc());
-    rows.expects(&[], made, Ok(of(2)));
-    named_types_rows(&rows)
-}
-
-fn named_types_rows<R: Abort>(rows: &Rows<'_, R>) {
     let ty = Handle::from_index(2);
     let comparison = false;
-    rows.expects(&[], Expression::ZeroValue(ty), Ok(of(2)));
-    rows.expects(&[], Expression::AtomicResult { ty, comparison }, Ok(of(2)));
-    rows.expects(
-        &[],
-        Expression::WorkGroupUniformLoadResult { ty },
-        Ok(of(2)),
-    );
-    rows.expects(&[], Expression::SubgroupOperationResult { ty }, Ok(of(2)));
+    let rows = Rows::new(&rt, rt.alloc());
+    rows.expects([], composed(rt.alloc(), ty), Ok(of(2)));
+    rows.expects([], Expression::ZeroValue(ty), Ok(of(2)));
+    rows.expects([], Expression::AtomicResult { ty, comparison }, Ok(of(2)));
+    rows.expects([], Expression::WorkGroupUniformLoadResult { ty }, Ok(of(2)));
+    rows.expects([], Expression::SubgroupOperationResult { ty }, Ok(of(2)));
 }
 
 fn add_data(rt: &impl Abort, module: &mut Module) {
@@ -159,14 +136,25 @@ fn data(rt: HostRuntime) {
         })
         .expect(&rt, WANT);
     let context = ResolveContext::with_locals(&module, &locals, &[]);
-    data_rows(&Rows::new(&rt, &context, rt.alloc()))
+    data_rows(Rows::new(&rt, rt.alloc()), &context)
 }
 
-fn data_rows<R: Abort>(rows: &Rows<'_, R>) {
+fn data_rows<R: Abort>(rows: Rows<'_, R>, context: &ResolveContext<'_>) {
     let here = pointer(2, AddressSpace::Function);
-    rows.expects(&[], Expression::Constant(Handle::from_index(0)), Ok(of(2)));
-    rows.expects(&[], Expression::Override(Handle::from_index(0)), Ok(of(2)));
-    rows.expects(
+    rows.expects_in(
+        context,
+        &[],
+        Expression::Constant(Handle::from_index(0)),
+        Ok(of(2)),
+    );
+    rows.expects_in(
+        context,
+        &[],
+        Expression::Override(Handle::from_index(0)),
+        Ok(of(2)),
+    );
+    rows.expects_in(
+        context,
         &[],
         Expression::LocalVariable(Handle::from_index(0)),
         Ok(here),
@@ -206,19 +194,16 @@ fn calls(rt: HostRuntime) {
     };
     add_function(&rt, rt.alloc(), &mut module, None);
     add_function(&rt, rt.alloc(), &mut module, Some(result));
-    let locals = Arena::new(rt.alloc());
-    let context = ResolveContext::with_locals(&module, &locals, &[]);
-    call_rows(&Rows::new(&rt, &context, rt.alloc()))
-}
-
-fn call_rows<R: Abort>(rows: &Rows<'_, R>) {
+    let rows = Rows::new(&rt, rt.alloc());
     let void = ResolveError::FunctionReturnsVoid;
-    rows.expects(
+    rows.expects_of(
+        &module,
         &[],
         Expression::CallResult(Handle::from_index(0)),
         Err(void),
     );
-    rows.expects(
+    rows.expects_of(
+        &module,
         &[],
         Expression::CallResult(Handle::from_index(1)),
         Ok(of(1)),
@@ -243,19 +228,16 @@ fn globals(rt: HostRuntime) {
     let mut module = module(&rt, rt.alloc());
     add_global(&rt, &mut module, AddressSpace::Handle);
     add_global(&rt, &mut module, AddressSpace::WorkGroup);
-    let locals = Arena::new(rt.alloc());
-    let context = ResolveContext::with_locals(&module, &locals, &[]);
-    global_rows(&Rows::new(&rt, &context, rt.alloc()))
-}
-
-fn global_rows<R: Abort>(rows: &Rows<'_, R>) {
+    let rows = Rows::new(&rt, rt.alloc());
     let there = pointer(2, AddressSpace::WorkGroup);
-    rows.expects(
+    rows.expects_of(
+        &module,
         &[],
         Expression::GlobalVariable(Handle::from_index(0)),
         Ok(of(2)),
     );
-    rows.expects(
+    rows.expects_of(
+        &module,
         &[],
         Expression::GlobalVariable(Handle::from_index(1)),
         Ok(there),

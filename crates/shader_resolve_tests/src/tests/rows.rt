@@ -14,22 +14,51 @@ pub const WANT: &str = "want of memory";
 
 pub type Resolved = Result<TypeResolution, ResolveError>;
 
-/// What the rows of one context are asked with.
+/// What rows are asked with.
 #[derive_where(Clone, Copy)]
 pub struct Rows<'a, R> {
     rt: &'a R,
-    context: &'a ResolveContext<'a>,
     alloc: Global,
 }
 
 impl<'a, R: Abort> Rows<'a, R> {
-    pub fn new(rt: &'a R, context: &'a ResolveContext<'a>, alloc: Global) -> Self {
-        Rows { rt, context, alloc }
+    pub fn new(rt: &'a R, alloc: Global) -> Self {
+        Rows { rt, alloc }
     }
 
-    /// Asserts the answer for an expression whose operands' types are held. Want of memory is no answer, but ends the test.
-    pub fn expects(&self, held: &[TypeResolution], expr: Expression, wanted: Resolved) {
-        let answer = resolve_held(self.context, self.alloc, held, &expr);
+    /// Asserts the answer for an expression whose operands' types are held, in the module that `module` makes.
+    pub fn expects<const N: usize>(
+        self,
+        held: [TypeResolution; N],
+        expr: Expression,
+        wanted: Resolved,
+    ) {
+        let module = module(self.rt, self.alloc);
+        self.expects_of(&module, &held, expr, wanted)
+    }
+
+    /// The same in another module.
+    pub fn expects_of(
+        self,
+        module: &Module,
+        held: &[TypeResolution],
+        expr: Expression,
+        wanted: Resolved,
+    ) {
+        let locals = Arena::new(self.alloc);
+        let context = ResolveContext::with_locals(module, &locals, &[]);
+        self.expects_in(&context, held, expr, wanted)
+    }
+
+    /// The same in a function. Want of memory is no answer, but ends the test.
+    pub fn expects_in(
+        self,
+        context: &ResolveContext<'_>,
+        held: &[TypeResolution],
+        expr: Expression,
+        wanted: Resolved,
+    ) {
+        let answer = resolve_held(context, self.alloc, held, &expr);
         assert!(self.rt;
             answer != Some(Err(ResolveError::OutOfMemory)),
             "want of memory"
@@ -38,13 +67,23 @@ impl<'a, R: Abort> Rows<'a, R> {
     }
 
     /// Asserts that the operands don't go together under the operation's name.
-    pub fn expects_incompatible(&self, held: &[TypeResolution], expr: Expression, name: &str) {
+    pub fn expects_incompatible<const N: usize>(
+        self,
+        held: [TypeResolution; N],
+        expr: Expression,
+        name: &str,
+    ) {
         let words = name.to_string(self.alloc).expect(self.rt, WANT);
         self.expects(held, expr, Err(ResolveError::IncompatibleOperands(words)))
     }
 
     /// Asserts that no rule of the builtin takes the arguments.
-    pub fn expects_invalid(&self, held: &[TypeResolution], expr: Expression, name: &str) {
+    pub fn expects_invalid<const N: usize>(
+        self,
+        held: [TypeResolution; N],
+        expr: Expression,
+        name: &str,
+    ) {
         let words = name.to_string(self.alloc).expect(self.rt, WANT);
         self.expects(
             held,
