@@ -1,8 +1,12 @@
 //! Rows of calls of builtin functions.
 use crate::tests::rows::{Rows, WANT, at, matrix, module, of, scalar, vector};
 use shader_arena::Handle;
-use shader_ir::{Expression, MathFunction, PredeclaredType, Scalar, ScalarKind, VectorSize};
+use shader_ir::{
+    Expression, MathFunction, Module, PredeclaredType, Scalar, ScalarKind, VectorSize,
+};
 use shader_resolve::ResolveError;
+use std::alloc::Global;
+use std::process::Abort;
 
 const BI: VectorSize = VectorSize::Bi;
 
@@ -94,24 +98,33 @@ fn untold_arguments(rt: HostRuntime) {
     );
 }
 
-#[test]
-fn registered_results(rt: HostRuntime) {
-    let mut module = module(&rt, rt.alloc());
+/// The module in which the result of frexp of a pair is registered.
+fn with_frexp_result(rt: &impl Abort, alloc: Global) -> Module {
+    let mut module = module(rt, alloc);
     let predeclared = PredeclaredType::FrexpResult {
         size: Some(BI),
         scalar: F32,
     };
-    let ty = Handle::from_index(5);
     module
         .special_types
         .predeclared_types
-        .insert(predeclared, ty)
-        .expect(&rt, WANT);
+        .insert(predeclared, Handle::from_index(5))
+        .expect(rt, WANT);
+    module
+}
+
+#[test]
+fn registered_results(rt: HostRuntime) {
     let rows = Rows::new(&rt, rt.alloc());
-    rows.expects_of(&module, &[of(1)], of_one(MathFunction::Frexp), Ok(of(5)));
     rows.expects_of(
-        &module,
-        &[of(0)],
+        with_frexp_result(&rt, rt.alloc()),
+        [of(1)],
+        of_one(MathFunction::Frexp),
+        Ok(of(5)),
+    );
+    rows.expects_of(
+        with_frexp_result(&rt, rt.alloc()),
+        [of(0)],
         of_one(MathFunction::Frexp),
         Err(ResolveError::MissingSpecialType),
     );

@@ -5,7 +5,7 @@ use shader_ir::{
     AddressSpace, Block, Constant, Expression, Function, FunctionArgument, FunctionResult,
     GlobalVariable, Items, Literal, LocalVariable, Map, Module, Override, Scalar, VectorSize, mark,
 };
-use shader_resolve::{ResolveContext, ResolveError};
+use shader_resolve::ResolveError;
 use std::alloc::Global;
 use std::process::Abort;
 
@@ -33,24 +33,31 @@ fn literals(rt: HostRuntime) {
     rows.expects([], literal(Literal::Bool(true)), Ok(scalar(Scalar::BOOL)));
 }
 
-#[test]
-fn arguments(rt: HostRuntime) {
-    let module = module(&rt, rt.alloc());
-    let locals = Arena::new(rt.alloc());
-    let arguments = [FunctionArgument {
+fn argument() -> FunctionArgument {
+    FunctionArgument {
         name: None,
         ty: Handle::from_index(1),
         binding: None,
-    }];
-    let context = ResolveContext::with_locals(&module, &locals, &arguments);
-    arguments_rows(Rows::new(&rt, rt.alloc()), &context)
+    }
 }
 
-fn arguments_rows<R: Abort>(rows: Rows<'_, R>, context: &ResolveContext<'_>) {
-    rows.expects_in(context, &[], Expression::FunctionArgument(0), Ok(of(1)));
+#[test]
+fn arguments(rt: HostRuntime) {
+    let alloc = rt.alloc();
+    let rows = Rows::new(&rt, alloc);
     rows.expects_in(
-        context,
-        &[],
+        module(&rt, alloc),
+        Arena::new(alloc),
+        [argument()],
+        [],
+        Expression::FunctionArgument(0),
+        Ok(of(1)),
+    );
+    rows.expects_in(
+        module(&rt, alloc),
+        Arena::new(alloc),
+        [argument()],
+        [],
         Expression::FunctionArgument(1),
         Err(ResolveError::FunctionArgumentNotFound(1)),
     );
@@ -101,6 +108,13 @@ fn named_types(rt: HostRuntime) {
     rows.expects([], Expression::SubgroupOperationResult { ty }, Ok(of(2)));
 }
 
+/// The module with a constant and an override.
+fn with_data(rt: &impl Abort, alloc: Global) -> Module {
+    let mut module = module(rt, alloc);
+    add_data(rt, &mut module);
+    module
+}
+
 fn add_data(rt: &impl Abort, module: &mut Module) {
     let ty = Handle::from_index(2);
     assert!(rt; module.constants.len() < 1000);
@@ -123,41 +137,41 @@ fn add_data(rt: &impl Abort, module: &mut Module) {
         .expect(rt, WANT);
 }
 
-#[test]
-fn data(rt: HostRuntime) {
-    let mut module = module(&rt, rt.alloc());
-    add_data(&rt, &mut module);
-    let mut locals = Arena::new(rt.alloc());
+fn one_local(rt: &impl Abort, alloc: Global) -> Arena<LocalVariable, mark::LocalVariable> {
+    let mut locals = Arena::new(alloc);
     locals
         .append(LocalVariable {
             name: None,
             ty: Handle::from_index(2),
             init: None,
         })
-        .expect(&rt, WANT);
-    let context = ResolveContext::with_locals(&module, &locals, &[]);
-    data_rows(Rows::new(&rt, rt.alloc()), &context)
+        .expect(rt, WANT);
+    locals
 }
 
-fn data_rows<R: Abort>(rows: Rows<'_, R>, context: &ResolveContext<'_>) {
-    let here = pointer(2, AddressSpace::Function);
-    rows.expects_in(
-        context,
-        &[],
+#[test]
+fn data(rt: HostRuntime) {
+    let alloc = rt.alloc();
+    let rows = Rows::new(&rt, alloc);
+    rows.expects_of(
+        with_data(&rt, alloc),
+        [],
         Expression::Constant(Handle::from_index(0)),
         Ok(of(2)),
     );
-    rows.expects_in(
-        context,
-        &[],
+    rows.expects_of(
+        with_data(&rt, alloc),
+        [],
         Expression::Override(Handle::from_index(0)),
         Ok(of(2)),
     );
     rows.expects_in(
-        context,
-        &[],
+        with_data(&rt, alloc),
+        one_local(&rt, alloc),
+        [],
+        [],
         Expression::LocalVariable(Handle::from_index(0)),
-        Ok(here),
+        Ok(pointer(2, AddressSpace::Function)),
     );
 }
 
@@ -185,26 +199,30 @@ fn add_function(
         .expect(rt, WANT);
 }
 
-#[test]
-fn calls(rt: HostRuntime) {
-    let mut module = module(&rt, rt.alloc());
+/// The module with a function that returns nothing, and one that returns a pair.
+fn with_functions(rt: &impl Abort, alloc: Global) -> Module {
+    let mut module = module(rt, alloc);
     let result = FunctionResult {
         ty: Handle::from_index(1),
         binding: None,
     };
-    add_function(&rt, rt.alloc(), &mut module, None);
-    add_function(&rt, rt.alloc(), &mut module, Some(result));
+    add_function(rt, alloc, &mut module, None);
+    add_function(rt, alloc, &mut module, Some(result));
+    module
+}
+
+#[test]
+fn calls(rt: HostRuntime) {
     let rows = Rows::new(&rt, rt.alloc());
-    let void = ResolveError::FunctionReturnsVoid;
     rows.expects_of(
-        &module,
-        &[],
+        with_functions(&rt, rt.alloc()),
+        [],
         Expression::CallResult(Handle::from_index(0)),
-        Err(void),
+        Err(ResolveError::FunctionReturnsVoid),
     );
     rows.expects_of(
-        &module,
-        &[],
+        with_functions(&rt, rt.alloc()),
+        [],
         Expression::CallResult(Handle::from_index(1)),
         Ok(of(1)),
     );
@@ -223,23 +241,27 @@ fn add_global(rt: &impl Abort, module: &mut Module, space: AddressSpace) {
         .expect(rt, WANT);
 }
 
+/// The module with a global variable for a handle, and one that a group shares.
+fn with_globals(rt: &impl Abort, alloc: Global) -> Module {
+    let mut module = module(rt, alloc);
+    add_global(rt, &mut module, AddressSpace::Handle);
+    add_global(rt, &mut module, AddressSpace::WorkGroup);
+    module
+}
+
 #[test]
 fn globals(rt: HostRuntime) {
-    let mut module = module(&rt, rt.alloc());
-    add_global(&rt, &mut module, AddressSpace::Handle);
-    add_global(&rt, &mut module, AddressSpace::WorkGroup);
     let rows = Rows::new(&rt, rt.alloc());
-    let there = pointer(2, AddressSpace::WorkGroup);
     rows.expects_of(
-        &module,
-        &[],
+        with_globals(&rt, rt.alloc()),
+        [],
         Expression::GlobalVariable(Handle::from_index(0)),
         Ok(of(2)),
     );
     rows.expects_of(
-        &module,
-        &[],
+        with_globals(&rt, rt.alloc()),
+        [],
         Expression::GlobalVariable(Handle::from_index(1)),
-        Ok(there),
+        Ok(pointer(2, AddressSpace::WorkGroup)),
     );
 }

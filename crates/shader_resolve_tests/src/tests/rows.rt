@@ -2,8 +2,9 @@
 use crate::resolve_held;
 use shader_arena::{Arena, Handle, UniqueArena};
 use shader_ir::{
-    AddressSpace, ArraySize, Expression, ImageClass, ImageDimension, Items, Map, Module, Scalar,
-    SpecialTypes, StructMember, Type, TypeInner, TypeResolution, VectorSize, mark,
+    AddressSpace, ArraySize, Expression, FunctionArgument, ImageClass, ImageDimension, Items,
+    LocalVariable, Map, Module, Scalar, SpecialTypes, StructMember, Type, TypeInner,
+    TypeResolution, VectorSize, mark,
 };
 use shader_resolve::{ResolveContext, ResolveError};
 use std::alloc::Global;
@@ -33,25 +34,36 @@ impl<'a, R: Abort> Rows<'a, R> {
         expr: Expression,
         wanted: Resolved,
     ) {
-        let module = module(self.rt, self.alloc);
-        self.expects_of(&module, &held, expr, wanted)
+        self.expects_of(module(self.rt, self.alloc), held, expr, wanted)
     }
 
     /// The same in another module.
-    pub fn expects_of(
+    pub fn expects_of<const N: usize>(
         self,
-        module: &Module,
-        held: &[TypeResolution],
+        module: Module,
+        held: [TypeResolution; N],
         expr: Expression,
         wanted: Resolved,
     ) {
-        let locals = Arena::new(self.alloc);
-        let context = ResolveContext::with_locals(module, &locals, &[]);
-        self.expects_in(&context, held, expr, wanted)
+        self.expects_in(module, Arena::new(self.alloc), [], held, expr, wanted)
     }
 
-    /// The same in a function. Want of memory is no answer, but ends the test.
-    pub fn expects_in(
+    /// The same in a function with these locals and arguments.
+    pub fn expects_in<const N: usize, const M: usize>(
+        self,
+        module: Module,
+        locals: Arena<LocalVariable, mark::LocalVariable>,
+        arguments: [FunctionArgument; M],
+        held: [TypeResolution; N],
+        expr: Expression,
+        wanted: Resolved,
+    ) {
+        let context = ResolveContext::with_locals(&module, &locals, &arguments);
+        self.expects_by(&context, &held, expr, wanted)
+    }
+
+    /// The same in a context. Want of memory is no answer, but ends the test.
+    fn expects_by(
         self,
         context: &ResolveContext<'_>,
         held: &[TypeResolution],
