@@ -99,8 +99,8 @@ module _ (m : Module) (settings : Settings) (well : IsWellFormed m) (types : Lis
             there = omega (arith, longer held info, slice_get_within m.functions (length held) f is_f);
             fit = λ c r i is_r is_i. pushed held info c i is_i (λ old. before.held.fit c r i is_r old)
                 (λ last same.
-                  let same_f : f ≡ r = same_Some f r (sym is_f ∙ (ap (slice_get m.functions) (sym last) ∙ is_r)) in
-                  subst (λ x. Fits m x i) same_f (subst (λ x. Fits m f x) same fits));
+                let same_f : f ≡ r = same_Some f r (sym is_f ∙ (ap (slice_get m.functions) (sym last) ∙ is_r)) in
+                subst (λ x. Fits m x i) same_f (subst (λ x. Fits m f x) same fits));
           };
           exact = subst P (sym (infos_of-push held info)) done;
           clean = λ i g cause lt is_g. elim (cases_eq i (length held)) [
@@ -137,8 +137,8 @@ module _ (m : Module) (settings : Settings) (well : IsWellFormed m) (types : Lis
           there = omega (arith, longer done info, slice_get_within m.entry_points (length done) entry is_entry);
           exact = λ i other at is_other is_at. pushed done info i at is_at (λ old. entries.exact i other at is_other old)
               (λ last same.
-                let same_entry : entry ≡ other = same_Some entry other (sym is_entry ∙ (ap (slice_get m.entry_points) (sym last) ∙ is_other)) in
-                subst (λ (x : EntryPoint). IsExact m x.function (info_of at)) same_entry (subst (λ x. IsExact m entry.function (info_of x)) same exact));
+              let same_entry : entry ≡ other = same_Some entry other (sym is_entry ∙ (ap (slice_get m.entry_points) (sym last) ∙ is_other)) in
+              subst (λ (x : EntryPoint). IsExact m x.function (info_of at)) same_entry (subst (λ x. IsExact m entry.function (info_of x)) same exact));
           clean = λ i other cause lt is_other. elim (cases_eq i (length done)) [
             | inl last ↦
                 let same_entry : entry ≡ other = same_Some entry other (sym is_entry ∙ (ap (slice_get m.entry_points) (sym last) ∙ is_other)) in

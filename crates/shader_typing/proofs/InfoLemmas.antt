@@ -90,11 +90,11 @@ module _ (m : Module) (infos : List FunctionInfo) (f : Function) (on : IsAnalyza
     origins = λ e o stands. origins_of_the_step m infos f on.operands e o (ap (λ v. slice_get v e) (sym is.origins) ∙ stands);
     result = let P : Option ℕ → Type 0 = λ v. Picks (StepResult m (infos_of infos) f) v in subst P (sym is.result) (results_of_the_step m infos f on.operands);
     kills =
-      let P : Bool → Type 0 = λ v. IsTrue v ↔ StepKill (infos_of infos) f (info_of info) in
-      subst P (sym is.kills) (kills_of_the_step m infos f (info_of info) (sym is.origins));
+        let P : Bool → Type 0 = λ v. IsTrue v ↔ StepKill (infos_of infos) f (info_of info) in
+        subst P (sym is.kills) (kills_of_the_step m infos f (info_of info) (sym is.origins));
     expression_needs = λ n e lt.
-      let P : List ℕ → Type 0 = λ v. IsBitSet (slice_index v e) (bit_of_need n) ↔ StepExpressionNeed (infos_of infos) f n e in
-      subst P (sym is.expression_needs) (expression_needs_of_the_step m infos f n e lt);
+        let P : List ℕ → Type 0 = λ v. IsBitSet (slice_index v e) (bit_of_need n) ↔ StepExpressionNeed (infos_of infos) f n e in
+        subst P (sym is.expression_needs) (expression_needs_of_the_step m infos f n e lt);
     needs = λ n. let P : ℕ → Type 0 = λ v. IsBitSet v (bit_of_need n) ↔ StepNeed (infos_of infos) f n in subst P (sym is.needs) (needs_of_the_step m infos f n);
   }
 

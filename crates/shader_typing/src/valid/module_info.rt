@@ -13,9 +13,7 @@ ghost use Rattle.shader_typing.specs.Processed.{CanProcess, HasFunction, IsFunct
 use crate::valid::analyzer::function_info;
 use shader_arena::Handle;
 use shader_expression_types::type_of;
-use shader_info::{
-    AnalysisError, AnalysisPlace, Capabilities, FunctionInfo, ValidationFlags,
-};
+use shader_info::{AnalysisError, AnalysisPlace, Capabilities, FunctionInfo, ValidationFlags};
 use shader_ir::{Function, GlobalCtx, Module, TypeResolution, mark};
 use shader_resolve::{ResolveContext, ResolveError};
 use std::alloc::{AllocFailed, Global};
