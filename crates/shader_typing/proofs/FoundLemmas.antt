@@ -1,12 +1,11 @@
 -- One more function or entry point, where the infos of those before it are exact.
-use Rattle.std.proofs.Common.{◌≡◌, refl, sym, ap, subst, ◌∙◌, ℕ, zero, suc, ◌<◌, ◌≤◌, inl, inr, List, [], ◌∷◌, ◌++◌, Option, Some, None, IsTrue, slice_get, length, map, get_or, arith, length-append}
+use Rattle.std.proofs.Common.{◌≡◌, refl, sym, ap, subst, ◌∙◌, ℕ, zero, suc, ◌+◌, ◌<◌, inl, inr, List, [], ◌∷◌, ◌++◌, Some, slice_get, length, get_or, arith, length-append}
 use Rattle.std.proofs.lemmas.Bool.{cases_eq}
 use Rattle.std.proofs.lemmas.List.{length-map}
-use Rattle.std.proofs.lemmas.Option.{slice_get_within, slice_get-get_or, same_Some, slice_get-map}
-use Rattle.std.specs.Option.{option_map}
+use Rattle.std.proofs.lemmas.Option.{slice_get_within, slice_get-get_or, same_Some}
 use Rattle.shader_chains.specs.Derivable.{AreTypes, IsRefused}
 use Rattle.shader_chains.specs.Exact.{IsExact, IsExactModule}
-use Rattle.shader_chains.specs.Faults.{Cause, ComesBefore, IsAccepted, IsFault, IsFirstFault, ModuleFault, OfEntryPoint, OfFunction, OfGlobalExpression, Settings, Site, StepFault, Untyped, in_entry_point, in_expression, in_function}
+use Rattle.shader_chains.specs.Faults.{Cause, ComesBefore, IsAccepted, IsFault, IsFirstFault, ModuleFault, OfEntryPoint, OfFunction, OfGlobalExpression, Settings, Site, StepFault, in_entry_point, in_expression, in_function}
 use Rattle.shader_chains.specs.Infos.{EachNamed, Info, NamesEarlier, Pairwise}
 use Rattle.shader_chains.specs.Program.{Function, Module}
 use Rattle.shader_chains.specs.Steps.{MeetsSteps}
@@ -27,8 +26,7 @@ use Rattle.shader_resolve.specs.WellFormed.{IsWellFormed}
 use Rattle.shader_steps.specs.Causes.{IsNamed}
 use Rattle.shader_sweeps.proofs.HeldInfoLemmas.{of_held}
 use Rattle.shader_sweeps.specs.InfoOf.{info_of, infos_of}
-use Rattle.shader_typing.specs.Analyzable.{AreHeld}
-use Rattle.shader_typing.specs.Analyzed.{EntryPointsFound, FunctionsFound, TypesFound}
+use Rattle.shader_typing.specs.Analyzed.{EntryPointsFound, FunctionsFound}
 
 infos_of-push : (held : List FunctionInfo) (info : FunctionInfo) → infos_of (held ++ info ∷ []) ≡ infos_of held ++ info_of info ∷ []
 infos_of-push [] info = refl
@@ -99,8 +97,8 @@ module _ (m : Module) (settings : Settings) (well : IsWellFormed m) (types : Lis
             there = omega (arith, longer held info, slice_get_within m.functions (length held) f is_f);
             fit = λ c r i is_r is_i. pushed held info c i is_i (λ old. before.held.fit c r i is_r old)
                 (λ last same.
-                  let same_f : f ≡ r = same_Some f r (sym is_f ∙ (ap (slice_get m.functions) (sym last) ∙ is_r)) in
-                  subst (λ x. Fits m x i) same_f (subst (λ x. Fits m f x) same fits));
+                let same_f : f ≡ r = same_Some f r (sym is_f ∙ (ap (slice_get m.functions) (sym last) ∙ is_r)) in
+                subst (λ x. Fits m x i) same_f (subst (λ x. Fits m f x) same fits));
           };
           exact = subst P (sym (infos_of-push held info)) done;
           clean = λ i g cause lt is_g. elim (cases_eq i (length held)) [
@@ -137,8 +135,8 @@ module _ (m : Module) (settings : Settings) (well : IsWellFormed m) (types : Lis
           there = omega (arith, longer done info, slice_get_within m.entry_points (length done) entry is_entry);
           exact = λ i other at is_other is_at. pushed done info i at is_at (λ old. entries.exact i other at is_other old)
               (λ last same.
-                let same_entry : entry ≡ other = same_Some entry other (sym is_entry ∙ (ap (slice_get m.entry_points) (sym last) ∙ is_other)) in
-                subst (λ (x : EntryPoint). IsExact m x.function (info_of at)) same_entry (subst (λ x. IsExact m entry.function (info_of x)) same exact));
+              let same_entry : entry ≡ other = same_Some entry other (sym is_entry ∙ (ap (slice_get m.entry_points) (sym last) ∙ is_other)) in
+              subst (λ (x : EntryPoint). IsExact m x.function (info_of at)) same_entry (subst (λ x. IsExact m entry.function (info_of x)) same exact));
           clean = λ i other cause lt is_other. elim (cases_eq i (length done)) [
             | inl last ↦
                 let same_entry : entry ≡ other = same_Some entry other (sym is_entry ∙ (ap (slice_get m.entry_points) (sym last) ∙ is_other)) in

@@ -1,3 +1,7 @@
+pub mod AnalyzableLemmas
 pub mod FewNeeds
 pub mod FoundLemmas
 pub mod MisplacedFaults
+pub mod NextLemmas
+pub mod PlaceLemmas
+pub mod TypedLemmas
