@@ -1,7 +1,6 @@
 -- Which faults of a function are met where its expressions are typed.
-use Rattle.std.specs.Prelude.{◌≡◌, ℕ}
-use Rattle.std.specs.Prelude.{List}
-use Rattle.shader_chains.specs.Faults.{Cause, Untyped, MissingCapability, NoPlace, BindingArrayElement, NonUniformControlFlow, CountFull, StepFault}
+use Rattle.std.specs.Prelude.{◌≡◌, ℕ, List}
+use Rattle.shader_chains.specs.Faults.{Cause, Untyped, MissingCapability, BindingArrayElement, StepFault}
 use Rattle.shader_chains.specs.Program.{Function, Module}
 use Rattle.shader_info.specs.declared.error.ExpressionError.TheVariants as expression
 use Rattle.shader_info.specs.declared.error.FunctionError.{FunctionError}

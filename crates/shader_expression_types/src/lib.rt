@@ -1,6 +1,7 @@
 //! The types of a function's expressions, and the refusals that are met on the way.
 #![tactic(auto)]
 
+mod bindings;
 mod one;
 mod sweep;
 

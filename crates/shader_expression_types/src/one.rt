@@ -1,5 +1,5 @@
 //! The type of one expression, where those of the expressions before it are held.
-ghost use Rattle.std.specs.Prelude.{◌≡◌, ◌<◌, All, List, Some, IfOk, IsOkAnd, length, slice_get, true};
+ghost use Rattle.std.specs.Prelude.{◌≡◌, ◌<◌, All, List, Some, IfOk, IsOkAnd, length, slice_get};
 ghost use Rattle.shader_chains.specs.Program.{Expression};
 ghost use Rattle.shader_expression_types.specs.Typed.{AreOfTheFirst, IsToldOf};
 ghost use Rattle.shader_ir.specs.Key.{FitsTypes};
@@ -29,8 +29,15 @@ pub fn type_of<'a>(
     requires names { IsInRange context.now expression.now }
     requires operands { OperandsBelow (length types.now) expression.now }
     requires fit { All (FitsTypes context.now.types) types.now }
-    ensures told { (expressions : List Expression) → slice_get expressions (length types.now) ≡ Some expression.now → AreOfTheFirst context.now expressions types.now → IsToldOf context.now expressions (length types.now) true result }
+    ensures told { (expressions : List Expression) → slice_get expressions (length types.now) ≡ Some expression.now → AreOfTheFirst context.now expressions types.now → IsToldOf context.now expressions (length types.now) (takes_memory expression.now) result }
     ensures fits { TypesInRange context.now → IfOk result (λ resolution. FitsTypes context.now.types resolution) }
 {
-    Err(ResolveError::OutOfMemory)
+    context.resolve(
+        alloc,
+        expression,
+        |operand: Handle<mark::Expression>| -> Result<&TypeResolution, ResolveError>
+            requires { operand < length types.now }
+            ensures { IsOkAnd result (λ told. slice_get types.entry.now operand ≡ Some told.now) }
+        { Ok(&types[operand.index()]) },
+    )
 }

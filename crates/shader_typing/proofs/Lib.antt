@@ -1,6 +1,7 @@
 pub mod AnalyzableLemmas
 pub mod FewNeeds
 pub mod FoundLemmas
+pub mod InfoLemmas
 pub mod MisplacedFaults
 pub mod NextLemmas
 pub mod PlaceLemmas

@@ -10,7 +10,6 @@ ghost use Rattle.shader_steps.specs.Causes.{IsNamed, settings_of};
 ghost use Rattle.shader_sweeps.specs.InfoOf.{info_of, infos_of};
 ghost use Rattle.shader_typing.specs.Analyzable.{IsAnalyzable};
 
-use bitflags::Flags;
 use expressions::expression_infos;
 use parts::{counted, kills, placed_pairs, uses_of};
 use shader_expression_types::types_of;
@@ -20,6 +19,16 @@ use shader_steps::uniformity::function_uniformity;
 use shader_sweeps::facts::facts_of;
 use shader_sweeps::gather::statements_of;
 use std::alloc::Global;
+
+fn all_stages() -> ShaderStages
+    ensures { result.0 ≡ 31 }
+{
+    ShaderStages::VERTEX
+        | ShaderStages::FRAGMENT
+        | ShaderStages::COMPUTE
+        | ShaderStages::MESH
+        | ShaderStages::TASK
+}
 
 /// The info of a function, over the infos of the functions before it.
 pub(crate) fn function_info(
@@ -50,7 +59,7 @@ pub(crate) fn function_info(
     let expressions = expression_infos(alloc, types, facts, tally.counts.as_slice())?;
     let global_uses = uses_of(alloc, infos, function, facts, tally.uses, all)?;
     Ok(FunctionInfo {
-        available_stages: ShaderStages::all(),
+        available_stages: all_stages(),
         uniformity,
         may_kill,
         sampling_set: pairs.sampling_set,

@@ -1,5 +1,5 @@
 //! What is recorded of each expression, from what is found of it.
-ghost use Rattle.std.specs.Prelude.{◌≡◌, IfOk, length, map};
+ghost use Rattle.std.specs.Prelude.{◌≡◌, ◌<◌, ◌^◌, ℕ, IfOk, length, map, slice_index};
 
 use shader_info::ExpressionInfo;
 use shader_ir::{Items, TypeResolution};
@@ -20,6 +20,7 @@ pub fn expression_infos(
 ) -> Result<Items<ExpressionInfo>, AllocError>
     requires facts { length types.items ≡ length facts.now }
     requires counts { length types.items ≡ length counts.now }
+    ensures small { (e : ℕ) → e < length counts.now → slice_index counts.now e < 2 ^ 64 }
     ensures types { IfOk result (λ infos. map (λ info. info.ty) infos ≡ types.items) }
     ensures counts { IfOk result (λ infos. map (λ info. info.ref_count) infos ≡ counts.now) }
     ensures origins { IfOk result (λ infos. map (λ info. info.uniformity.non_uniform_result) infos ≡ map (λ fact. fact.origin) facts.now) }

@@ -1,10 +1,11 @@
 //! What is found of a function, or refused: its pairs, its counts, how it ends, and its uses of globals.
 ghost use Rattle.std.specs.Prelude.{◌≡◌, ◌<◌, ℕ, IfErr, IfOk, IfSome, IsTrue, Some, false, length, map, slice_get};
 ghost use Rattle.shader_chains.specs.Counts.{count_of};
-ghost use Rattle.shader_chains.specs.Faults.{Cause, Disruptor, NoPlace, NonUniformControlFlow, Settings, StepFault};
+ghost use Rattle.shader_chains.specs.Faults.{Disruptor, NoPlace, NonUniformControlFlow, Settings, StepFault};
 ghost use Rattle.shader_chains.specs.Filters.{HaveEarlierParents};
 ghost use Rattle.shader_chains.specs.Program.{Module, statements};
-ghost use Rattle.shader_steps.specs.Causes.{IsNamed, disruptor_of, settings_of};
+ghost use Rattle.shader_steps.specs.Causes.{IsNamed, settings_of};
+ghost use Rattle.shader_info.specs.declared.error.FunctionError.TheVariants as error;
 ghost use Rattle.shader_info.specs.declared.flags.Capabilities.{Capabilities};
 ghost use Rattle.shader_steps.specs.Conditions.{EachFits, GlobalsWithin};
 ghost use Rattle.shader_steps.specs.Found.{facts_found, kill_found, own_uses, pairs_found, tallied};
@@ -84,7 +85,7 @@ fn checks_flow(module: &Module, function: &Function, flags: ValidationFlags) -> 
 
 /// What is told of an expression that is emitted in disrupted flow though it asks for uniform flow.
 fn misplaced_error(misplaced: &Misplaced) -> FunctionError
-    ensures { (IsCause : Cause → Type 0) → IsCause (NonUniformControlFlow misplaced.now.requirements.0 misplaced.now.expression (disruptor_of misplaced.now.disruptor)) → IsNamed IsCause result }
+    ensures { result ≡ error.NonUniformControlFlow misplaced.now.requirements misplaced.now.expression misplaced.now.disruptor }
 {
     FunctionError::NonUniformControlFlow(
         misplaced.requirements,

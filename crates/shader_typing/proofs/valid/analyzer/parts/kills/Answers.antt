@@ -1,7 +1,7 @@
-use Rattle.std.proofs.Common.{◌≡◌, sym, ap, ◌∙◌, None, Some}
+use Rattle.std.proofs.Common.{◌≡◌, sym, ap, subst, ◌∙◌, None, Some}
 use Rattle.shader_chains.specs.Faults.{StepFault, misplaced}
 use Rattle.shader_fault_laws.proofs.Misplaced.{misplaced_are_faults}
-use Rattle.shader_steps.specs.Causes.{settings_of}
+use Rattle.shader_steps.specs.Causes.{IsNamed, settings_of}
 use Rattle.shader_sweeps.specs.Ends.{block_fault, killing}
 use Rattle.shader_sweeps.specs.Facts.{origin_at}
 use Rattle.shader_sweeps.specs.InfoOf.{infos_of}
@@ -17,8 +17,8 @@ returns-in-Some-clause-fault c = λ capabilities.
     let settings = settings_of c.args.flags capabilities in
     let checks = c.checks_flow.ensures.on c.if-checks_flow.true in
     let found = ap (λ v. block_fault (origin_at v) (killing infos) v None f.body) (sym c.requires.facts) ∙ (sym c.sweep_block-exits.ensures.first ∙ c.in-Some.is) in
-    c.misplaced_error.ensures (StepFault m (infos_of infos) f settings)
-    (misplaced checks.0 checks.1 ((misplaced_are_faults m infos f settings c.requires.operands).0 c.in-Some.misplaced.now found))
+    subst (IsNamed (StepFault m (infos_of infos) f settings)) (sym c.misplaced_error.ensures)
+    (misplaced checks.0 checks.1 ((misplaced_are_faults m infos f settings c.requires.operands).0 c.in-Some.misplaced found))
 
 pub returns-clause-undisrupted : goal.returns-clause-undisrupted
 returns-clause-undisrupted c = λ capabilities.
