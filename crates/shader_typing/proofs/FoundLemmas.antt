@@ -1,12 +1,11 @@
 -- One more function or entry point, where the infos of those before it are exact.
-use Rattle.std.proofs.Common.{◌≡◌, refl, sym, ap, subst, ◌∙◌, ℕ, zero, suc, ◌<◌, ◌≤◌, inl, inr, List, [], ◌∷◌, ◌++◌, Option, Some, None, IsTrue, slice_get, length, map, get_or, arith, length-append}
+use Rattle.std.proofs.Common.{◌≡◌, refl, sym, ap, subst, ◌∙◌, ℕ, zero, suc, ◌+◌, ◌<◌, inl, inr, List, [], ◌∷◌, ◌++◌, Some, slice_get, length, get_or, arith, length-append}
 use Rattle.std.proofs.lemmas.Bool.{cases_eq}
 use Rattle.std.proofs.lemmas.List.{length-map}
-use Rattle.std.proofs.lemmas.Option.{slice_get_within, slice_get-get_or, same_Some, slice_get-map}
-use Rattle.std.specs.Option.{option_map}
+use Rattle.std.proofs.lemmas.Option.{slice_get_within, slice_get-get_or, same_Some}
 use Rattle.shader_chains.specs.Derivable.{AreTypes, IsRefused}
 use Rattle.shader_chains.specs.Exact.{IsExact, IsExactModule}
-use Rattle.shader_chains.specs.Faults.{Cause, ComesBefore, IsAccepted, IsFault, IsFirstFault, ModuleFault, OfEntryPoint, OfFunction, OfGlobalExpression, Settings, Site, StepFault, Untyped, in_entry_point, in_expression, in_function}
+use Rattle.shader_chains.specs.Faults.{Cause, ComesBefore, IsAccepted, IsFault, IsFirstFault, ModuleFault, OfEntryPoint, OfFunction, OfGlobalExpression, Settings, Site, StepFault, in_entry_point, in_expression, in_function}
 use Rattle.shader_chains.specs.Infos.{EachNamed, Info, NamesEarlier, Pairwise}
 use Rattle.shader_chains.specs.Program.{Function, Module}
 use Rattle.shader_chains.specs.Steps.{MeetsSteps}
@@ -27,8 +26,7 @@ use Rattle.shader_resolve.specs.WellFormed.{IsWellFormed}
 use Rattle.shader_steps.specs.Causes.{IsNamed}
 use Rattle.shader_sweeps.proofs.HeldInfoLemmas.{of_held}
 use Rattle.shader_sweeps.specs.InfoOf.{info_of, infos_of}
-use Rattle.shader_typing.specs.Analyzable.{AreHeld}
-use Rattle.shader_typing.specs.Analyzed.{EntryPointsFound, FunctionsFound, TypesFound}
+use Rattle.shader_typing.specs.Analyzed.{EntryPointsFound, FunctionsFound}
 
 infos_of-push : (held : List FunctionInfo) (info : FunctionInfo) → infos_of (held ++ info ∷ []) ≡ infos_of held ++ info_of info ∷ []
 infos_of-push [] info = refl

@@ -1,17 +1,16 @@
 //! The analysis of a module.
-ghost use Rattle.std.specs.Prelude.{◌≡◌, ◌⊎◌, [], ◌∷◌, ◌++◌, IfErr, IfOk, OnOk, length};
+ghost use Rattle.std.specs.Prelude.{◌≡◌, ◌<◌, ◌+◌, [], ◌∷◌, ◌++◌, IfErr, IfOk, OnOk, length};
 ghost use Rattle.shader_chains.specs.Derivable.{AreTypes};
 ghost use Rattle.shader_chains.specs.Exact.{IsExactModule};
-ghost use Rattle.shader_chains.specs.Faults.{Cause, IsAccepted, IsFirstFault, Settings, Untyped};
+ghost use Rattle.shader_chains.specs.Faults.{IsAccepted, IsFirstFault, Settings};
+ghost use Rattle.shader_chains.specs.Program.{Module};
+ghost use Rattle.shader_expression_types.specs.Checked.{untyped_error};
 ghost use Rattle.shader_info.specs.declared.error.AnalysisPlace.TheVariants.{ConstExpression};
-ghost use Rattle.shader_info.specs.declared.error.FunctionError.TheVariants as cause;
 ghost use Rattle.shader_resolve.specs.Context.{context_of};
-ghost use Rattle.shader_resolve.specs.Outcome.{refusal_of};
-ghost use Rattle.shader_resolve.specs.declared.error.ResolveError.TheVariants.{OutOfMemory};
 ghost use Rattle.shader_resolve.specs.WellFormed.{IsWellFormed};
 ghost use Rattle.shader_steps.specs.Causes.{IsNamed, settings_of};
 ghost use Rattle.shader_sweeps.specs.InfoOf.{infos_of};
-ghost use Rattle.shader_typing.specs.Analyzed.{EntryPointsFound, FunctionsFound};
+ghost use Rattle.shader_typing.specs.Analyzed.{EntryPointsFound, FunctionsFound, TypesFound};
 ghost use Rattle.shader_typing.specs.Processed.{site_of};
 
 use crate::valid::ModuleInfo;
@@ -20,24 +19,69 @@ use shader_info::{
     AnalysisError, AnalysisPlace, Capabilities, ExpressionError, FunctionError, FunctionInfo,
     ValidationFlags,
 };
-use shader_ir::{Module, mark};
+use shader_ir::{GlobalCtx, LocalVariable, Module, mark};
 use shader_resolve::{ResolveContext, ResolveError};
 use std::alloc::Global;
 
 /// What is told of a global expression without a type.
-fn type_error(handle: Handle<mark::Expression>, source: ResolveError) -> AnalysisError
-    ensures place { result.place ≡ ConstExpression handle }
-    ensures cause { (IsCause : Cause → Type 0) → (source ≡ OutOfMemory) ⊎ IsCause (Untyped handle (refusal_of source)) → IsNamed IsCause result.cause }
+fn untyped(handle: Handle<mark::Expression>, failure: ResolveError) -> FunctionError
+    ensures { result ≡ untyped_error handle failure }
 {
-    let place = AnalysisPlace::ConstExpression(handle);
-    let cause = match source {
+    match failure {
         ResolveError::OutOfMemory => FunctionError::OutOfMemory,
-        source => FunctionError::Expression {
+        failure => FunctionError::Expression {
             handle,
-            source: ExpressionError::Resolve(source),
+            source: ExpressionError::Resolve(failure),
         },
-    };
-    AnalysisError { place, cause }
+    }
+}
+
+/// Why a global expression has no type.
+fn type_error(handle: Handle<mark::Expression>, failure: ResolveError) -> AnalysisError
+    ensures place { result.place ≡ ConstExpression handle }
+    ensures cause { result.cause ≡ untyped_error handle failure }
+{
+    AnalysisError {
+        place: AnalysisPlace::ConstExpression(handle),
+        cause: untyped(handle, failure),
+    }
+}
+
+/// What the types of global expressions rest on: there are no locals and no arguments.
+fn global_context<'a>(
+    module: &'a Module,
+    locals: &'a Arena<LocalVariable, mark::LocalVariable>,
+) -> ResolveContext<'a>
+    requires { locals.now ≡ [] }
+    ensures { result ≡ context_of «module».now [] [] }
+{
+    ResolveContext::with_locals(module, locals, &[])
+}
+
+/// Adds the type of the next global expression.
+fn add_type(
+    alloc: Global,
+    module: &Module,
+    context: &ResolveContext<'_>,
+    gctx: &GlobalCtx<'_>,
+    handle: Handle<mark::Expression>,
+    info: &mut ModuleInfo,
+) -> Result<(), AnalysisError>
+    requires well_formed { IsWellFormed «module».now }
+    requires context { context.now ≡ context_of «module».now [] [] }
+    requires expressions { gctx.now.global_expressions.now ≡ «module».now.global_expressions }
+    requires next { handle ≡ length info.old.global_expressions }
+    requires there { handle < length «module».now.global_expressions }
+    requires found { TypesFound «module».now info.old.global_expressions }
+    ensures rest { OnOk result (info.new ≡ record info.old { global_expressions = info.new.global_expressions }) }
+    ensures one { OnOk result (length info.new.global_expressions ≡ length info.old.global_expressions + 1) }
+    ensures found { OnOk result (TypesFound «module».now info.new.global_expressions) }
+    ensures refused { IfErr result (λ error. (settings : Settings) → IsNamed (IsFirstFault «module».now settings (site_of error.place)) error.cause) }
+{
+    match info.process_const_expression(alloc, handle, context, gctx) {
+        Ok(()) => Ok(()),
+        Err(failure) => Err(type_error(handle, failure)),
+    }
 }
 
 /// Adds the types of all global expressions.
@@ -49,32 +93,27 @@ fn add_types(alloc: Global, module: &Module, info: &mut ModuleInfo) -> Result<()
     ensures refused { IfErr result (λ error. (settings : Settings) → IsNamed (IsFirstFault «module».now settings (site_of error.place)) error.cause) }
 {
     let locals = Arena::new(alloc);
-    let context = ResolveContext::with_locals(module, &locals, &[]);
+    let context = global_context(module, &locals);
     let gctx = module.to_ctx();
     for (handle, _) in module.global_expressions.iter() {
-        match info.process_const_expression(alloc, handle, &context, &gctx) {
-            Ok(()) => {}
-            Err(source) => {
-                return Err(type_error(handle, source));
-            }
-        }
+        add_type(alloc, module, &context, &gctx, handle, info)?;
     }
     Ok(())
 }
 
 /// Adds the info of the next function.
 fn add_function(
-    place: AnalysisPlace,
+    handle: Handle<mark::Function>,
     info: &mut ModuleInfo,
     found: FunctionInfo,
 ) -> Result<(), AnalysisError>
     ensures ok { OnOk result (info.new ≡ record info.old { functions = info.old.functions ++ found ∷ [] }) }
-    ensures cause { IfErr result (λ error. error.cause ≡ cause.OutOfMemory) }
+    ensures refused { IfErr result (λ error. (m : Module) (settings : Settings) → IsNamed (IsFirstFault m settings (site_of error.place)) error.cause) }
 {
     match info.add_function(found) {
         Ok(()) => Ok(()),
         Err(_) => Err(AnalysisError {
-            place,
+            place: AnalysisPlace::Function(handle),
             cause: FunctionError::OutOfMemory,
         }),
     }
@@ -82,23 +121,53 @@ fn add_function(
 
 /// Adds the info of the next entry point.
 fn add_entry_point(
-    place: AnalysisPlace,
+    index: usize,
     info: &mut ModuleInfo,
     found: FunctionInfo,
 ) -> Result<(), AnalysisError>
     ensures ok { OnOk result (info.new ≡ record info.old { entry_points = info.old.entry_points ++ found ∷ [] }) }
-    ensures cause { IfErr result (λ error. error.cause ≡ cause.OutOfMemory) }
+    ensures refused { IfErr result (λ error. (m : Module) (settings : Settings) → IsNamed (IsFirstFault m settings (site_of error.place)) error.cause) }
 {
     match info.add_entry_point(found) {
         Ok(()) => Ok(()),
         Err(_) => Err(AnalysisError {
-            place,
+            place: AnalysisPlace::EntryPoint(index),
             cause: FunctionError::OutOfMemory,
         }),
     }
 }
 
+/// Analyses the next function and adds its info.
+fn analyze_function(
+    alloc: Global,
+    module: &Module,
+    handle: Handle<mark::Function>,
+    flags: ValidationFlags,
+    capabilities: Capabilities,
+    info: &mut ModuleInfo,
+) -> Result<(), AnalysisError>
+    requires well_formed { IsWellFormed «module».now }
+    requires types { AreTypes (context_of «module».now [] []) «module».now.global_expressions info.old.global_expressions }
+    requires next { handle ≡ length info.old.functions }
+    requires there { handle < length «module».now.functions }
+    requires found { FunctionsFound «module».now (settings_of flags capabilities) info.old.functions }
+    ensures rest { OnOk result (info.new ≡ record info.old { functions = info.new.functions }) }
+    ensures one { OnOk result (length info.new.functions ≡ length info.old.functions + 1) }
+    ensures found { OnOk result (FunctionsFound «module».now (settings_of flags capabilities) info.new.functions) }
+    ensures refused { IfErr result (λ error. IsNamed (IsFirstFault «module».now (settings_of flags capabilities) (site_of error.place)) error.cause) }
+{
+    let place = AnalysisPlace::Function(handle);
+    match info.process_function(alloc, place, module, flags, capabilities) {
+        Ok(found) => {
+            add_function(handle, info, found)?;
+            Ok(())
+        }
+        Err(error) => Err(error),
+    }
+}
+
 /// Adds the infos of all functions.
+#[tactic(auto, using(crate::proofs::NextLemmas::no_functions))]
 fn add_functions(
     alloc: Global,
     module: &Module,
@@ -115,14 +184,44 @@ fn add_functions(
     ensures refused { IfErr result (λ error. IsNamed (IsFirstFault «module».now (settings_of flags capabilities) (site_of error.place)) error.cause) }
 {
     for (handle, _) in module.functions.iter() {
-        let place = AnalysisPlace::Function(handle);
-        let found = info.process_function(alloc, place, module, flags, capabilities)?;
-        add_function(place, info, found)?;
+        analyze_function(alloc, module, handle, flags, capabilities, info)?;
     }
     Ok(())
 }
 
+/// Analyses the next entry point and adds its info.
+fn analyze_entry_point(
+    alloc: Global,
+    module: &Module,
+    index: usize,
+    flags: ValidationFlags,
+    capabilities: Capabilities,
+    info: &mut ModuleInfo,
+) -> Result<(), AnalysisError>
+    requires well_formed { IsWellFormed «module».now }
+    requires types { AreTypes (context_of «module».now [] []) «module».now.global_expressions info.old.global_expressions }
+    requires all { length info.old.functions ≡ length «module».now.functions }
+    requires functions { FunctionsFound «module».now (settings_of flags capabilities) info.old.functions }
+    requires next { index ≡ length info.old.entry_points }
+    requires there { index < length «module».now.entry_points }
+    requires found { EntryPointsFound «module».now (settings_of flags capabilities) info.old.entry_points }
+    ensures rest { OnOk result (info.new ≡ record info.old { entry_points = info.new.entry_points }) }
+    ensures one { OnOk result (length info.new.entry_points ≡ length info.old.entry_points + 1) }
+    ensures found { OnOk result (EntryPointsFound «module».now (settings_of flags capabilities) info.new.entry_points) }
+    ensures refused { IfErr result (λ error. IsNamed (IsFirstFault «module».now (settings_of flags capabilities) (site_of error.place)) error.cause) }
+{
+    let place = AnalysisPlace::EntryPoint(index);
+    match info.process_function(alloc, place, module, flags, capabilities) {
+        Ok(found) => {
+            add_entry_point(index, info, found)?;
+            Ok(())
+        }
+        Err(error) => Err(error),
+    }
+}
+
 /// Adds the infos of all entry points.
+#[tactic(auto, using(crate::proofs::NextLemmas::no_entry_points))]
 fn add_entry_points(
     alloc: Global,
     module: &Module,
@@ -141,9 +240,7 @@ fn add_entry_points(
     ensures refused { IfErr result (λ error. IsNamed (IsFirstFault «module».now (settings_of flags capabilities) (site_of error.place)) error.cause) }
 {
     for index in 0..module.entry_points.len() {
-        let place = AnalysisPlace::EntryPoint(index);
-        let found = info.process_function(alloc, place, module, flags, capabilities)?;
-        add_entry_point(place, info, found)?;
+        analyze_entry_point(alloc, module, index, flags, capabilities, info)?;
     }
     Ok(())
 }

@@ -1,5 +1,5 @@
 //! What is recorded of a module.
-ghost use Rattle.std.specs.Prelude.{◌≡◌, ◌<◌, [], ◌∷◌, ◌++◌, length, slice_get, Some, false, IfErr, IfOk, OnOk, OnErr};
+ghost use Rattle.std.specs.Prelude.{◌≡◌, ◌<◌, ◌≤◌, [], ◌∷◌, ◌++◌, length, slice_get, Some, false, IfErr, IfOk, OnOk, OnErr};
 ghost use Rattle.shader_chains.specs.Faults.{Cause, StepFault};
 ghost use Rattle.shader_chains.specs.Program.{Function};
 ghost use Rattle.shader_chains.specs.Steps.{MeetsSteps};
@@ -7,7 +7,8 @@ ghost use Rattle.shader_info.specs.Fit.{Fits};
 ghost use Rattle.shader_resolve.specs.WellFormed.{IsWellFormed};
 ghost use Rattle.shader_steps.specs.Causes.{IsNamed, settings_of};
 ghost use Rattle.shader_sweeps.specs.InfoOf.{info_of, infos_of};
-ghost use Rattle.shader_typing.specs.AddedTypes.{AddsType, CanType, IsTypeRefusal};
+ghost use Rattle.shader_resolve.specs.declared.error.ResolveError.TheVariants as refusal;
+ghost use Rattle.shader_typing.specs.AddedTypes.{AddsType, CanType, IsNextType, IsTypeRefusal};
 ghost use Rattle.shader_typing.specs.Processed.{CanProcess, HasFunction, IsFunctionAt, functions_before, infos_before};
 
 use crate::valid::analyzer::function_info;
@@ -47,8 +48,8 @@ impl Model for ModuleInfo {
 }
 
 /// How many functions are before the place.
-fn functions_before(module: &Module, place: AnalysisPlace) -> usize
-    ensures { result ≡ functions_before «module».now place }
+fn functions_before(module: &Module, place: &AnalysisPlace) -> usize
+    ensures { result ≡ functions_before «module».now place.now }
 {
     match place {
         AnalysisPlace::ConstExpression(_) => 0,
@@ -58,15 +59,31 @@ fn functions_before(module: &Module, place: AnalysisPlace) -> usize
 }
 
 /// The function at a place that has one.
-fn function_at(module: &Module, place: AnalysisPlace) -> &Function
-    requires { HasFunction «module».now place }
-    ensures { IsFunctionAt «module».now place result.now }
+fn function_at<'a>(module: &'a Module, place: &AnalysisPlace) -> &'a Function
+    requires { HasFunction «module».now place.now }
+    ensures { IsFunctionAt «module».now place.now result.now }
 {
     match place {
-        AnalysisPlace::Function(handle) => &module.functions[handle],
-        AnalysisPlace::EntryPoint(index) => &module.entry_points.as_slice()[index].function,
+        AnalysisPlace::Function(handle) => &module.functions[*handle],
+        AnalysisPlace::EntryPoint(index) => &module.entry_points.as_slice()[*index].function,
         AnalysisPlace::ConstExpression(_) => unreachable!(),
     }
+}
+
+/// The type of a global expression, where `types` are those of the earlier ones.
+fn next_type(
+    alloc: Global,
+    types: &[TypeResolution],
+    handle: Handle<mark::Expression>,
+    resolve_context: &ResolveContext<'_>,
+    gctx: &GlobalCtx<'_>,
+) -> Result<TypeResolution, ResolveError>
+    requires { CanType resolve_context.now gctx.now.global_expressions.now types.now handle }
+    ensures next { IfOk result (IsNextType resolve_context.now gctx.now.global_expressions.now types.now) }
+    ensures refused { IfErr result (IsTypeRefusal resolve_context.now gctx.now.global_expressions.now types.now) }
+{
+    let expression = &gctx.global_expressions[handle];
+    type_of(alloc, resolve_context, types, expression)
 }
 
 impl ModuleInfo {
@@ -119,21 +136,37 @@ impl ModuleInfo {
         resolve_context: &ResolveContext<'_>,
         gctx: &GlobalCtx<'_>,
     ) -> Result<(), ResolveError>
-        requires { CanType resolve_context.now gctx.now.global_expressions.now self.old handle }
+        requires { CanType resolve_context.now gctx.now.global_expressions.now self.old.global_expressions handle }
         ensures ok { OnOk result (AddsType resolve_context.now gctx.now.global_expressions.now self.old self.new) }
         ensures err { OnErr result (self.new ≡ self.old) }
-        ensures refused { IfErr result (IsTypeRefusal resolve_context.now gctx.now.global_expressions.now self.old) }
+        ensures refused { IfErr result (IsTypeRefusal resolve_context.now gctx.now.global_expressions.now self.old.global_expressions) }
     {
-        let ty = type_of(
-            alloc,
-            resolve_context,
-            self.global_expressions.as_slice(),
-            &gctx.global_expressions[handle],
-        )?;
+        let types = self.global_expressions.as_slice();
+        let ty = next_type(alloc, types, handle, resolve_context, gctx)?;
+        self.add_type(ty)?;
+        Ok(())
+    }
+
+    /// Adds the type of the next global expression.
+    fn add_type(&mut self, ty: TypeResolution) -> Result<(), ResolveError>
+        ensures ok { OnOk result (self.new ≡ record self.old { global_expressions = self.old.global_expressions ++ ty ∷ [] }) }
+        ensures err { OnErr result (self.new ≡ self.old) }
+        ensures memory { IfErr result (λ failure. failure ≡ refusal.OutOfMemory) }
+    {
         match self.global_expressions.push(ty) {
             Ok(()) => Ok(()),
             Err(_) => Err(ResolveError::OutOfMemory),
         }
+    }
+
+    /// The infos of the functions before the place.
+    fn infos_before<'a>(&'a self, module: &Module, place: &AnalysisPlace) -> &'a [FunctionInfo]
+        requires { functions_before «module».now place.now ≤ length self.now.functions }
+        ensures { result.now ≡ infos_before «module».now self.now place.now }
+    {
+        let count = functions_before(module, place);
+        let infos = self.functions.as_slice();
+        &infos[..count]
     }
 
     /// Analyses the function at a place, over the infos of the functions before it.
@@ -162,8 +195,8 @@ impl ModuleInfo {
         ensures place { IfErr result (λ error. error.place ≡ place) }
         ensures fault { IfErr result (λ error. (f : Function) → IsFunctionAt «module».now place f → IsNamed (StepFault «module».now (infos_of (infos_before «module».now self.now place)) f (settings_of flags capabilities)) error.cause) }
     {
-        let function = function_at(module, place);
-        let infos = &self.functions[..functions_before(module, place)];
+        let function = function_at(module, &place);
+        let infos = self.infos_before(module, &place);
         match function_info(alloc, module, infos, function, flags, capabilities) {
             Ok(info) => Ok(info),
             Err(cause) => Err(AnalysisError { place, cause }),

@@ -1,0 +1,116 @@
+-- One more global expression, where those before it have their types.
+use Rattle.std.proofs.Common.{◌≡◌, refl, sym, ap, subst, ◌∙◌, ◌⊎◌, inl, inr, ℕ, ◌+◌, ◌<◌, Bool, true, false, List, [], ◌∷◌, ◌++◌, Result, Ok, Err, IfOk, IfErr, length, length-append, arith}
+use Rattle.shader_chains.proofs.TypeLemmas.{types_are_unique}
+use Rattle.shader_chains.specs.Derivable.{Derives, IsRefused}
+use Rattle.shader_chains.specs.Faults.{Cause, ComesBefore, IsFirstFault, ModuleFault, OfEntryPoint, OfFunction, OfGlobalExpression, Settings, Site, Untyped, in_expression}
+use Rattle.shader_chains.specs.Program.{Expression, Module}
+use Rattle.shader_expression_types.specs.Checked.{untyped_error}
+use Rattle.shader_expression_types.specs.Typed.{AreOfTheFirst, IsToldOf}
+use Rattle.shader_ir.specs.Key.{FitsTypes}
+use Rattle.shader_ir.specs.declared.proc.type_resolution.TypeResolution.{TypeResolution}
+use Rattle.shader_resolve.proofs.ContextLemmas.{contexts_of_well_formed}
+use Rattle.shader_resolve.specs.Context.{Context, IsInRange, TypesInRange, context_of}
+use Rattle.shader_resolve.specs.Outcome.{WantsMemory, refusal_of}
+use Rattle.shader_resolve.specs.WellFormed.{IsWellFormed}
+use Rattle.shader_resolve.specs.declared.error.ResolveError.{ResolveError}
+use Rattle.shader_resolve.specs.declared.error.ResolveError.TheVariants as resolve
+use Rattle.shader_steps.specs.Causes.{IsNamed}
+use Rattle.shader_typing.proofs.PlaceLemmas.{all_one_more, at_place, found_at, one_more}
+use Rattle.shader_typing.specs.AddedTypes.{AddsType, CanType, IsNextType, IsTypeRefusal}
+use Rattle.shader_typing.specs.Analyzed.{TypesFound}
+use Rattle.shader_typing.specs.Recorded.{Recorded}
+
+module _ (context : Context) (expressions : List Expression) (types : List TypeResolution) where
+  abbrev Told : Bool → Result TypeResolution ResolveError → Type 0
+  Told memory result = AreOfTheFirst context expressions types → IsToldOf context expressions (length types) memory result
+
+  pub is_next : (memory : Bool) (result : Result TypeResolution ResolveError) → Told memory result →
+      (TypesInRange context → IfOk result (λ ty. FitsTypes context.types ty)) → IfOk result (IsNextType context expressions types)
+  is_next memory (Ok ty) told fits = record { derived = told; fits = fits }
+  is_next memory (Err failure) told fits = tt
+
+  no_memory : (memory : Bool) (failure : ResolveError) → WantsMemory memory failure → failure ≡ resolve.OutOfMemory
+  no_memory true failure is = is
+  no_memory false failure is = absurd is
+
+  refusal_alone : (memory : Bool) (failure : ResolveError) → (failure ≡ resolve.OutOfMemory → ⊥) → Told memory (Err failure) →
+      IsTypeRefusal context expressions types failure
+  refusal_alone memory failure other told = inr (λ first. elim (told first) [ inl refused ↦ refused | inr wants ↦ absurd (other (no_memory memory failure wants)) ])
+
+  refusal : (memory : Bool) (failure : ResolveError) → Told memory (Err failure) → IsTypeRefusal context expressions types failure
+  refusal memory resolve.OutOfMemory told = inl refl
+  refusal memory failure told = refusal_alone memory failure (λ is. absurd (cc)) told
+
+  pub is_refusal : (memory : Bool) (result : Result TypeResolution ResolveError) → Told memory result → IfErr result (IsTypeRefusal context expressions types)
+  is_refusal memory (Ok ty) told = tt
+  is_refusal memory (Err failure) told = refusal memory failure told
+
+-- what is told of a type that is refused names the refusal
+named_untyped : (IsCause : Cause → Type 0) (e : ℕ) (failure : ResolveError) → (failure ≡ resolve.OutOfMemory) ⊎ IsCause (Untyped e (refusal_of failure)) →
+    IsNamed IsCause (untyped_error e failure)
+named_untyped IsCause e resolve.OutOfMemory told = tt
+named_untyped IsCause e failure (inl is) = absurd (cc)
+named_untyped IsCause e failure (inr stands) = stands
+
+module _ (m : Module) (well : IsWellFormed m) (types : List TypeResolution) (found : TypesFound m types) where
+  abbrev global : Context
+  global = context_of m [] []
+
+  pub can_type : (context : Context) (expressions : List Expression) → context ≡ context_of m [] [] → expressions ≡ m.global_expressions →
+      (e : ℕ) → e ≡ length types → e < length m.global_expressions → CanType context expressions types e
+  can_type context expressions is are e next there =
+      subst (λ v. CanType v expressions types e) (sym is) (subst (λ v. CanType global v types e) (sym are) (record {
+        next = next;
+        there = there;
+        backward = well.types;
+        names = λ x is_x. at_place (IsInRange global) m.global_expressions e x (contexts_of_well_formed m well).global_expressions.names is_x;
+        operands = λ x is_x. well.operands.global_expressions e x is_x;
+        fit = found.fit;
+      }))
+
+  one_found : (ty : TypeResolution) → IsNextType global m.global_expressions types ty → length types < length m.global_expressions → TypesFound m (types ++ ty ∷ [])
+  one_found ty next lt = record {
+    there = omega (arith, lt, length-append types (ty ∷ []));
+    derived = one_more (λ e t. Derives global m.global_expressions e t) types ty found.derived (next.derived found.derived);
+    fit = all_one_more (FitsTypes m.types) types ty found.fit (next.fits (contexts_of_well_formed m well).global_expressions.types);
+  }
+
+  first_untyped : (settings : Settings) (e : ℕ) → e ≡ length types → (failure : ResolveError) → IsRefused global m.global_expressions (length types) (refusal_of failure) →
+      IsFirstFault m settings (OfGlobalExpression e) (Untyped e (refusal_of failure))
+  first_untyped settings e next failure refused = record {
+    stands = in_expression (subst (λ v. IsRefused global m.global_expressions v (refusal_of failure)) (sym next) refused);
+    first = none;
+  } where
+    none : (other : Site) (told : Cause) → ComesBefore other (OfGlobalExpression e) → ModuleFault m settings other told → ⊥
+    none (OfGlobalExpression d) told lt (in_expression {refusal = why} is) =
+        let ty = found_at types d (omega (arith, lt, next)) in
+        (types_are_unique global m.global_expressions d ty.0 (found.derived d ty.0 ty.1)).1 why is
+    none (OfFunction i) told lt fault = lt
+    none (OfEntryPoint i) told lt fault = lt
+
+  pub names_first : (settings : Settings) (e : ℕ) → e ≡ length types → (failure : ResolveError) → IsTypeRefusal global m.global_expressions types failure →
+      IsNamed (IsFirstFault m settings (OfGlobalExpression e)) (untyped_error e failure)
+  names_first settings e next failure told = named_untyped (IsFirstFault m settings (OfGlobalExpression e)) e failure
+      (elim told [ inl is ↦ inl is | inr refused ↦ inr (first_untyped settings e next failure (refused found.derived)) ])
+
+-- by contexts that are the module's
+module _ (m : Module) (well : IsWellFormed m) (context : Context) (expressions : List Expression) (is : context ≡ context_of m [] [])
+    (are : expressions ≡ m.global_expressions) where
+  pub added_type : (old new : Recorded) → TypesFound m old.global_expressions → length old.global_expressions < length m.global_expressions →
+      AddsType context expressions old new →
+      (new ≡ record old { global_expressions = new.global_expressions })
+      × (length new.global_expressions ≡ length old.global_expressions + 1)
+      × TypesFound m new.global_expressions
+  added_type old new found lt adds =
+      let types = old.global_expressions in
+      let grown : new.global_expressions ≡ types ++ adds.ty ∷ [] = ap (λ (v : Recorded). v.global_expressions) adds.added in
+      let next = subst (λ v. IsNextType v m.global_expressions types adds.ty) is (subst (λ v. IsNextType context v types adds.ty) are adds.is_next) in (
+        adds.added ∙ ap (λ v. record old { global_expressions = v }) (sym grown),
+        ap length grown ∙ length-append types (adds.ty ∷ []),
+        subst (TypesFound m) (sym grown) (one_found m well types found adds.ty next lt),
+      )
+
+  pub refused_type : (types : List TypeResolution) → TypesFound m types → (settings : Settings) (e : ℕ) → e ≡ length types → (failure : ResolveError) →
+      IsTypeRefusal context expressions types failure → IsNamed (IsFirstFault m settings (OfGlobalExpression e)) (untyped_error e failure)
+  refused_type types found settings e next failure told = names_first m well types found settings e next failure
+      (subst (λ v. IsTypeRefusal v m.global_expressions types failure) is (subst (λ v. IsTypeRefusal context v types failure) are told))

@@ -1,0 +1,16 @@
+use Rattle.std.proofs.Common.{◌≡◌, [], length}
+use Rattle.shader_chains.specs.Derivable.{AreTypes}
+use Rattle.shader_resolve.specs.Context.{context_of}
+use Rattle.shader_steps.specs.Causes.{settings_of}
+use Rattle.shader_typing.proofs.PlaceLemmas.{IsLeft}
+use Rattle.shader_typing.specs.Analyzed.{FunctionsFound}
+use Rattle.shader_typing.proofs.valid.analyze.add_functions.Given as goal
+
+abbrev pub invariant-loop-handle : goal.invariant-loop-handle
+invariant-loop-handle l =
+    (goal.iterator-loop-handle).can_next l.handle-iterator
+    × (goal.iterator-loop-handle).is_finite l.handle-iterator
+    × IsLeft (length l.info.functions) (length l.«module».functions) l.handle-iterator
+    × (l.info ≡ record l.fn.info { functions = l.info.functions })
+    × AreTypes (context_of l.«module» [] []) l.«module».global_expressions l.info.global_expressions
+    × FunctionsFound l.«module» (settings_of l.flags l.capabilities) l.info.functions
