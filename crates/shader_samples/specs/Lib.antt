@@ -1,1 +1,3 @@
+pub mod Modules
 pub mod Names
+pub mod Types

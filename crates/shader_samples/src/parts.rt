@@ -1,6 +1,9 @@
 //! What the samples are put together from.
-ghost use Rattle.std.specs.Prelude.{◌≡◌, ◌≤◌, length, IfOk};
+ghost use Rattle.std.specs.Prelude.{◌≡◌, ◌≤◌, [], None, length, IfOk};
 ghost use Rattle.shader_arena.specs.Places.{most_items};
+ghost use Rattle.shader_ir.specs.BodyOf.{body_of};
+ghost use Rattle.shader_samples.specs.Modules.{function_with, module_with};
+ghost use Rattle.shader_samples.specs.Types.{types_after};
 
 use shader_arena::{Arena, Handle, Range, UniqueArena};
 use shader_ir::{
@@ -36,6 +39,7 @@ pub fn types_of(
     inners: Vec<TypeInner>,
 ) -> Result<UniqueArena<Type, mark::Type>, AllocError>
     requires { length inners.items ≤ most_items }
+    ensures { IfOk result (λ types. types ≡ types_after [] inners.items) }
 {
     let mut types = UniqueArena::new(alloc);
     for inner in inners {
@@ -58,6 +62,7 @@ pub fn module_of(
     requires types { length types.items ≤ most_items }
     requires globals { length globals.items ≤ most_items }
     requires functions { length functions.items ≤ most_items }
+    ensures { IfOk result (λ made. made ≡ module_with (types_after [] types.items) globals.items functions.items) }
 {
     let mut module = Module::new(alloc);
     module.types = types_of(alloc, types)?;
@@ -77,6 +82,7 @@ pub fn function_of(
     statements: Vec<Statement>,
 ) -> Result<Function, AllocError>
     requires { length expressions.items ≤ most_items }
+    ensures { IfOk result (λ made. made ≡ function_with [] None expressions.items [] (body_of statements.items)) }
 {
     Ok(Function {
         name: None,
