@@ -16,7 +16,12 @@ use shader_typing::valid::{GlobalOrArgument, GlobalUse};
 use std::alloc::Global;
 use std::process::Abort;
 
-fn two_arguments(rt: &impl Abort, alloc: Global, function: Function, types: (u32, u32)) -> Function {
+fn two_arguments(
+    rt: &impl Abort,
+    alloc: Global,
+    function: Function,
+    types: (u32, u32),
+) -> Function {
     let (first, second) = (parts::argument(types.0), parts::argument(types.1));
     let mut taking = function;
     taking.arguments = Items::from(vec![in alloc; first, second].expect(rt, WANT));
@@ -80,7 +85,7 @@ fn one_image_meets_both_samplers(rt: HostRuntime) {
         sampling(&rt, alloc),
         passing_its_image(&rt, alloc, 1),
         passing_its_image(&rt, alloc, 2),
-        calling_both(&rt, alloc)
+        calling_both(&rt, alloc),
     ];
     let globals = resources(&rt, alloc);
     let module = with_functions(&rt, alloc, globals, functions.expect(&rt, WANT));
@@ -137,11 +142,7 @@ fn with_one_more(rt: &impl Abort, made: Module, function: Function) -> Module {
 #[test]
 fn uses_go_on_along_calls(rt: HostRuntime) {
     let alloc = rt.alloc();
-    let module = with_one_more(
-        &rt,
-        named(alloc).expect(&rt, WANT),
-        calling(&rt, alloc, 1),
-    );
+    let module = with_one_more(&rt, named(alloc).expect(&rt, WANT), calling(&rt, alloc, 1));
     expects(
         &rt,
         alloc,
@@ -156,7 +157,10 @@ fn naming(rt: &impl Abort, alloc: Global) -> Function {
     let statements = one(rt, alloc, call(0, Vec::new(alloc)));
     let mut function = plain(rt, alloc, expressions, statements);
     let name = Name::from("g".to_string(alloc).expect(rt, WANT));
-    function.named_expressions.insert(at(0), name).expect(rt, WANT);
+    function
+        .named_expressions
+        .insert(at(0), name)
+        .expect(rt, WANT);
     function
 }
 
@@ -210,7 +214,12 @@ fn a_kill_that_all_come_to_kills_no_flow(rt: HostRuntime) {
     let choice = branch(0, one(&rt, alloc, call(0, Vec::new(alloc))), nothing(alloc));
     let statements = two(&rt, alloc, choice, emit(4, 5));
     let caller = with_matrix(alloc, statements).expect(&rt, WANT);
-    let callee = plain(&rt, alloc, Vec::new(alloc), one(&rt, alloc, Statement::Kill));
+    let callee = plain(
+        &rt,
+        alloc,
+        Vec::new(alloc),
+        one(&rt, alloc, Statement::Kill),
+    );
     let functions = vec![in alloc; callee, caller].expect(&rt, WANT);
     let module = over_a_float(alloc, functions).expect(&rt, WANT);
     assert!(rt; !info_at(&rt, alloc, &module, 0).may_kill);

@@ -11,7 +11,8 @@ use shader_samples::parts::{arena_of, at, branch, emit, number};
 use std::alloc::Global;
 use std::process::Abort;
 
-const REFUSED: &str = "fn 0 A2 at 2 needs 2: Expression [0] produced non-uniform result, and control flow depends on it";
+const REFUSED: &str =
+    "fn 0 A2 at 2 needs 2: Expression [0] produced non-uniform result, and control flow depends on it";
 
 /// A filter for derivatives.
 fn filter(severity: Severity, parent: Option<u32>) -> DiagnosticFilterNode {
@@ -84,7 +85,10 @@ fn a_remark_accepts(rt: HostRuntime) {
 #[test]
 fn a_warning_accepts(rt: HostRuntime) {
     let alloc = rt.alloc();
-    let filters = (filter(Severity::Error, None), filter(Severity::Warning, None));
+    let filters = (
+        filter(Severity::Error, None),
+        filter(Severity::Warning, None),
+    );
     decides(&rt, alloc, filters, Some(1), "accepted");
 }
 
@@ -98,9 +102,15 @@ fn an_error_refuses(rt: HostRuntime) {
 #[test]
 fn the_innermost_filter_decides(rt: HostRuntime) {
     let alloc = rt.alloc();
-    let filters = (filter(Severity::Error, None), filter(Severity::Off, Some(0)));
+    let filters = (
+        filter(Severity::Error, None),
+        filter(Severity::Off, Some(0)),
+    );
     decides(&rt, alloc, filters, Some(1), "accepted");
-    let filters = (filter(Severity::Off, None), filter(Severity::Error, Some(0)));
+    let filters = (
+        filter(Severity::Off, None),
+        filter(Severity::Error, Some(0)),
+    );
     decides(&rt, alloc, filters, Some(1), REFUSED);
 }
 

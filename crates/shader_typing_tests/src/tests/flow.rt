@@ -11,12 +11,14 @@ use shader_typing::valid::UniformityRequirements;
 use std::alloc::Global;
 use std::process::Abort;
 
-const BY_CHOICE: &str = "fn 0 A2 at 2 needs 2: Expression [0] produced non-uniform result, and control flow depends on it";
+const BY_CHOICE: &str =
+    "fn 0 A2 at 2 needs 2: Expression [0] produced non-uniform result, and control flow depends on it";
 
 const BY_RETURN: &str =
     "fn 0 A2 at 2 needs 2: There is a Return earlier in the control flow of the function";
 
-const BY_KILL: &str = "fn 0 A2 at 2 needs 2: There is a Discard earlier in the entry point across all called functions";
+const BY_KILL: &str =
+    "fn 0 A2 at 2 needs 2: There is a Discard earlier in the entry point across all called functions";
 
 const ACCEPTED: &str = "accepted";
 
@@ -88,12 +90,7 @@ fn in_switch(rt: &impl Abort, alloc: Global, selector: u32, statement: Statement
 }
 
 /// Two cases, the first of which may fall into the second, where the derivative is taken.
-fn cases(
-    rt: &impl Abort,
-    alloc: Global,
-    first: Statement,
-    fall_through: bool,
-) -> Vec<SwitchCase> {
+fn cases(rt: &impl Abort, alloc: Global, first: Statement, fall_through: bool) -> Vec<SwitchCase> {
     let first = case(SwitchValue::U32(0), one(rt, alloc, first), fall_through);
     let rest = one(rt, alloc, differentiate());
     let second = case(SwitchValue::Default, rest, false);
@@ -170,27 +167,47 @@ fn a_case_that_an_exiting_one_falls_into(rt: HostRuntime) {
 fn behind_a_return_of_some(rt: HostRuntime) {
     let alloc = rt.alloc();
     let choice = by_choice(&rt, alloc, leave());
-    flows(&rt, alloc, two(&rt, alloc, choice, differentiate()), BY_RETURN);
+    flows(
+        &rt,
+        alloc,
+        two(&rt, alloc, choice, differentiate()),
+        BY_RETURN,
+    );
 }
 
 #[test]
 fn behind_a_return_of_the_others(rt: HostRuntime) {
     let alloc = rt.alloc();
     let choice = branch(VARYING, nothing(alloc), one(&rt, alloc, leave()));
-    flows(&rt, alloc, two(&rt, alloc, choice, differentiate()), BY_RETURN);
+    flows(
+        &rt,
+        alloc,
+        two(&rt, alloc, choice, differentiate()),
+        BY_RETURN,
+    );
 }
 
 #[test]
 fn before_a_return_of_some(rt: HostRuntime) {
     let alloc = rt.alloc();
     let choice = by_choice(&rt, alloc, leave());
-    flows(&rt, alloc, two(&rt, alloc, differentiate(), choice), ACCEPTED);
+    flows(
+        &rt,
+        alloc,
+        two(&rt, alloc, differentiate(), choice),
+        ACCEPTED,
+    );
 }
 
 #[test]
 fn behind_a_return_of_all(rt: HostRuntime) {
     let alloc = rt.alloc();
-    flows(&rt, alloc, two(&rt, alloc, leave(), differentiate()), ACCEPTED);
+    flows(
+        &rt,
+        alloc,
+        two(&rt, alloc, leave(), differentiate()),
+        ACCEPTED,
+    );
 }
 
 #[test]
@@ -198,7 +215,12 @@ fn behind_a_block_that_some_return_from(rt: HostRuntime) {
     let alloc = rt.alloc();
     let choice = by_choice(&rt, alloc, leave());
     let block = in_block(&rt, alloc, choice);
-    flows(&rt, alloc, two(&rt, alloc, block, differentiate()), BY_RETURN);
+    flows(
+        &rt,
+        alloc,
+        two(&rt, alloc, block, differentiate()),
+        BY_RETURN,
+    );
 }
 
 #[test]
@@ -206,7 +228,12 @@ fn behind_a_switch_that_some_return_from(rt: HostRuntime) {
     let alloc = rt.alloc();
     let choice = by_choice(&rt, alloc, leave());
     let switch = in_switch(&rt, alloc, SHARED, choice);
-    flows(&rt, alloc, two(&rt, alloc, switch, differentiate()), BY_RETURN);
+    flows(
+        &rt,
+        alloc,
+        two(&rt, alloc, switch, differentiate()),
+        BY_RETURN,
+    );
 }
 
 #[test]
@@ -214,7 +241,12 @@ fn behind_a_loop_that_some_return_from(rt: HostRuntime) {
     let alloc = rt.alloc();
     let choice = by_choice(&rt, alloc, leave());
     let around = in_loop(&rt, alloc, choice, Statement::Break);
-    flows(&rt, alloc, two(&rt, alloc, around, differentiate()), BY_RETURN);
+    flows(
+        &rt,
+        alloc,
+        two(&rt, alloc, around, differentiate()),
+        BY_RETURN,
+    );
 }
 
 #[test]
@@ -240,7 +272,12 @@ fn the_continuing_block_of_a_loop_that_some_break(rt: HostRuntime) {
 fn behind_a_kill_of_some(rt: HostRuntime) {
     let alloc = rt.alloc();
     let choice = by_choice(&rt, alloc, Statement::Kill);
-    flows(&rt, alloc, two(&rt, alloc, choice, differentiate()), BY_KILL);
+    flows(
+        &rt,
+        alloc,
+        two(&rt, alloc, choice, differentiate()),
+        BY_KILL,
+    );
 }
 
 #[test]

@@ -2,9 +2,9 @@
 use crate::tests::infos::WANT;
 use shader_arena::{Arena, Handle};
 use shader_ir::{
-    ArraySize, Binding, Count, Expression, Function, FunctionArgument, GlobalVariable,
-    ImageClass, ImageDimension, Items, LocalVariable, Module, Scalar, ScalarKind, Statement,
-    StorageAccess, StorageFormat, TypeInner, VectorSize, mark,
+    ArraySize, Binding, Count, Expression, Function, FunctionArgument, GlobalVariable, ImageClass,
+    ImageDimension, Items, LocalVariable, Module, Scalar, ScalarKind, Statement, StorageAccess,
+    StorageFormat, TypeInner, VectorSize, mark,
 };
 use shader_samples::parts::{arena_of, function_of, module_of};
 use std::alloc::Global;
@@ -12,16 +12,27 @@ use std::process::Abort;
 
 // The places of the types that each module has.
 pub const NUMBER: u32 = 0;
+
 pub const NUMBERS: u32 = 1;
+
 pub const POINT: u32 = 2;
+
 pub const IMAGE: u32 = 3;
+
 pub const SAMPLER: u32 = 4;
+
 pub const IMAGES: u32 = 5;
+
 pub const FLOAT: u32 = 6;
+
 pub const FLOATS: u32 = 7;
+
 pub const ELEMENTS: u32 = 8;
+
 pub const TEXELS: u32 = 9;
+
 pub const TEXEL_IMAGES: u32 = 10;
+
 pub const SAMPLERS: u32 = 11;
 
 fn image(class: ImageClass) -> TypeInner {
@@ -77,7 +88,7 @@ fn types(rt: &impl Abort, alloc: Global) -> Vec<TypeInner> {
         elements(),
         texels(),
         bound(rt, TEXELS),
-        bound(rt, SAMPLER)
+        bound(rt, SAMPLER),
     ]
     .expect(rt, WANT)
 }

@@ -166,7 +166,7 @@ fn sampling_by_choice(rt: &impl Abort, alloc: Global, level: SampleLevel) -> Mod
         coordinate,
         local(),
         load(3),
-        sample(level)
+        sample(level),
     ];
     let choice = branch(4, one(rt, alloc, emit(5, 6)), nothing(alloc));
     let statements = two(rt, alloc, emit(4, 5), choice);
@@ -204,7 +204,11 @@ fn biased_levels_need_uniform_flow(rt: HostRuntime) {
 #[test]
 fn given_levels_do_not(rt: HostRuntime) {
     let alloc = rt.alloc();
-    accepts(&rt, alloc, &sampling_by_choice(&rt, alloc, SampleLevel::Zero));
+    accepts(
+        &rt,
+        alloc,
+        &sampling_by_choice(&rt, alloc, SampleLevel::Zero),
+    );
     let level = SampleLevel::Exact(at(2));
     accepts(&rt, alloc, &sampling_by_choice(&rt, alloc, level));
     let level = SampleLevel::Gradient { x: at(2), y: at(2) };

@@ -115,7 +115,8 @@ fn derivatives_are_taken_anywhere_where_the_filter_is_off(rt: HostRuntime) {
 fn derivatives_are_refused_elsewhere(rt: HostRuntime) {
     let alloc = rt.alloc();
     let module = Sample::Derivative.build(alloc).expect(&rt, WANT);
-    let wanted = "fn 0 A2 at 1 needs 2: Expression [2] produced non-uniform result, and control flow depends on it";
+    let wanted =
+        "fn 0 A2 at 1 needs 2: Expression [2] produced non-uniform result, and control flow depends on it";
     expects(&rt, alloc, &module, wanted);
     match processed(&rt, alloc, &module, CHECKED, PLAIN) {
         Err(AnalysisError { cause, .. }) => assert!(rt; is_misplaced(&cause)),
@@ -124,9 +125,14 @@ fn derivatives_are_refused_elsewhere(rt: HostRuntime) {
 }
 
 fn is_misplaced(cause: &FunctionError) -> bool {
-    matches!(cause, FunctionError::NonUniformControlFlow(
-        UniformityRequirements::DERIVATIVE, _, UniformityDisruptor::Expression(_),
-    ))
+    matches!(
+        cause,
+        FunctionError::NonUniformControlFlow(
+            UniformityRequirements::DERIVATIVE,
+            _,
+            UniformityDisruptor::Expression(_),
+        )
+    )
 }
 
 #[test]
@@ -137,7 +143,7 @@ fn what_follows_a_return_is_disrupted(rt: HostRuntime) {
     let statements = vec![in alloc;
         branch(2, returns, nothing(alloc)),
         emit(2, 4),
-        Statement::Return { value }
+        Statement::Return { value },
     ];
     let module = with_derivatives(alloc, statements.expect(&rt, WANT)).expect(&rt, WANT);
     expects(
@@ -158,7 +164,7 @@ fn killing(rt: &impl Abort, alloc: Global) -> Module {
         emit(2, 6),
         store(5, 4),
         Statement::Kill,
-        Statement::Return { value }
+        Statement::Return { value },
     ];
     with_derivatives(alloc, statements.expect(rt, WANT)).expect(rt, WANT)
 }
