@@ -1,3 +1,4 @@
 pub mod Modules
 pub mod Names
+pub mod Samples
 pub mod Types

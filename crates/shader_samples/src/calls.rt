@@ -1,4 +1,10 @@
 //! An image and a sampler that are handed on from call to call.
+ghost use Rattle.std.specs.Prelude.{◌≡◌, IfOk};
+ghost use Rattle.shader_ir.specs.Scalars.{scalar};
+ghost use Rattle.shader_ir.specs.declared.scalar.ScalarKind.TheVariants as kinds;
+ghost use Rattle.shader_ir.specs.declared.types.TypeInner.TheVariants.{Vector};
+ghost use Rattle.shader_samples.specs.Samples.{calling_twice, image, sample_of, sampling_module, taking_both, taking_the_image};
+
 use crate::parts::{argument, at, call, emit, function_of, global, module_of, resource};
 use shader_arena::Handle;
 use shader_ir::{
@@ -7,7 +13,9 @@ use shader_ir::{
 };
 use std::alloc::{AllocError, Global};
 
-fn image() -> TypeInner {
+fn image() -> TypeInner
+    ensures { result ≡ image }
+{
     TypeInner::Image {
         dim: ImageDimension::D2,
         arrayed: false,
@@ -18,7 +26,9 @@ fn image() -> TypeInner {
     }
 }
 
-fn floats(size: VectorSize) -> TypeInner {
+fn floats(size: VectorSize) -> TypeInner
+    ensures { result ≡ Vector size (scalar kinds.Float 4) }
+{
     TypeInner::Vector {
         size,
         scalar: Scalar::F32,
@@ -26,7 +36,9 @@ fn floats(size: VectorSize) -> TypeInner {
 }
 
 /// `textureSampleLevel(e0, e1, e2, 0.0)`
-fn sample() -> Expression {
+fn sample() -> Expression
+    ensures { result ≡ sample_of }
+{
     Expression::ImageSample {
         image: at(0),
         sampler: at(1),
@@ -41,7 +53,9 @@ fn sample() -> Expression {
 }
 
 /// `fn f(t: texture_2d<f32>, s: sampler) -> vec4<f32> { return textureSampleLevel(t, s, vec2<f32>(), 0.0); }`
-fn taking_both(alloc: Global) -> Result<Function, AllocError> {
+fn taking_both(alloc: Global) -> Result<Function, AllocError>
+    ensures { IfOk result (λ made. made ≡ taking_both) }
+{
     let expressions = vec![in alloc;
         Expression::FunctionArgument(0),
         Expression::FunctionArgument(1),
@@ -60,7 +74,9 @@ fn taking_both(alloc: Global) -> Result<Function, AllocError> {
 }
 
 /// `fn g(t: texture_2d<f32>) { f(t, smp); }`
-fn taking_the_image(alloc: Global) -> Result<Function, AllocError> {
+fn taking_the_image(alloc: Global) -> Result<Function, AllocError>
+    ensures { IfOk result (λ made. made ≡ taking_the_image) }
+{
     let expressions = vec![in alloc; Expression::FunctionArgument(0), global(1)]?;
     let arguments = vec![in alloc; at(0), at(1)]?;
     let statements = vec![in alloc; call(0, arguments)]?;
@@ -70,7 +86,9 @@ fn taking_the_image(alloc: Global) -> Result<Function, AllocError> {
 }
 
 /// `fn h() { g(tex); g(tex); }`
-fn calling_twice(alloc: Global) -> Result<Function, AllocError> {
+fn calling_twice(alloc: Global) -> Result<Function, AllocError>
+    ensures { IfOk result (λ made. made ≡ calling_twice) }
+{
     let first = call(1, vec![in alloc; at(0)]?);
     let second = call(1, vec![in alloc; at(0)]?);
     let expressions = vec![in alloc; global(0)]?;
@@ -90,7 +108,9 @@ fn calling_twice(alloc: Global) -> Result<Function, AllocError> {
 /// # Errors
 ///
 /// Want of memory.
-pub fn sampling(alloc: Global) -> Result<Module, AllocError> {
+pub fn sampling(alloc: Global) -> Result<Module, AllocError>
+    ensures { IfOk result (λ made. made ≡ sampling_module) }
+{
     let types = vec![in alloc;
         image(),
         TypeInner::Sampler { comparison: false },

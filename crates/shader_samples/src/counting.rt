@@ -1,10 +1,17 @@
 //! Expressions that are operands several times.
+ghost use Rattle.std.specs.Prelude.{◌≡◌, [], ◌∷◌, IfOk};
+ghost use Rattle.shader_ir.specs.declared.expression.Expression.TheVariants.{Binary, Compose};
+ghost use Rattle.shader_ir.specs.declared.operators.BinaryOperator.TheVariants.{Add};
+ghost use Rattle.shader_samples.specs.Samples.{counts_module};
+
 use crate::parts::{at, function_of, module_of, number};
 use shader_arena::Handle;
 use shader_ir::{BinaryOperator, Expression, Items, Module, Scalar, TypeInner, VectorSize};
 use std::alloc::{AllocError, Global};
 
-fn doubled() -> Expression {
+fn doubled() -> Expression
+    ensures { result ≡ Binary Add 0 0 }
+{
     Expression::Binary {
         op: BinaryOperator::Add,
         left: at(0),
@@ -12,7 +19,9 @@ fn doubled() -> Expression {
     }
 }
 
-fn tripled(alloc: Global) -> Result<Expression, AllocError> {
+fn tripled(alloc: Global) -> Result<Expression, AllocError>
+    ensures { IfOk result (λ made. made ≡ Compose 0 (0 ∷ 0 ∷ 0 ∷ [])) }
+{
     let components = vec![in alloc; at(0), at(0), at(0)]?;
     Ok(Expression::Compose {
         ty: Handle::from_index(0),
@@ -26,7 +35,9 @@ fn tripled(alloc: Global) -> Result<Expression, AllocError> {
 /// # Errors
 ///
 /// Want of memory.
-pub fn counts(alloc: Global) -> Result<Module, AllocError> {
+pub fn counts(alloc: Global) -> Result<Module, AllocError>
+    ensures { IfOk result (λ made. made ≡ counts_module) }
+{
     let expressions = vec![in alloc; number(7), doubled(), tripled(alloc)?]?;
     let function = function_of(alloc, expressions, Vec::new(alloc))?;
     let ty = TypeInner::Vector {

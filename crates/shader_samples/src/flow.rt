@@ -1,6 +1,10 @@
 //! What needs uniform flow, behind a return that only some invocations come to.
-ghost use Rattle.std.specs.Prelude.{◌≤◌, length};
+ghost use Rattle.std.specs.Prelude.{◌≡◌, ◌≤◌, [], ◌∷◌, length, IfOk, None, false, pos, true};
 ghost use Rattle.shader_arena.specs.Places.{most_items};
+ghost use Rattle.shader_ir.specs.Body.{Emit, End, If, Leaf, Return};
+ghost use Rattle.shader_ir.specs.BodyOf.{body_of};
+ghost use Rattle.shader_ir.specs.declared.statement.SwitchValue.TheVariants.{Default, I32};
+ghost use Rattle.shader_samples.specs.Samples.{exit_module, exit_off_module, just, matrix_load, over_a_float, switching, with_matrix};
 
 use crate::parts::{
     argument, at, branch, case, derivatives_off, emit, function_of, global, module_of, number,
@@ -14,7 +18,9 @@ use shader_ir::{
 use std::alloc::{AllocError, Global};
 
 /// A matrix of 8 columns and 8 rows, at expression 2, in columns that are expression 3 apart.
-fn load() -> Expression {
+fn load() -> Expression
+    ensures { result ≡ matrix_load }
+{
     Expression::CooperativeLoad {
         columns: CooperativeSize::Eight,
         rows: CooperativeSize::Eight,
@@ -33,7 +39,9 @@ fn load() -> Expression {
 /// # Errors
 ///
 /// Want of memory.
-pub fn with_matrix(alloc: Global, statements: Vec<Statement>) -> Result<Function, AllocError> {
+pub fn with_matrix(alloc: Global, statements: Vec<Statement>) -> Result<Function, AllocError>
+    ensures { IfOk result (λ made. made ≡ with_matrix (body_of statements.items)) }
+{
     let expressions = vec![in alloc;
         Expression::FunctionArgument(0),
         Expression::Literal(Literal::I32(0)),
@@ -53,6 +61,7 @@ pub fn with_matrix(alloc: Global, statements: Vec<Statement>) -> Result<Function
 /// Want of memory.
 pub fn over_a_float(alloc: Global, functions: Vec<Function>) -> Result<Module, AllocError>
     requires { length functions.items ≤ most_items }
+    ensures { IfOk result (λ made. made ≡ over_a_float functions.items) }
 {
     let types = vec![in alloc;
         TypeInner::Scalar(Scalar::F32),
@@ -62,19 +71,25 @@ pub fn over_a_float(alloc: Global, functions: Vec<Function>) -> Result<Module, A
 }
 
 /// `case 0: { if b { return; } }`
-fn first_case(alloc: Global, fall_through: bool) -> Result<SwitchCase, AllocError> {
+fn first_case(alloc: Global, fall_through: bool) -> Result<SwitchCase, AllocError>
+    ensures { IfOk result (λ made. made ≡ record { value = I32 (pos 0); body = just (If 0 (just (Leaf (Return None))) End); fall_through = fall_through }) }
+{
     let exit = vec![in alloc; Statement::Return { value: None }]?;
     let statements = vec![in alloc; branch(0, exit, Vec::new(alloc))]?;
     Ok(case(SwitchValue::I32(0), statements, fall_through))
 }
 
 /// `default: { coopLoad<..>(..); }`
-fn last_case(alloc: Global) -> Result<SwitchCase, AllocError> {
+fn last_case(alloc: Global) -> Result<SwitchCase, AllocError>
+    ensures { IfOk result (λ made. made ≡ record { value = Default; body = just (Leaf (Emit 4 5)); fall_through = false }) }
+{
     let statements = vec![in alloc; emit(4, 5)]?;
     Ok(case(SwitchValue::Default, statements, false))
 }
 
-fn switching(alloc: Global, fall_through: bool) -> Result<Function, AllocError> {
+fn switching(alloc: Global, fall_through: bool) -> Result<Function, AllocError>
+    ensures { IfOk result (λ made. made ≡ switching fall_through) }
+{
     let cases = vec![in alloc; first_case(alloc, fall_through)?, last_case(alloc)?]?;
     let selector = at(1);
     let statements = vec![in alloc; Statement::Switch { selector, cases }]?;
@@ -97,7 +112,9 @@ fn switching(alloc: Global, fall_through: bool) -> Result<Function, AllocError> 
 /// # Errors
 ///
 /// Want of memory.
-pub fn exit(alloc: Global) -> Result<Module, AllocError> {
+pub fn exit(alloc: Global) -> Result<Module, AllocError>
+    ensures { IfOk result (λ made. made ≡ exit_module true) }
+{
     let function = switching(alloc, true)?;
     over_a_float(alloc, vec![in alloc; function]?)
 }
@@ -107,7 +124,9 @@ pub fn exit(alloc: Global) -> Result<Module, AllocError> {
 /// # Errors
 ///
 /// Want of memory.
-pub fn no_fall(alloc: Global) -> Result<Module, AllocError> {
+pub fn no_fall(alloc: Global) -> Result<Module, AllocError>
+    ensures { IfOk result (λ made. made ≡ exit_module false) }
+{
     let function = switching(alloc, false)?;
     over_a_float(alloc, vec![in alloc; function]?)
 }
@@ -117,7 +136,9 @@ pub fn no_fall(alloc: Global) -> Result<Module, AllocError> {
 /// # Errors
 ///
 /// Want of memory.
-pub fn exit_off(alloc: Global) -> Result<Module, AllocError> {
+pub fn exit_off(alloc: Global) -> Result<Module, AllocError>
+    ensures { IfOk result (λ made. made ≡ exit_off_module) }
+{
     let mut function = switching(alloc, true)?;
     function.diagnostic_filter_leaf = Some(Handle::from_index(0));
     let mut module = over_a_float(alloc, vec![in alloc; function]?)?;

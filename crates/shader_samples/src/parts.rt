@@ -2,7 +2,10 @@
 ghost use Rattle.std.specs.Prelude.{◌≡◌, ◌≤◌, [], None, length, IfOk};
 ghost use Rattle.shader_arena.specs.Places.{most_items};
 ghost use Rattle.shader_ir.specs.BodyOf.{body_of};
+ghost use Rattle.shader_ir.specs.declared.expression.Expression.TheVariants as form;
+ghost use Rattle.shader_ir.specs.declared.statement.Statement.TheVariants as statement;
 ghost use Rattle.shader_samples.specs.Modules.{function_with, module_with};
+ghost use Rattle.shader_samples.specs.Samples.{argument, number, off, resource, storage};
 ghost use Rattle.shader_samples.specs.Types.{types_after};
 
 use shader_arena::{Arena, Handle, Range, UniqueArena};
@@ -104,7 +107,9 @@ pub fn at(place: u32) -> Handle<mark::Expression>
 }
 
 /// A global in the handle space, as images and samplers are.
-pub fn resource(ty: u32) -> GlobalVariable {
+pub fn resource(ty: u32) -> GlobalVariable
+    ensures { result ≡ resource ty }
+{
     GlobalVariable {
         name: None,
         space: AddressSpace::Handle,
@@ -114,7 +119,9 @@ pub fn resource(ty: u32) -> GlobalVariable {
 }
 
 /// A global in a storage buffer that is read and written.
-pub fn storage(ty: u32) -> GlobalVariable {
+pub fn storage(ty: u32) -> GlobalVariable
+    ensures { result ≡ storage ty }
+{
     GlobalVariable {
         name: None,
         space: AddressSpace::Storage {
@@ -126,7 +133,9 @@ pub fn storage(ty: u32) -> GlobalVariable {
 }
 
 /// An argument that is bound to nothing.
-pub fn argument(ty: u32) -> FunctionArgument {
+pub fn argument(ty: u32) -> FunctionArgument
+    ensures { result ≡ argument ty }
+{
     FunctionArgument {
         name: None,
         ty: Handle::from_index(ty),
@@ -135,22 +144,30 @@ pub fn argument(ty: u32) -> FunctionArgument {
 }
 
 /// The global at a place.
-pub fn global(place: u32) -> Expression {
+pub fn global(place: u32) -> Expression
+    ensures { result ≡ form.GlobalVariable place }
+{
     Expression::GlobalVariable(Handle::from_index(place))
 }
 
 /// A literal u32.
-pub fn number(value: u32) -> Expression {
+pub fn number(value: u32) -> Expression
+    ensures { result ≡ number value }
+{
     Expression::Literal(Literal::U32(value))
 }
 
 /// Evaluates the expressions from `start` to `end`, without `end`.
-pub fn emit(start: u32, end: u32) -> Statement {
+pub fn emit(start: u32, end: u32) -> Statement
+    ensures { result ≡ statement.Emit (start, end) }
+{
     Statement::Emit(Range::new(at(start), at(end)))
 }
 
 /// Writes a value through a pointer.
-pub fn store(pointer: u32, value: u32) -> Statement {
+pub fn store(pointer: u32, value: u32) -> Statement
+    ensures { result ≡ statement.Store pointer value }
+{
     Statement::Store {
         pointer: at(pointer),
         value: at(value),
@@ -158,7 +175,9 @@ pub fn store(pointer: u32, value: u32) -> Statement {
 }
 
 /// Calls a function, and takes no result of it.
-pub fn call(function: u32, arguments: Vec<Handle<mark::Expression>>) -> Statement {
+pub fn call(function: u32, arguments: Vec<Handle<mark::Expression>>) -> Statement
+    ensures { result ≡ statement.Call function arguments.items None }
+{
     Statement::Call {
         function: Handle::from_index(function),
         arguments: Items::from(arguments),
@@ -167,7 +186,9 @@ pub fn call(function: u32, arguments: Vec<Handle<mark::Expression>>) -> Statemen
 }
 
 /// Runs the first statements where the condition holds, else the second.
-pub fn branch(condition: u32, accept: Vec<Statement>, reject: Vec<Statement>) -> Statement {
+pub fn branch(condition: u32, accept: Vec<Statement>, reject: Vec<Statement>) -> Statement
+    ensures { result ≡ statement.If condition (body_of accept.items) (body_of reject.items) }
+{
     Statement::If {
         condition: at(condition),
         accept: Block { statements: accept },
@@ -176,7 +197,9 @@ pub fn branch(condition: u32, accept: Vec<Statement>, reject: Vec<Statement>) ->
 }
 
 /// One case of a switch.
-pub fn case(value: SwitchValue, statements: Vec<Statement>, fall_through: bool) -> SwitchCase {
+pub fn case(value: SwitchValue, statements: Vec<Statement>, fall_through: bool) -> SwitchCase
+    ensures { result ≡ record { value = value; body = body_of statements.items; fall_through = fall_through } }
+{
     SwitchCase {
         value,
         body: Block { statements },
@@ -191,7 +214,9 @@ pub fn case(value: SwitchValue, statements: Vec<Statement>, fall_through: bool) 
 /// Want of memory.
 pub fn derivatives_off(
     alloc: Global,
-) -> Result<Arena<DiagnosticFilterNode, mark::DiagnosticFilterNode>, AllocError> {
+) -> Result<Arena<DiagnosticFilterNode, mark::DiagnosticFilterNode>, AllocError>
+    ensures { IfOk result (λ filters. filters ≡ off) }
+{
     let filter = DiagnosticFilterNode {
         severity: Severity::Off,
         rule: DiagnosticRule::DerivativeUniformity,

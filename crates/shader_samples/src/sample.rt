@@ -22,8 +22,9 @@ pub enum Sample {
 }
 
 impl Sample {
-    ghost use Rattle.std.specs.Prelude.{◌≡◌};
+    ghost use Rattle.std.specs.Prelude.{◌≡◌, IfOk};
     ghost use Rattle.shader_samples.specs.Names.{sample_named, name_text};
+    ghost use Rattle.shader_samples.specs.Samples.{module_of};
 
     /// All samples.
     pub const ALL: [Sample; 10] = [
@@ -72,7 +73,9 @@ impl Sample {
     /// # Errors
     ///
     /// Want of memory.
-    pub fn build(self, alloc: Global) -> Result<Module, AllocError> {
+    pub fn build(self, alloc: Global) -> Result<Module, AllocError>
+        ensures { IfOk result (λ made. made ≡ module_of self) }
+    {
         match self {
             Sample::Named => named(alloc),
             Sample::Stored => stored(alloc),
