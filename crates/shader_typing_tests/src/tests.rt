@@ -6,6 +6,8 @@ mod infos;
 mod labels;
 mod made;
 mod modules;
+mod places;
+mod refusals;
 mod rows;
 mod samples;
 mod sources;

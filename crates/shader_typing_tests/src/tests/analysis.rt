@@ -96,6 +96,7 @@ pub fn analyzed(
 ) -> Result<ModuleInfo, AnalysisError>
     ensures functions { IfOk result (λ info. length info.functions ≡ length «module».now.functions) }
     ensures entry_points { IfOk result (λ info. length info.entry_points ≡ length «module».now.entry_points) }
+    ensures types { IfOk result (λ info. length info.global_expressions ≡ length «module».now.global_expressions) }
 {
     assert!(rt; check_module(module).is_ok());
     analyze_module(alloc, module, CHECKED, PLAIN)
