@@ -21,7 +21,7 @@ get_last [] y (suc i) x e = absurd (cc)
 get_last (z ∷ xs) y zero x e = inl e
 get_last (z ∷ xs) y (suc i) x e = elim (get_last xs y i x e) [ inl h ↦ inl h | inr h ↦ inr (ap suc h.0, h.1) ]
 
-named_within : (m : Module) (held : List Info) (f : Function) → ((c : ℕ) → Mentions f c → (c < length held) × (c < length m.functions)) →
+pub named_within : (m : Module) (held : List Info) (f : Function) → ((c : ℕ) → Mentions f c → (c < length held) × (c < length m.functions)) →
     Pairwise (IsExact m) m held → EachNamed (IsExact m) m held f
 named_within m held f within exact c mention =
     let (a, b) = within c mention in

@@ -1,4 +1,5 @@
 pub mod BitLemmas
+pub mod OneBitsLemmas
 pub mod ListLemmas
 pub mod NarrowLemmas
 pub mod RegularLemmas

@@ -1,5 +1,6 @@
 pub mod AcceptanceLaws
 pub mod AnySet
+pub mod BitLaws
 pub mod Bits
 pub mod Builtins
 pub mod BuiltinGroups

@@ -1,7 +1,8 @@
-//! Laws of rules and of the sets of them, each the contract of a function that does nothing.
+//! Laws of rules, of the sets of them and of what sets are made of, each the contract of a function that does nothing.
 ghost use Rattle.std.specs.Prelude.{◌≡◌, ◌∷◌, ◌++◌, []};
 ghost use Rattle.shader_ir.specs.Scalars.{abstract_float, abstract_int, floats, integers, scalar};
 ghost use Rattle.shader_overloads.specs.AcceptanceLaws.{AcceptancesAgree, AcceptsByKey, AcceptsCanonicalForms};
+ghost use Rattle.shader_overloads.specs.BitLaws.{OneBitsAddUp, OneBitsArePowers, OneBitsGrow};
 ghost use Rattle.shader_overloads.specs.Builtins.{scalars_and_vectors, square_matrices, vectors};
 ghost use Rattle.shader_overloads.specs.Constructors.{constructors_in};
 ghost use Rattle.shader_overloads.specs.NarrowLaws.{CallsCommute, CallsRepeat};
@@ -57,6 +58,14 @@ pub fn constructor_sets_are_named()
     ensures vecn { constructors_in ConstructorSet.VECN ≡ vectors }
     ensures scalar_or_vecn { constructors_in ConstructorSet.SCALAR_OR_VECN ≡ scalars_and_vectors }
     ensures square_matrices { constructors_in ConstructorSet.SQUARE_MATRICES ≡ square_matrices }
+{}
+
+/// What `OneBitsIter` gives, which contracts see as the list of a number's set bits: powers of two, each below the next, that
+/// add up to the number.
+pub fn one_bits_add_up()
+    ensures powers { OneBitsArePowers }
+    ensures growing { OneBitsGrow }
+    ensures sum { OneBitsAddUp }
 {}
 
 /// Whether a rule accepts a type depends on the type's key alone, in regular sets and in lists.

@@ -1,6 +1,7 @@
 pub mod AskedLemmas
 pub mod BodyLemmas
 pub mod BuiltinLemmas
+pub mod CongruenceLemmas
 pub mod ContextLemmas
 pub mod FitsLemmas
 pub mod FollowLemmas

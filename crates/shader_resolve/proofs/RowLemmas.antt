@@ -27,28 +27,22 @@ use Rattle.shader_resolve.specs.declared.resolve.access.Part.{Part}
 use Rattle.shader_resolve.specs.declared.resolve.access.NoPart.{NoPart}
 use Rattle.shader_resolve.specs.declared.resolve.access.NoPart.TheVariants.{PastEnd, NotIndexable}
 use Rattle.shader_resolve.specs.Builtins.{first_conclusion, math_of_two, rules_after_one, rules_after_two}
+pub use Rattle.shader_resolve.specs.CongruenceLaws.{Respects}
 use Rattle.shader_resolve.specs.Context.{Context}
 use Rattle.shader_resolve.specs.Outcome.{Refusal, Outcome, Given, at_inner, at_shape}
 use Rattle.shader_resolve.specs.Part.{part, part_outcome, part_pointer, pointed_outcome, lifted}
 use Rattle.shader_resolve.specs.Images.{gather_type, sample_type, extent_type}
 use Rattle.shader_resolve.specs.Operations.{test_type, logical_type, cast_type, Product, AsLeft, AsRight, Made, NoProduct, product_of, product_type, product}
-use Rattle.shader_resolve.specs.Rows.{Row, Plain, One, Two, splat_type, swizzle_type, pointed_type, load_type, found_scalar, matrix_type, tile_type, on_shape, binary_row, relational_row, sample_row, query_row, math_row, row}
+use Rattle.shader_resolve.specs.Rows.{One, Two, splat_type, swizzle_type, pointed_type, load_type, found_scalar, matrix_type, tile_type, on_shape, binary_row, relational_row, sample_row, query_row, math_row, row}
 use Rattle.shader_resolve.specs.Typing.{outcome_key}
 use Rattle.shader_resolve.proofs.BuiltinLemmas.{one-canonical, first-canonical, second-canonical}
 use Rattle.shader_resolve.proofs.TypingLemmas.{ReadsCanonical, canonical_cases, refuses_pointers, reads_pointers, at_same_keys}
 
 module _ (types : List «Type») where
-  -- the row gives the same key, or none, at operands of equal keys
-  abbrev pub Respects : Row → Type 0
-  Respects (Plain outcome) = Unit {0}
-  Respects (One operand answer) = (first second : TypeResolution) → key_of types first ≡ key_of types second → outcome_key types (answer first) ≡ outcome_key types (answer second)
-  Respects (Two left right answer) = (first second third fourth : TypeResolution) → key_of types first ≡ key_of types second → key_of types third ≡ key_of types fourth
-      → outcome_key types (answer first third) ≡ outcome_key types (answer second fourth)
-
-  on_shape-respects : (operand : ℕ) (answer : TypeInner → Outcome) → ReadsCanonical types answer → Respects (on_shape types operand answer)
+  on_shape-respects : (operand : ℕ) (answer : TypeInner → Outcome) → ReadsCanonical types answer → Respects types (on_shape types operand answer)
   on_shape-respects operand answer reads first second same = at_same_keys types answer reads first second same
 
-  copy-respects : (operand : ℕ) → Respects (One operand (λ told. Given told))
+  copy-respects : (operand : ℕ) → Respects types (One operand (λ told. Given told))
   copy-respects operand first second same = ap (λ key. Some key) same
 
   part_outcome-key : (base : ℕ) (first second : Refusal) (answer : Part → TypeResolution) (reached : Result Part NoPart)
@@ -154,7 +148,7 @@ module _ (types : List «Type») where
       (λ inner other. outcome_key types (made left right inner right_inner) ≡ outcome_key types (made left right other right_inner)) (λ inner. refl)
       (λ base size scalar space. ap (λ kind. outcome_key types (product_type kind left right)) (left-other base size scalar space right_inner))
 
-  product-respects : (left right : ℕ) → Respects (Two left right (product types))
+  product-respects : (left right : ℕ) → Respects types (Two left right (product types))
   product-respects left right first second third fourth left_same right_same =
       at_shape-keys first _ _ (λ left_inner.
       at_shape-keys third _ _ (λ right_inner. product_type-keys (product_of left_inner right_inner) first second third fourth left_same right_same)
@@ -162,7 +156,7 @@ module _ (types : List «Type») where
       ∙ at_same_keys types (λ left_inner. at_shape types fourth (λ right_inner. made second fourth left_inner right_inner))
       (λ left_inner. at_shape-keys fourth _ _ (λ right_inner. left-reads second fourth right_inner left_inner)) first second left_same
 
-  binary-respects : (op : BinaryOperator) (left right : ℕ) → Respects (binary_row types op left right)
+  binary-respects : (op : BinaryOperator) (left right : ℕ) → Respects types (binary_row types op left right)
   binary-respects operator.Multiply left right = product-respects left right
   binary-respects operator.Equal left right = on_shape-respects left test_type test-reads
   binary-respects operator.NotEqual left right = on_shape-respects left test_type test-reads
@@ -174,13 +168,13 @@ module _ (types : List «Type») where
   binary-respects operator.LogicalOr left right = on_shape-respects left logical_type logical-reads
   binary-respects op left right = copy-respects left
 
-  relational-respects : (fun : RelationalFunction) (argument : ℕ) → Respects (relational_row types fun argument)
+  relational-respects : (fun : RelationalFunction) (argument : ℕ) → Respects types (relational_row types fun argument)
   relational-respects relational.All argument = tt
   relational-respects relational.Any argument = tt
   relational-respects relational.IsNan argument = on_shape-respects argument test_type test-reads
   relational-respects relational.IsInf argument = on_shape-respects argument test_type test-reads
 
-  sample-respects : (image : ℕ) (gather : Option SwizzleComponent) → Respects (sample_row types image gather)
+  sample-respects : (image : ℕ) (gather : Option SwizzleComponent) → Respects types (sample_row types image gather)
   sample-respects image (Some component) = on_shape-respects image (gather_type image) (gather-reads image)
   sample-respects image None = on_shape-respects image (sample_type image) (sample-reads image)
 
@@ -190,7 +184,7 @@ module _ (types : List «Type») where
   abbrev after_two : SpecialTypes → MathFunction → TypeInner → TypeInner → Outcome
   after_two special fun first second = first_conclusion special (rules_after_two types fun first second)
 
-  math-respects : (special : SpecialTypes) (fun : MathFunction) (left right : ℕ) → Respects (Two left right (math_of_two types special fun))
+  math-respects : (special : SpecialTypes) (fun : MathFunction) (left right : ℕ) → Respects types (Two left right (math_of_two types special fun))
   math-respects special fun left right first second third fourth left_same right_same =
       at_shape-keys first _ _ (λ left_inner.
       at_same_keys types (λ right_inner. after_two special fun left_inner right_inner)
@@ -198,7 +192,7 @@ module _ (types : List «Type») where
       ∙ at_same_keys types (λ left_inner. at_shape types fourth (λ right_inner. after_two special fun left_inner right_inner))
       (λ left_inner. at_shape-keys fourth _ _ (λ right_inner. ap (λ rules. outcome_key types (first_conclusion special rules)) (first-canonical types fun left_inner right_inner))) first second left_same
 
-  query-respects : (image : ℕ) (asked : ImageQuery) → Respects (query_row types image asked)
+  query-respects : (image : ℕ) (asked : ImageQuery) → Respects types (query_row types image asked)
   query-respects image (query.Size level) = on_shape-respects image (extent_type image) (extent-reads image)
   query-respects image asked = tt
 

@@ -1,5 +1,6 @@
 pub mod AskedLaws
 pub mod Builtins
+pub mod CongruenceLaws
 pub mod Context
 pub mod ContextLaws
 pub mod Follows

@@ -1,0 +1,4 @@
+pub mod FewNeeds
+pub mod FoundLemmas
+pub mod InfoLemmas
+pub mod MisplacedFaults

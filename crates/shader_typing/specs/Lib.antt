@@ -1,1 +1,5 @@
+pub mod AddedTypes
+pub mod Analyzable
+pub mod Analyzed
+pub mod Processed
 pub mod Recorded

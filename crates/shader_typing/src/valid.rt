@@ -1,7 +1,10 @@
 //! What the analysis records, and why it refuses.
 
+mod analyze;
+mod analyzer;
 mod module_info;
 
+pub use analyze::analyze_module;
 pub use module_info::ModuleInfo;
 pub use shader_info::{
     AnalysisError, AnalysisPlace, Capabilities, ExpressionError, ExpressionInfo, FunctionError,

@@ -4,9 +4,11 @@
 //! With ample memory nothing is refused. Where the allocator refuses the Nth request of a test's
 //! process, the test passes still, and prints a line with `was refused`. The first N at which no
 //! test prints one is past all requests.
+ghost use Rattle.std.specs.Prelude.{◌≡◌, IfOk, length};
+
 use crate::tests::Item;
 use crate::{AllocFailed, Arena, Handle, HandleSet, HandleVec, UniqueArena};
-use std::alloc::AllocError;
+use std::alloc::Global;
 use std::io::Print;
 use std::process::Abort;
 use std::test::Fail;
@@ -23,22 +25,25 @@ fn append_again_if_refused<R: Abort + Print>(
         Err(AllocFailed { value }) => value,
     };
     println!(rt; "append was refused at length {len}")?;
-    assert_eq!(rt; (refused, arena.len()), (number, len));
+    assert!(rt; refused == number && arena.len() == len);
     Ok(arena.append(refused)?)
+}
+
+fn append_twenty<R: Abort + Print>(rt: &R, arena: &mut Arena<u32, Item>) -> Result<(), Fail> {
+    for number in 0..20 {
+        let handle = append_again_if_refused(rt, arena, number)?;
+        assert!(rt; handle.index() == number as usize);
+        assert!(rt; arena.len() == number as usize + 1);
+    }
+    Ok(())
 }
 
 #[test]
 fn of_append(rt: HostRuntime) -> Result<(), Fail> {
     let mut arena: Arena<u32, Item> = Arena::new(rt.alloc());
-    for number in 0..20 {
-        let handle = append_again_if_refused(&rt, &mut arena, number)?;
-        assert_eq!(rt;
-            (handle.index(), arena.len()),
-            (number as usize, number as usize + 1)
-        );
-    }
+    append_twenty(&rt, &mut arena)?;
     for (handle, item) in arena.iter() {
-        assert_eq!(rt; handle.index(), *item as usize);
+        assert!(rt; handle.index() == *item as usize);
     }
     Ok(())
 }
@@ -55,27 +60,57 @@ fn insert_again_if_refused<R: Abort + Print>(
         Err(AllocFailed { value }) => value,
     };
     println!(rt; "insert in a unique arena was refused at length {len}")?;
-    assert_eq!(rt; (refused, arena.len()), (number, len));
+    assert!(rt; refused == number && arena.len() == len);
     Ok(arena.insert(refused)?)
+}
+
+/// Inserts a number that isn't there, and then again, which needs no memory and so is never refused.
+fn insert_twice<R: Abort + Print>(
+    rt: &R,
+    arena: &mut UniqueArena<u32, Item>,
+    number: u32,
+) -> Result<(), Fail> {
+    let handle = insert_again_if_refused(rt, arena, number)?;
+    assert!(rt; handle.index() == number as usize);
+    assert!(rt; !arena.is_full());
+    let again = arena.insert(number)?;
+    assert!(rt; again.index() == handle.index());
+    assert!(rt; arena.len() == number as usize + 1);
+    Ok(())
+}
+
+fn insert_twenty<R: Abort + Print>(rt: &R, arena: &mut UniqueArena<u32, Item>) -> Result<(), Fail> {
+    for number in 0..20 {
+        insert_twice(rt, arena, number)?;
+    }
+    Ok(())
 }
 
 #[test]
 fn of_insert_in_a_unique_arena(rt: HostRuntime) -> Result<(), Fail> {
     let mut arena: UniqueArena<u32, Item> = UniqueArena::new(rt.alloc());
-    for number in 0..20 {
-        let handle = insert_again_if_refused(&rt, &mut arena, number)?;
-        assert_eq!(rt; handle.index(), number as usize);
-        // An equal item needs no memory, so this is never refused.
-        assert!(rt; !arena.is_full());
-        let again = arena.insert(number)?;
-        assert_eq!(rt;
-            (again.index(), arena.len()),
-            (handle.index(), handle.index() + 1)
-        );
-    }
+    insert_twenty(&rt, &mut arena)?;
     for (handle, item) in arena.iter() {
-        assert_eq!(rt; handle.index(), *item as usize);
+        assert!(rt; handle.index() == *item as usize);
     }
+    Ok(())
+}
+
+/// Adds a value for the next handle, which is handed back and added again where it was refused.
+fn add_to_table<R: Abort + Print>(
+    rt: &R,
+    table: &mut HandleVec<Item, u32>,
+    number: u32,
+) -> Result<(), Fail> {
+    let handle = Handle::from_index(number);
+    assert!(rt; table.len() == handle.index());
+    if let Err(AllocFailed { value }) = table.insert(handle, number) {
+        println!(rt; "insert in a table was refused at length {}", table.len())?;
+        assert!(rt; value == number && table.len() == handle.index());
+        table.insert(handle, value)?;
+    }
+    assert!(rt; table.len() == handle.index() + 1);
+    assert!(rt; table[handle] == number);
     Ok(())
 }
 
@@ -83,34 +118,39 @@ fn of_insert_in_a_unique_arena(rt: HostRuntime) -> Result<(), Fail> {
 fn of_insert_in_a_table(rt: HostRuntime) -> Result<(), Fail> {
     let mut table: HandleVec<Item, u32> = HandleVec::new(rt.alloc());
     for number in 0..20 {
-        let handle = Handle::from_index(number);
-        assert_eq!(rt; table.len(), handle.index());
-        if let Err(AllocFailed { value }) = table.insert(handle, number) {
-            println!(rt; "insert in a table was refused at length {}", table.len())?;
-            assert_eq!(rt; (value, table.len()), (number, handle.index()));
-            table.insert(handle, value)?;
-        }
-        assert_eq!(rt; table.len(), handle.index() + 1);
-        assert_eq!(rt; table[handle], number);
+        add_to_table(&rt, &mut table, number)?;
     }
-    assert_eq!(rt; table.len(), 20);
+    assert!(rt; table.len() == 20);
     Ok(())
+}
+
+fn append_many<R: Abort + Print>(rt: &R, arena: &mut Arena<u32, Item>) -> Result<(), Fail> {
+    for number in 0..130 {
+        append_again_if_refused(rt, arena, number)?;
+    }
+    Ok(())
+}
+
+fn set_again_if_refused<R: Abort + Print>(
+    rt: &R,
+    alloc: Global,
+    arena: &Arena<u32, Item>,
+) -> Result<HandleSet<Item>, Fail>
+    ensures { IfOk result (λ set. length set ≡ length arena.now) }
+{
+    if let Ok(set) = HandleSet::for_arena(alloc, arena) {
+        return Ok(set);
+    }
+    println!(rt; "a set was refused")?;
+    Ok(HandleSet::for_arena(alloc, arena)?)
 }
 
 #[test]
 fn of_a_set_for_an_arena(rt: HostRuntime) -> Result<(), Fail> {
     let mut arena: Arena<u32, Item> = Arena::new(rt.alloc());
-    for number in 0..130 {
-        append_again_if_refused(&rt, &mut arena, number)?;
-    }
-    assert_eq!(rt; arena.len(), 130);
-    let mut set = match HandleSet::for_arena(rt.alloc(), &arena) {
-        Ok(set) => set,
-        Err(AllocError) => {
-            println!(rt; "a set was refused")?;
-            HandleSet::for_arena(rt.alloc(), &arena)?
-        }
-    };
+    append_many(&rt, &mut arena)?;
+    assert!(rt; arena.len() == 130);
+    let mut set = set_again_if_refused(&rt, rt.alloc(), &arena)?;
     assert!(rt; set.insert(Handle::from_index(129)));
     let mut members = set.iter();
     assert!(rt; members.next() == Some(Handle::from_index(129)));

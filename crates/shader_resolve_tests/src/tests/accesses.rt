@@ -1,12 +1,11 @@
 //! Rows of accesses, loads and components.
-use crate::tests::rows::{Rows, at, matrix, module, of, pointer, scalar, value_pointer, vector};
-use shader_arena::{Arena, Handle};
+use crate::tests::rows::{Rows, at, matrix, of, pointer, scalar, value_pointer, vector};
+use shader_arena::Handle;
 use shader_ir::{
     AddressSpace, CooperativeData, CooperativeRole, CooperativeSize, Expression, Scalar,
     SwizzleComponent, TypeInner, TypeResolution, VectorSize,
 };
-use shader_resolve::{ResolveContext, ResolveError};
-use std::process::Abort;
+use shader_resolve::ResolveError;
 
 const PRIVATE: AddressSpace = AddressSpace::Private;
 
@@ -44,74 +43,50 @@ fn no_sub_access(ty: u32, indexed: bool) -> ResolveError {
 
 #[test]
 fn out_of_bounds(rt: HostRuntime) {
-    let module = module(&rt, rt.alloc());
-    let locals = Arena::new(rt.alloc());
-    let context = ResolveContext::with_locals(&module, &locals, &[]);
-    out_of_bounds_rows(&Rows::new(&rt, &context, rt.alloc()))
-}
-
-fn out_of_bounds_rows<R: Abort>(rows: &Rows<'_, R>) {
+    let rows = Rows::new(&rt, rt.alloc());
     let value = value_pointer(Some(VectorSize::Tri), Scalar::F32);
-    rows.expects(&[of(0)], member(3), Err(past_the_end()));
-    rows.expects(&[pointer(0, PRIVATE)], member(3), Err(past_the_end()));
-    rows.expects(&[value], member(3), Err(past_the_end()));
+    rows.expects([of(0)], member(3), Err(past_the_end()));
+    rows.expects([pointer(0, PRIVATE)], member(3), Err(past_the_end()));
+    rows.expects([value], member(3), Err(past_the_end()));
 }
 
 #[test]
 fn invalid_accesses(rt: HostRuntime) {
-    let module = module(&rt, rt.alloc());
-    let locals = Arena::new(rt.alloc());
-    let context = ResolveContext::with_locals(&module, &locals, &[]);
-    invalid_accesses_rows(&Rows::new(&rt, &context, rt.alloc()))
-}
-
-fn invalid_accesses_rows<R: Abort>(rows: &Rows<'_, R>) {
+    let rows = Rows::new(&rt, rt.alloc());
     let number = value_pointer(None, Scalar::F32);
     rows.expects(
-        &[pointer(2, PRIVATE)],
+        [pointer(2, PRIVATE)],
         computed(),
         Err(no_sub_access(2, false)),
     );
-    rows.expects(&[number], computed(), Err(no_access(false)));
-    rows.expects(&[of(5)], computed(), Err(no_access(false)));
+    rows.expects([number], computed(), Err(no_access(false)));
+    rows.expects([of(5)], computed(), Err(no_access(false)));
     rows.expects(
-        &[pointer(3, PRIVATE)],
+        [pointer(3, PRIVATE)],
         member(0),
         Err(no_sub_access(3, true)),
     );
-    rows.expects(&[of(3)], member(0), Err(no_access(true)));
+    rows.expects([of(3)], member(0), Err(no_access(true)));
 }
 
 #[test]
 fn values(rt: HostRuntime) {
-    let module = module(&rt, rt.alloc());
-    let locals = Arena::new(rt.alloc());
-    let context = ResolveContext::with_locals(&module, &locals, &[]);
-    values_rows(&Rows::new(&rt, &context, rt.alloc()))
-}
-
-fn values_rows<R: Abort>(rows: &Rows<'_, R>) {
+    let rows = Rows::new(&rt, rt.alloc());
     let columns = matrix(VectorSize::Bi, VectorSize::Tri, Scalar::F32);
     let column = vector(VectorSize::Tri, Scalar::F32);
-    rows.expects(&[of(4)], computed(), Ok(of(0)));
-    rows.expects(&[of(5)], member(0), Ok(of(0)));
-    rows.expects(&[of(1)], computed(), Ok(scalar(Scalar::F32)));
-    rows.expects(&[columns], member(0), Ok(column));
+    rows.expects([of(4)], computed(), Ok(of(0)));
+    rows.expects([of(5)], member(0), Ok(of(0)));
+    rows.expects([of(1)], computed(), Ok(scalar(Scalar::F32)));
+    rows.expects([columns], member(0), Ok(column));
 }
 
 #[test]
 fn pointers(rt: HostRuntime) {
-    let module = module(&rt, rt.alloc());
-    let locals = Arena::new(rt.alloc());
-    let context = ResolveContext::with_locals(&module, &locals, &[]);
-    pointers_rows(&Rows::new(&rt, &context, rt.alloc()))
-}
-
-fn pointers_rows<R: Abort>(rows: &Rows<'_, R>) {
+    let rows = Rows::new(&rt, rt.alloc());
     let component = value_pointer(None, Scalar::F32);
-    rows.expects(&[pointer(4, PRIVATE)], computed(), Ok(pointer(0, PRIVATE)));
-    rows.expects(&[pointer(5, PRIVATE)], member(0), Ok(pointer(0, PRIVATE)));
-    rows.expects(&[pointer(0, PRIVATE)], member(0), Ok(component));
+    rows.expects([pointer(4, PRIVATE)], computed(), Ok(pointer(0, PRIVATE)));
+    rows.expects([pointer(5, PRIVATE)], member(0), Ok(pointer(0, PRIVATE)));
+    rows.expects([pointer(0, PRIVATE)], member(0), Ok(component));
 }
 
 fn load() -> Expression {
@@ -120,20 +95,14 @@ fn load() -> Expression {
 
 #[test]
 fn loads(rt: HostRuntime) {
-    let module = module(&rt, rt.alloc());
-    let locals = Arena::new(rt.alloc());
-    let context = ResolveContext::with_locals(&module, &locals, &[]);
-    loads_rows(&Rows::new(&rt, &context, rt.alloc()))
-}
-
-fn loads_rows<R: Abort>(rows: &Rows<'_, R>) {
+    let rows = Rows::new(&rt, rt.alloc());
     let number = value_pointer(None, Scalar::F32);
     let pair = value_pointer(Some(VectorSize::Bi), Scalar::F32);
-    rows.expects(&[pair], load(), Ok(vector(VectorSize::Bi, Scalar::F32)));
-    rows.expects(&[number], load(), Ok(scalar(Scalar::F32)));
-    rows.expects(&[pointer(1, PRIVATE)], load(), Ok(of(1)));
-    rows.expects(&[pointer(3, PRIVATE)], load(), Ok(scalar(Scalar::U32)));
-    rows.expects(&[of(2)], load(), Err(ResolveError::InvalidPointer(at(0))));
+    rows.expects([pair], load(), Ok(vector(VectorSize::Bi, Scalar::F32)));
+    rows.expects([number], load(), Ok(scalar(Scalar::F32)));
+    rows.expects([pointer(1, PRIVATE)], load(), Ok(of(1)));
+    rows.expects([pointer(3, PRIVATE)], load(), Ok(scalar(Scalar::U32)));
+    rows.expects([of(2)], load(), Err(ResolveError::InvalidPointer(at(0))));
 }
 
 fn splat() -> Expression {
@@ -153,17 +122,11 @@ fn swizzle() -> Expression {
 
 #[test]
 fn components(rt: HostRuntime) {
-    let module = module(&rt, rt.alloc());
-    let locals = Arena::new(rt.alloc());
-    let context = ResolveContext::with_locals(&module, &locals, &[]);
-    components_rows(&Rows::new(&rt, &context, rt.alloc()))
-}
-
-fn components_rows<R: Abort>(rows: &Rows<'_, R>) {
-    rows.expects(&[of(2)], splat(), Ok(vector(VectorSize::Quad, Scalar::F32)));
-    rows.expects(&[of(0)], splat(), Err(ResolveError::InvalidScalar(at(0))));
-    rows.expects(&[of(0)], swizzle(), Ok(vector(VectorSize::Bi, Scalar::F32)));
-    rows.expects(&[of(2)], swizzle(), Err(ResolveError::InvalidVector(at(0))));
+    let rows = Rows::new(&rt, rt.alloc());
+    rows.expects([of(2)], splat(), Ok(vector(VectorSize::Quad, Scalar::F32)));
+    rows.expects([of(0)], splat(), Err(ResolveError::InvalidScalar(at(0))));
+    rows.expects([of(0)], swizzle(), Ok(vector(VectorSize::Bi, Scalar::F32)));
+    rows.expects([of(2)], swizzle(), Err(ResolveError::InvalidVector(at(0))));
 }
 
 fn tile() -> Expression {
@@ -181,22 +144,16 @@ fn tile() -> Expression {
 
 #[test]
 fn tiles(rt: HostRuntime) {
-    let module = module(&rt, rt.alloc());
-    let locals = Arena::new(rt.alloc());
-    let context = ResolveContext::with_locals(&module, &locals, &[]);
-    tiles_rows(&Rows::new(&rt, &context, rt.alloc()))
-}
-
-fn tiles_rows<R: Abort>(rows: &Rows<'_, R>) {
+    let rows = Rows::new(&rt, rt.alloc());
     let cooperative = TypeResolution::Value(TypeInner::CooperativeMatrix {
         columns: CooperativeSize::Eight,
         rows: CooperativeSize::Sixteen,
         scalar: Scalar::F32,
         role: CooperativeRole::A,
     });
-    rows.expects(&[pointer(2, PRIVATE)], tile(), Ok(cooperative));
+    rows.expects([pointer(2, PRIVATE)], tile(), Ok(cooperative));
     rows.expects(
-        &[pointer(5, PRIVATE)],
+        [pointer(5, PRIVATE)],
         tile(),
         Err(ResolveError::InvalidPointer(at(0))),
     );

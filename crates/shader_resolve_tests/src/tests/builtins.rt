@@ -1,8 +1,11 @@
 //! Rows of calls of builtin functions.
 use crate::tests::rows::{Rows, WANT, at, matrix, module, of, scalar, vector};
-use shader_arena::{Arena, Handle};
-use shader_ir::{Expression, MathFunction, PredeclaredType, Scalar, ScalarKind, VectorSize};
-use shader_resolve::{ResolveContext, ResolveError};
+use shader_arena::Handle;
+use shader_ir::{
+    Expression, MathFunction, Module, PredeclaredType, Scalar, ScalarKind, VectorSize,
+};
+use shader_resolve::ResolveError;
+use std::alloc::Global;
 use std::process::Abort;
 
 const BI: VectorSize = VectorSize::Bi;
@@ -39,23 +42,17 @@ fn narrow(kind: ScalarKind) -> Scalar {
 
 #[test]
 fn conclusions(rt: HostRuntime) {
-    let module = module(&rt, rt.alloc());
-    let locals = Arena::new(rt.alloc());
-    let context = ResolveContext::with_locals(&module, &locals, &[]);
-    conclusions_rows(&Rows::new(&rt, &context, rt.alloc()))
-}
-
-fn conclusions_rows<R: Abort>(rows: &Rows<'_, R>) {
+    let rows = Rows::new(&rt, rt.alloc());
     let numbers = [
         scalar(Scalar::U32),
         scalar(Scalar::U32),
         scalar(Scalar::BOOL),
     ];
-    rows.expects(&numbers, of_two(MathFunction::Max), Ok(scalar(Scalar::U32)));
+    rows.expects(numbers, of_two(MathFunction::Max), Ok(scalar(Scalar::U32)));
     let mixed = [scalar(Scalar::ABSTRACT_INT), scalar(Scalar::F16)];
-    rows.expects(&mixed, of_two(MathFunction::Min), Ok(scalar(Scalar::F16)));
+    rows.expects(mixed, of_two(MathFunction::Min), Ok(scalar(Scalar::F16)));
     rows.expects(
-        &[of(1)],
+        [of(1)],
         of_one(MathFunction::Pack2x16float),
         Ok(scalar(Scalar::U32)),
     );
@@ -63,22 +60,16 @@ fn conclusions_rows<R: Abort>(rows: &Rows<'_, R>) {
 
 #[test]
 fn conclusions_of_lists(rt: HostRuntime) {
-    let module = module(&rt, rt.alloc());
-    let locals = Arena::new(rt.alloc());
-    let context = ResolveContext::with_locals(&module, &locals, &[]);
-    conclusions_of_lists_rows(&Rows::new(&rt, &context, rt.alloc()))
-}
-
-fn conclusions_of_lists_rows<R: Abort>(rows: &Rows<'_, R>) {
+    let rows = Rows::new(&rt, rt.alloc());
     let float = narrow(ScalarKind::AbstractFloat);
     rows.expects(
-        &[matrix(BI, TRI, float)],
+        [matrix(BI, TRI, float)],
         of_one(MathFunction::Transpose),
         Ok(matrix(TRI, BI, F32)),
     );
     let vectors = [vector(BI, F32), vector(TRI, F32)];
     rows.expects(
-        &vectors,
+        vectors,
         of_two(MathFunction::Outer),
         Ok(matrix(BI, TRI, F32)),
     );
@@ -86,61 +77,54 @@ fn conclusions_of_lists_rows<R: Abort>(rows: &Rows<'_, R>) {
 
 #[test]
 fn invalid_arguments(rt: HostRuntime) {
-    let module = module(&rt, rt.alloc());
-    let locals = Arena::new(rt.alloc());
-    let context = ResolveContext::with_locals(&module, &locals, &[]);
-    invalid_arguments_rows(&Rows::new(&rt, &context, rt.alloc()))
-}
-
-fn invalid_arguments_rows<R: Abort>(rows: &Rows<'_, R>) {
+    let rows = Rows::new(&rt, rt.alloc());
     let int = narrow(ScalarKind::AbstractInt);
-    rows.expects_invalid(&[scalar(int)], of_one(MathFunction::Abs), "Abs");
-    rows.expects_invalid(&[of(0), of(1)], of_two(MathFunction::Dot), "Dot");
-    rows.expects_invalid(&[of(5)], of_one(MathFunction::Mix), "Mix");
+    rows.expects_invalid([scalar(int)], of_one(MathFunction::Abs), "Abs");
+    rows.expects_invalid([of(0), of(1)], of_two(MathFunction::Dot), "Dot");
+    rows.expects_invalid([of(5)], of_one(MathFunction::Mix), "Mix");
 }
 
 #[test]
 fn untold_arguments(rt: HostRuntime) {
-    let module = module(&rt, rt.alloc());
-    let locals = Arena::new(rt.alloc());
-    let context = ResolveContext::with_locals(&module, &locals, &[]);
-    untold_arguments_rows(&Rows::new(&rt, &context, rt.alloc()))
-}
-
-fn untold_arguments_rows<R: Abort>(rows: &Rows<'_, R>) {
+    let rows = Rows::new(&rt, rt.alloc());
     let untold = ResolveError::FunctionArgumentNotFound(0);
-    rows.expects(&[], of_two(MathFunction::Max), Err(untold));
+    rows.expects([], of_two(MathFunction::Max), Err(untold));
     let second = ResolveError::FunctionArgumentNotFound(0);
-    rows.expects(&[of(2)], of_two(MathFunction::Max), Err(second));
+    rows.expects([of(2)], of_two(MathFunction::Max), Err(second));
     rows.expects(
-        &[of(2)],
+        [of(2)],
         of_one(MathFunction::Modf),
         Err(ResolveError::MissingSpecialType),
     );
 }
 
-#[test]
-fn registered_results(rt: HostRuntime) {
-    let mut module = module(&rt, rt.alloc());
+/// The module in which the result of frexp of a pair is registered.
+fn with_frexp_result(rt: &impl Abort, alloc: Global) -> Module {
+    let mut module = module(rt, alloc);
     let predeclared = PredeclaredType::FrexpResult {
         size: Some(BI),
         scalar: F32,
     };
-    let ty = Handle::from_index(5);
     module
         .special_types
         .predeclared_types
-        .insert(predeclared, ty)
-        .expect(&rt, WANT);
-    let locals = Arena::new(rt.alloc());
-    let context = ResolveContext::with_locals(&module, &locals, &[]);
-    registered_rows(&Rows::new(&rt, &context, rt.alloc()))
+        .insert(predeclared, Handle::from_index(5))
+        .expect(rt, WANT);
+    module
 }
 
-fn registered_rows<R: Abort>(rows: &Rows<'_, R>) {
-    rows.expects(&[of(1)], of_one(MathFunction::Frexp), Ok(of(5)));
-    rows.expects(
-        &[of(0)],
+#[test]
+fn registered_results(rt: HostRuntime) {
+    let rows = Rows::new(&rt, rt.alloc());
+    rows.expects_of(
+        with_frexp_result(&rt, rt.alloc()),
+        [of(1)],
+        of_one(MathFunction::Frexp),
+        Ok(of(5)),
+    );
+    rows.expects_of(
+        with_frexp_result(&rt, rt.alloc()),
+        [of(0)],
         of_one(MathFunction::Frexp),
         Err(ResolveError::MissingSpecialType),
     );

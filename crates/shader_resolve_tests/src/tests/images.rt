@@ -1,12 +1,10 @@
 //! Rows of images.
-use crate::tests::rows::{Rows, at, image, module, of, scalar, vector};
-use shader_arena::Arena;
+use crate::tests::rows::{Rows, at, image, of, scalar, vector};
 use shader_ir::{
     Expression, ImageClass, ImageDimension, ImageQuery, SampleLevel, Scalar, ScalarKind,
     StorageAccess, StorageFormat, SwizzleComponent, TypeResolution, VectorSize,
 };
-use shader_resolve::{ResolveContext, ResolveError};
-use std::process::Abort;
+use shader_resolve::ResolveError;
 
 const QUAD: VectorSize = VectorSize::Quad;
 
@@ -71,26 +69,20 @@ fn outside() -> TypeResolution {
 
 #[test]
 fn gathers(rt: HostRuntime) {
-    let module = module(&rt, rt.alloc());
-    let locals = Arena::new(rt.alloc());
-    let context = ResolveContext::with_locals(&module, &locals, &[]);
-    gathers_rows(&Rows::new(&rt, &context, rt.alloc()))
-}
-
-fn gathers_rows<R: Abort>(rows: &Rows<'_, R>) {
+    let rows = Rows::new(&rt, rt.alloc());
     let gather = SwizzleComponent::Y;
     rows.expects(
-        &[depth()],
+        [depth()],
         sample(Some(gather)),
         Ok(vector(QUAD, Scalar::F32)),
     );
     rows.expects(
-        &[sampled()],
+        [sampled()],
         sample(Some(gather)),
         Ok(vector(QUAD, Scalar::I32)),
     );
     rows.expects(
-        &[of(0)],
+        [of(0)],
         sample(Some(gather)),
         Err(ResolveError::InvalidImage(at(0))),
     );
@@ -98,45 +90,33 @@ fn gathers_rows<R: Abort>(rows: &Rows<'_, R>) {
 
 #[test]
 fn texels(rt: HostRuntime) {
-    let module = module(&rt, rt.alloc());
-    let locals = Arena::new(rt.alloc());
-    let context = ResolveContext::with_locals(&module, &locals, &[]);
-    texels_rows(&Rows::new(&rt, &context, rt.alloc()))
-}
-
-fn texels_rows<R: Abort>(rows: &Rows<'_, R>) {
-    rows.expects(&[depth()], sample(None), Ok(scalar(Scalar::F32)));
-    rows.expects(&[sampled()], load(), Ok(vector(QUAD, Scalar::I32)));
-    rows.expects(&[outside()], load(), Ok(vector(QUAD, Scalar::F32)));
-    rows.expects(&[of(0)], load(), Err(ResolveError::InvalidImage(at(0))));
+    let rows = Rows::new(&rt, rt.alloc());
+    rows.expects([depth()], sample(None), Ok(scalar(Scalar::F32)));
+    rows.expects([sampled()], load(), Ok(vector(QUAD, Scalar::I32)));
+    rows.expects([outside()], load(), Ok(vector(QUAD, Scalar::F32)));
+    rows.expects([of(0)], load(), Err(ResolveError::InvalidImage(at(0))));
 }
 
 #[test]
 fn formats(rt: HostRuntime) {
-    let module = module(&rt, rt.alloc());
-    let locals = Arena::new(rt.alloc());
-    let context = ResolveContext::with_locals(&module, &locals, &[]);
-    formats_rows(&Rows::new(&rt, &context, rt.alloc()))
-}
-
-fn formats_rows<R: Abort>(rows: &Rows<'_, R>) {
+    let rows = Rows::new(&rt, rt.alloc());
     rows.expects(
-        &[storage(StorageFormat::R64Uint)],
+        [storage(StorageFormat::R64Uint)],
         load(),
         Ok(vector(QUAD, Scalar::U64)),
     );
     rows.expects(
-        &[storage(StorageFormat::Rgb10a2Uint)],
+        [storage(StorageFormat::Rgb10a2Uint)],
         load(),
         Ok(vector(QUAD, Scalar::U32)),
     );
     rows.expects(
-        &[storage(StorageFormat::Rgba8Sint)],
+        [storage(StorageFormat::Rgba8Sint)],
         load(),
         Ok(vector(QUAD, Scalar::I32)),
     );
     rows.expects(
-        &[storage(StorageFormat::Bgra8Unorm)],
+        [storage(StorageFormat::Bgra8Unorm)],
         load(),
         Ok(vector(QUAD, Scalar::F32)),
     );
@@ -144,24 +124,18 @@ fn formats_rows<R: Abort>(rows: &Rows<'_, R>) {
 
 #[test]
 fn queries(rt: HostRuntime) {
-    let module = module(&rt, rt.alloc());
-    let locals = Arena::new(rt.alloc());
-    let context = ResolveContext::with_locals(&module, &locals, &[]);
-    queries_rows(&Rows::new(&rt, &context, rt.alloc()))
-}
-
-fn queries_rows<R: Abort>(rows: &Rows<'_, R>) {
-    rows.expects(&[outside()], extent(), Ok(scalar(Scalar::U32)));
+    let rows = Rows::new(&rt, rt.alloc());
+    rows.expects([outside()], extent(), Ok(scalar(Scalar::U32)));
     rows.expects(
-        &[sampled()],
+        [sampled()],
         extent(),
         Ok(vector(VectorSize::Bi, Scalar::U32)),
     );
     rows.expects(
-        &[storage(StorageFormat::R8Unorm)],
+        [storage(StorageFormat::R8Unorm)],
         extent(),
         Ok(vector(VectorSize::Tri, Scalar::U32)),
     );
-    rows.expects(&[of(2)], extent(), Err(ResolveError::InvalidImage(at(0))));
-    rows.expects(&[], query(ImageQuery::NumLevels), Ok(scalar(Scalar::U32)));
+    rows.expects([of(2)], extent(), Err(ResolveError::InvalidImage(at(0))));
+    rows.expects([], query(ImageQuery::NumLevels), Ok(scalar(Scalar::U32)));
 }

@@ -5,7 +5,7 @@ use shader_ir::{
     AddressSpace, Block, Constant, Expression, Function, FunctionArgument, FunctionResult,
     GlobalVariable, Items, Literal, LocalVariable, Map, Module, Override, Scalar, VectorSize, mark,
 };
-use shader_resolve::{ResolveContext, ResolveError};
+use shader_resolve::ResolveError;
 use std::alloc::Global;
 use std::process::Abort;
 
@@ -15,47 +15,49 @@ fn literal(literal: Literal) -> Expression {
 
 #[test]
 fn literals(rt: HostRuntime) {
-    let module = module(&rt, rt.alloc());
-    let locals = Arena::new(rt.alloc());
-    let context = ResolveContext::with_locals(&module, &locals, &[]);
-    literals_rows(&Rows::new(&rt, &context, rt.alloc()))
-}
-
-fn literals_rows<R: Abort>(rows: &Rows<'_, R>) {
-    rows.expects(&[], literal(Literal::F64(0)), Ok(scalar(Scalar::F64)));
-    rows.expects(&[], literal(Literal::F16(0)), Ok(scalar(Scalar::F16)));
+    let rows = Rows::new(&rt, rt.alloc());
+    rows.expects([], literal(Literal::F64(0)), Ok(scalar(Scalar::F64)));
+    rows.expects([], literal(Literal::F16(0)), Ok(scalar(Scalar::F16)));
     rows.expects(
-        &[],
+        [],
         literal(Literal::AbstractFloat(0)),
         Ok(scalar(Scalar::ABSTRACT_FLOAT)),
     );
-    rows.expects(&[], literal(Literal::U32(0)), Ok(scalar(Scalar::U32)));
-    rows.expects(&[], literal(Literal::I64(0)), Ok(scalar(Scalar::I64)));
+    rows.expects([], literal(Literal::U32(0)), Ok(scalar(Scalar::U32)));
+    rows.expects([], literal(Literal::I64(0)), Ok(scalar(Scalar::I64)));
     rows.expects(
-        &[],
+        [],
         literal(Literal::AbstractInt(0)),
         Ok(scalar(Scalar::ABSTRACT_INT)),
     );
-    rows.expects(&[], literal(Literal::Bool(true)), Ok(scalar(Scalar::BOOL)));
+    rows.expects([], literal(Literal::Bool(true)), Ok(scalar(Scalar::BOOL)));
+}
+
+fn argument() -> FunctionArgument {
+    FunctionArgument {
+        name: None,
+        ty: Handle::from_index(1),
+        binding: None,
+    }
 }
 
 #[test]
 fn arguments(rt: HostRuntime) {
-    let module = module(&rt, rt.alloc());
-    let locals = Arena::new(rt.alloc());
-    let arguments = [FunctionArgument {
-        name: None,
-        ty: Handle::from_index(1),
-        binding: None,
-    }];
-    let context = ResolveContext::with_locals(&module, &locals, &arguments);
-    arguments_rows(&Rows::new(&rt, &context, rt.alloc()))
-}
-
-fn arguments_rows<R: Abort>(rows: &Rows<'_, R>) {
-    rows.expects(&[], Expression::FunctionArgument(0), Ok(of(1)));
-    rows.expects(
-        &[],
+    let alloc = rt.alloc();
+    let rows = Rows::new(&rt, alloc);
+    rows.expects_in(
+        module(&rt, alloc),
+        Arena::new(alloc),
+        [argument()],
+        [],
+        Expression::FunctionArgument(0),
+        Ok(of(1)),
+    );
+    rows.expects_in(
+        module(&rt, alloc),
+        Arena::new(alloc),
+        [argument()],
+        [],
         Expression::FunctionArgument(1),
         Err(ResolveError::FunctionArgumentNotFound(1)),
     );
@@ -63,21 +65,15 @@ fn arguments_rows<R: Abort>(rows: &Rows<'_, R>) {
 
 #[test]
 fn results(rt: HostRuntime) {
-    let module = module(&rt, rt.alloc());
-    let locals = Arena::new(rt.alloc());
-    let context = ResolveContext::with_locals(&module, &locals, &[]);
-    results_rows(&Rows::new(&rt, &context, rt.alloc()))
-}
-
-fn results_rows<R: Abort>(rows: &Rows<'_, R>) {
-    rows.expects(&[], Expression::ArrayLength(at(9)), Ok(scalar(Scalar::U32)));
+    let rows = Rows::new(&rt, rt.alloc());
+    rows.expects([], Expression::ArrayLength(at(9)), Ok(scalar(Scalar::U32)));
     rows.expects(
-        &[],
+        [],
         Expression::RayQueryProceedResult,
         Ok(scalar(Scalar::BOOL)),
     );
     rows.expects(
-        &[],
+        [],
         Expression::SubgroupBallotResult,
         Ok(vector(VectorSize::Quad, Scalar::U32)),
     );
@@ -85,12 +81,12 @@ fn results_rows<R: Abort>(rows: &Rows<'_, R>) {
         query: at(9),
         committed: true,
     };
-    rows.expects(&[], intersection, Ok(of(5)));
+    rows.expects([], intersection, Ok(of(5)));
     let positions = Expression::RayQueryVertexPositions {
         query: at(9),
         committed: true,
     };
-    rows.expects(&[], positions, Err(ResolveError::MissingSpecialType));
+    rows.expects([], positions, Err(ResolveError::MissingSpecialType));
 }
 
 fn composed(alloc: Global, ty: Handle<mark::Type>) -> Expression {
@@ -102,26 +98,21 @@ fn composed(alloc: Global, ty: Handle<mark::Type>) -> Expression {
 
 #[test]
 fn named_types(rt: HostRuntime) {
-    let module = module(&rt, rt.alloc());
-    let locals = Arena::new(rt.alloc());
-    let context = ResolveContext::with_locals(&module, &locals, &[]);
-    let made = composed(rt.alloc(), Handle::from_index(2));
-    let rows = Rows::new(&rt, &context, rt.alloc());
-    rows.expects(&[], made, Ok(of(2)));
-    named_types_rows(&rows)
-}
-
-fn named_types_rows<R: Abort>(rows: &Rows<'_, R>) {
     let ty = Handle::from_index(2);
     let comparison = false;
-    rows.expects(&[], Expression::ZeroValue(ty), Ok(of(2)));
-    rows.expects(&[], Expression::AtomicResult { ty, comparison }, Ok(of(2)));
-    rows.expects(
-        &[],
-        Expression::WorkGroupUniformLoadResult { ty },
-        Ok(of(2)),
-    );
-    rows.expects(&[], Expression::SubgroupOperationResult { ty }, Ok(of(2)));
+    let rows = Rows::new(&rt, rt.alloc());
+    rows.expects([], composed(rt.alloc(), ty), Ok(of(2)));
+    rows.expects([], Expression::ZeroValue(ty), Ok(of(2)));
+    rows.expects([], Expression::AtomicResult { ty, comparison }, Ok(of(2)));
+    rows.expects([], Expression::WorkGroupUniformLoadResult { ty }, Ok(of(2)));
+    rows.expects([], Expression::SubgroupOperationResult { ty }, Ok(of(2)));
+}
+
+/// The module with a constant and an override.
+fn with_data(rt: &impl Abort, alloc: Global) -> Module {
+    let mut module = module(rt, alloc);
+    add_data(rt, &mut module);
+    module
 }
 
 fn add_data(rt: &impl Abort, module: &mut Module) {
@@ -146,30 +137,41 @@ fn add_data(rt: &impl Abort, module: &mut Module) {
         .expect(rt, WANT);
 }
 
-#[test]
-fn data(rt: HostRuntime) {
-    let mut module = module(&rt, rt.alloc());
-    add_data(&rt, &mut module);
-    let mut locals = Arena::new(rt.alloc());
+fn one_local(rt: &impl Abort, alloc: Global) -> Arena<LocalVariable, mark::LocalVariable> {
+    let mut locals = Arena::new(alloc);
     locals
         .append(LocalVariable {
             name: None,
             ty: Handle::from_index(2),
             init: None,
         })
-        .expect(&rt, WANT);
-    let context = ResolveContext::with_locals(&module, &locals, &[]);
-    data_rows(&Rows::new(&rt, &context, rt.alloc()))
+        .expect(rt, WANT);
+    locals
 }
 
-fn data_rows<R: Abort>(rows: &Rows<'_, R>) {
-    let here = pointer(2, AddressSpace::Function);
-    rows.expects(&[], Expression::Constant(Handle::from_index(0)), Ok(of(2)));
-    rows.expects(&[], Expression::Override(Handle::from_index(0)), Ok(of(2)));
-    rows.expects(
-        &[],
+#[test]
+fn data(rt: HostRuntime) {
+    let alloc = rt.alloc();
+    let rows = Rows::new(&rt, alloc);
+    rows.expects_of(
+        with_data(&rt, alloc),
+        [],
+        Expression::Constant(Handle::from_index(0)),
+        Ok(of(2)),
+    );
+    rows.expects_of(
+        with_data(&rt, alloc),
+        [],
+        Expression::Override(Handle::from_index(0)),
+        Ok(of(2)),
+    );
+    rows.expects_in(
+        with_data(&rt, alloc),
+        one_local(&rt, alloc),
+        [],
+        [],
         Expression::LocalVariable(Handle::from_index(0)),
-        Ok(here),
+        Ok(pointer(2, AddressSpace::Function)),
     );
 }
 
@@ -197,29 +199,30 @@ fn add_function(
         .expect(rt, WANT);
 }
 
-#[test]
-fn calls(rt: HostRuntime) {
-    let mut module = module(&rt, rt.alloc());
+/// The module with a function that returns nothing, and one that returns a pair.
+fn with_functions(rt: &impl Abort, alloc: Global) -> Module {
+    let mut module = module(rt, alloc);
     let result = FunctionResult {
         ty: Handle::from_index(1),
         binding: None,
     };
-    add_function(&rt, rt.alloc(), &mut module, None);
-    add_function(&rt, rt.alloc(), &mut module, Some(result));
-    let locals = Arena::new(rt.alloc());
-    let context = ResolveContext::with_locals(&module, &locals, &[]);
-    call_rows(&Rows::new(&rt, &context, rt.alloc()))
+    add_function(rt, alloc, &mut module, None);
+    add_function(rt, alloc, &mut module, Some(result));
+    module
 }
 
-fn call_rows<R: Abort>(rows: &Rows<'_, R>) {
-    let void = ResolveError::FunctionReturnsVoid;
-    rows.expects(
-        &[],
+#[test]
+fn calls(rt: HostRuntime) {
+    let rows = Rows::new(&rt, rt.alloc());
+    rows.expects_of(
+        with_functions(&rt, rt.alloc()),
+        [],
         Expression::CallResult(Handle::from_index(0)),
-        Err(void),
+        Err(ResolveError::FunctionReturnsVoid),
     );
-    rows.expects(
-        &[],
+    rows.expects_of(
+        with_functions(&rt, rt.alloc()),
+        [],
         Expression::CallResult(Handle::from_index(1)),
         Ok(of(1)),
     );
@@ -238,26 +241,27 @@ fn add_global(rt: &impl Abort, module: &mut Module, space: AddressSpace) {
         .expect(rt, WANT);
 }
 
-#[test]
-fn globals(rt: HostRuntime) {
-    let mut module = module(&rt, rt.alloc());
-    add_global(&rt, &mut module, AddressSpace::Handle);
-    add_global(&rt, &mut module, AddressSpace::WorkGroup);
-    let locals = Arena::new(rt.alloc());
-    let context = ResolveContext::with_locals(&module, &locals, &[]);
-    global_rows(&Rows::new(&rt, &context, rt.alloc()))
+/// The module with a global variable for a handle, and one that a group shares.
+fn with_globals(rt: &impl Abort, alloc: Global) -> Module {
+    let mut module = module(rt, alloc);
+    add_global(rt, &mut module, AddressSpace::Handle);
+    add_global(rt, &mut module, AddressSpace::WorkGroup);
+    module
 }
 
-fn global_rows<R: Abort>(rows: &Rows<'_, R>) {
-    let there = pointer(2, AddressSpace::WorkGroup);
-    rows.expects(
-        &[],
+#[test]
+fn globals(rt: HostRuntime) {
+    let rows = Rows::new(&rt, rt.alloc());
+    rows.expects_of(
+        with_globals(&rt, rt.alloc()),
+        [],
         Expression::GlobalVariable(Handle::from_index(0)),
         Ok(of(2)),
     );
-    rows.expects(
-        &[],
+    rows.expects_of(
+        with_globals(&rt, rt.alloc()),
+        [],
         Expression::GlobalVariable(Handle::from_index(1)),
-        Ok(there),
+        Ok(pointer(2, AddressSpace::WorkGroup)),
     );
 }

@@ -55,12 +55,46 @@ fn with_expression(rt: &impl Abort, alloc: Global, expression: Expression) -> Mo
     made
 }
 
+/// Asserts what `check_module` says of a module.
+fn expects(rt: &impl Abort, module: Module, wanted: Result<(), ModuleFault>) {
+    assert!(rt; check_module(&module) == wanted);
+}
+
 fn call(alloc: Global) -> Statement {
     Statement::Call {
         function: Handle::from_index(0),
         arguments: Items::from(Vec::new(alloc)),
         result: None,
     }
+}
+
+/// A function of an argument of the first type.
+fn of_one_argument(rt: &impl Abort, alloc: Global) -> Function {
+    let mut arguments = Vec::new(alloc);
+    arguments
+        .push(FunctionArgument {
+            name: None,
+            ty: Handle::from_index(0),
+            binding: None,
+        })
+        .expect(rt, WANT);
+    function(alloc, arguments, Vec::new(alloc))
+}
+
+/// An entry point that calls the first function.
+fn entry_point(rt: &impl Abort, alloc: Global) -> EntryPoint {
+    let body = one_statement(rt, alloc, call(alloc));
+    EntryPoint {
+        name: Name::from("main".to_string(alloc).expect(rt, WANT)),
+        stage: ShaderStage::Compute,
+        function: function(alloc, Vec::new(alloc), body),
+    }
+}
+
+fn add_entry_point(rt: &impl Abort, alloc: Global, module: &mut Module) {
+    let mut entry_points = Vec::new(alloc);
+    entry_points.push(entry_point(rt, alloc)).expect(rt, WANT);
+    module.entry_points = Items::from(entry_points);
 }
 
 fn one_statement(rt: &impl Abort, alloc: Global, statement: Statement) -> Vec<Statement> {
@@ -71,14 +105,14 @@ fn one_statement(rt: &impl Abort, alloc: Global, statement: Statement) -> Vec<St
 
 #[test]
 fn accepts_the_empty_module(rt: HostRuntime) {
-    assert!(rt; check_module(&empty_module(rt.alloc())) == Ok(()));
+    expects(&rt, empty_module(rt.alloc()), Ok(()));
 }
 
 #[test]
 fn names_a_global_that_is_not_there(rt: HostRuntime) {
     let expression = Expression::GlobalVariable(Handle::from_index(0));
     let module = with_expression(&rt, rt.alloc(), expression);
-    assert!(rt; check_module(&module) == Err(ModuleFault::HandleOutOfRange));
+    expects(&rt, module, Err(ModuleFault::HandleOutOfRange));
 }
 
 #[test]
@@ -94,7 +128,7 @@ fn names_an_array_of_itself(rt: HostRuntime) {
             stride: 4,
         },
     );
-    assert!(rt; check_module(&module) == Err(ModuleFault::TypeNotEarlier));
+    expects(&rt, module, Err(ModuleFault::TypeNotEarlier));
 }
 
 #[test]
@@ -104,7 +138,7 @@ fn names_an_operand_of_itself(rt: HostRuntime) {
         expr: at(0),
     };
     let module = with_expression(&rt, rt.alloc(), expression);
-    assert!(rt; check_module(&module) == Err(ModuleFault::OperandNotEarlier));
+    expects(&rt, module, Err(ModuleFault::OperandNotEarlier));
 }
 
 #[test]
@@ -113,43 +147,56 @@ fn names_a_function_that_calls_itself(rt: HostRuntime) {
     let mut module = empty_module(alloc);
     let body = one_statement(&rt, alloc, call(alloc));
     add_function(&rt, &mut module, function(alloc, Vec::new(alloc), body));
-    assert!(rt; check_module(&module) == Err(ModuleFault::CalleeNotEarlier));
+    expects(&rt, module, Err(ModuleFault::CalleeNotEarlier));
 }
 
-#[test]
-fn names_a_call_inside_blocks(rt: HostRuntime) {
-    let alloc = rt.alloc();
-    let mut module = empty_module(alloc);
+/// A switch whose one case calls the first function.
+fn switch(rt: &impl Abort, alloc: Global) -> Statement {
     let mut cases = Vec::new(alloc);
     cases
         .push(SwitchCase {
             value: SwitchValue::Default,
             body: Block {
-                statements: one_statement(&rt, alloc, call(alloc)),
+                statements: one_statement(rt, alloc, call(alloc)),
             },
             fall_through: false,
         })
-        .expect(&rt, WANT);
-    let switch = Statement::Switch {
+        .expect(rt, WANT);
+    Statement::Switch {
         selector: at(0),
         cases,
-    };
-    let inside = Statement::Loop {
+    }
+}
+
+/// A loop that goes on with the switch.
+fn around_switch(rt: &impl Abort, alloc: Global) -> Statement {
+    Statement::Loop {
         body: Block {
             statements: Vec::new(alloc),
         },
         continuing: Block {
-            statements: one_statement(&rt, alloc, switch),
+            statements: one_statement(rt, alloc, switch(rt, alloc)),
         },
         break_if: None,
-    };
-    let mut one = function(alloc, Vec::new(alloc), one_statement(&rt, alloc, inside));
+    }
+}
+
+/// A function that calls the first one inside blocks.
+fn of_blocks(rt: &impl Abort, alloc: Global) -> Function {
+    let body = one_statement(rt, alloc, around_switch(rt, alloc));
+    let mut one = function(alloc, Vec::new(alloc), body);
     assert!(rt; one.expressions.len() < 1000);
     one.expressions
         .append(Expression::SubgroupBallotResult)
-        .expect(&rt, WANT);
-    add_function(&rt, &mut module, one);
-    assert!(rt; check_module(&module) == Err(ModuleFault::CalleeNotEarlier));
+        .expect(rt, WANT);
+    one
+}
+
+#[test]
+fn names_a_call_inside_blocks(rt: HostRuntime) {
+    let mut module = empty_module(rt.alloc());
+    add_function(&rt, &mut module, of_blocks(&rt, rt.alloc()));
+    expects(&rt, module, Err(ModuleFault::CalleeNotEarlier));
 }
 
 /// A call of function 0 without arguments, where it takes one.
@@ -158,23 +205,11 @@ fn names_a_call_with_too_few_arguments(rt: HostRuntime) {
     let alloc = rt.alloc();
     let mut module = empty_module(alloc);
     add_type(&rt, &mut module, TypeInner::Scalar(Scalar::F32));
-    let mut arguments = Vec::new(alloc);
-    arguments
-        .push(FunctionArgument {
-            name: None,
-            ty: Handle::from_index(0),
-            binding: None,
-        })
-        .expect(&rt, WANT);
-    add_function(
-        &rt,
-        &mut module,
-        function(alloc, arguments, Vec::new(alloc)),
-    );
+    add_function(&rt, &mut module, of_one_argument(&rt, alloc));
     assert!(rt; check_module(&module) == Ok(()));
     let body = one_statement(&rt, alloc, call(alloc));
     add_function(&rt, &mut module, function(alloc, Vec::new(alloc), body));
-    assert!(rt; check_module(&module) == Err(ModuleFault::ArgumentCount));
+    expects(&rt, module, Err(ModuleFault::ArgumentCount));
 }
 
 #[test]
@@ -189,7 +224,7 @@ fn names_a_filter_that_is_its_parent(rt: HostRuntime) {
             parent: Some(Handle::from_index(0)),
         })
         .expect(&rt, WANT);
-    assert!(rt; check_module(&module) == Err(ModuleFault::FilterNotEarlier));
+    expects(&rt, module, Err(ModuleFault::FilterNotEarlier));
 }
 
 #[test]
@@ -206,20 +241,8 @@ fn names_an_argument_of_a_value_pointer(rt: HostRuntime) {
         },
     );
     assert!(rt; check_module(&module) == Ok(()));
-    let mut arguments = Vec::new(alloc);
-    arguments
-        .push(FunctionArgument {
-            name: None,
-            ty: Handle::from_index(0),
-            binding: None,
-        })
-        .expect(&rt, WANT);
-    add_function(
-        &rt,
-        &mut module,
-        function(alloc, arguments, Vec::new(alloc)),
-    );
-    assert!(rt; check_module(&module) == Err(ModuleFault::ValuePointerArgument));
+    add_function(&rt, &mut module, of_one_argument(&rt, alloc));
+    expects(&rt, module, Err(ModuleFault::ValuePointerArgument));
 }
 
 #[test]
@@ -228,7 +251,7 @@ fn names_an_emit_past_the_expressions(rt: HostRuntime) {
     let mut module = empty_module(alloc);
     let body = one_statement(&rt, alloc, Statement::Emit(Range::new(at(0), at(1))));
     add_function(&rt, &mut module, function(alloc, Vec::new(alloc), body));
-    assert!(rt; check_module(&module) == Err(ModuleFault::EmitRange));
+    expects(&rt, module, Err(ModuleFault::EmitRange));
 }
 
 /// To an entry point all functions are earlier, and a backward range emits nothing.
@@ -238,42 +261,48 @@ fn accepts_an_entry_point_that_calls(rt: HostRuntime) {
     let mut module = empty_module(alloc);
     let nothing = one_statement(&rt, alloc, Statement::Emit(Range::new(at(7), at(0))));
     add_function(&rt, &mut module, function(alloc, Vec::new(alloc), nothing));
-    let mut entry_points = Vec::new(alloc);
-    let body = one_statement(&rt, alloc, call(alloc));
-    entry_points
-        .push(EntryPoint {
-            name: Name::from("main".to_string(alloc).expect(&rt, WANT)),
-            stage: ShaderStage::Compute,
-            function: function(alloc, Vec::new(alloc), body),
-        })
-        .expect(&rt, WANT);
-    module.entry_points = Items::from(entry_points);
-    assert!(rt; check_module(&module) == Ok(()));
+    add_entry_point(&rt, alloc, &mut module);
+    expects(&rt, module, Ok(()));
+}
+
+fn add_global_expression(rt: &impl Abort, module: &mut Module, expression: Expression) {
+    assert!(rt; module.global_expressions.len() < 1000);
+    module
+        .global_expressions
+        .append(expression)
+        .expect(rt, WANT);
 }
 
 /// A global expression has no locals, and no function is earlier.
 #[test]
 fn names_faults_of_global_expressions(rt: HostRuntime) {
     let alloc = rt.alloc();
-    let mut local = empty_module(alloc);
-    assert!(rt; local.global_expressions.len() < 1000);
-    local
-        .global_expressions
-        .append(Expression::LocalVariable(Handle::from_index(0)))
-        .expect(&rt, WANT);
-    assert!(rt; check_module(&local) == Err(ModuleFault::HandleOutOfRange));
-    let mut called = empty_module(alloc);
-    add_function(
+    expects(
         &rt,
-        &mut called,
-        function(alloc, Vec::new(alloc), Vec::new(alloc)),
+        with_global_local(&rt, alloc),
+        Err(ModuleFault::HandleOutOfRange),
     );
-    assert!(rt; called.global_expressions.len() < 1000);
-    called
-        .global_expressions
-        .append(Expression::CallResult(Handle::from_index(0)))
-        .expect(&rt, WANT);
-    assert!(rt; check_module(&called) == Err(ModuleFault::CalleeNotEarlier));
+    expects(
+        &rt,
+        with_global_call(&rt, alloc),
+        Err(ModuleFault::CalleeNotEarlier),
+    );
+}
+
+fn with_global_local(rt: &impl Abort, alloc: Global) -> Module {
+    let mut module = empty_module(alloc);
+    let local = Expression::LocalVariable(Handle::from_index(0));
+    add_global_expression(rt, &mut module, local);
+    module
+}
+
+fn with_global_call(rt: &impl Abort, alloc: Global) -> Module {
+    let mut module = empty_module(alloc);
+    let called = function(alloc, Vec::new(alloc), Vec::new(alloc));
+    add_function(rt, &mut module, called);
+    let result = Expression::CallResult(Handle::from_index(0));
+    add_global_expression(rt, &mut module, result);
+    module
 }
 
 /// A call of a function that isn't there.
@@ -281,15 +310,6 @@ fn names_faults_of_global_expressions(rt: HostRuntime) {
 fn names_a_callee_that_is_not_there(rt: HostRuntime) {
     let alloc = rt.alloc();
     let mut module = empty_module(alloc);
-    let body = one_statement(&rt, alloc, call(alloc));
-    let mut entry_points = Vec::new(alloc);
-    entry_points
-        .push(EntryPoint {
-            name: Name::from("main".to_string(alloc).expect(&rt, WANT)),
-            stage: ShaderStage::Compute,
-            function: function(alloc, Vec::new(alloc), body),
-        })
-        .expect(&rt, WANT);
-    module.entry_points = Items::from(entry_points);
-    assert!(rt; check_module(&module) == Err(ModuleFault::HandleOutOfRange));
+    add_entry_point(&rt, alloc, &mut module);
+    expects(&rt, module, Err(ModuleFault::HandleOutOfRange));
 }

@@ -1,13 +1,11 @@
 //! Rows of operations and conversions.
-use crate::tests::rows::{Rows, at, matrix, module, of, scalar, vector};
-use shader_arena::Arena;
+use crate::tests::rows::{Rows, at, matrix, of, scalar, vector};
 use shader_ir::{
     BinaryOperator, CooperativeRole, CooperativeSize, DerivativeAxis, DerivativeControl,
     Expression, RelationalFunction, Scalar, ScalarKind, TypeInner, TypeResolution, UnaryOperator,
     VectorSize,
 };
-use shader_resolve::{ResolveContext, ResolveError};
-use std::process::Abort;
+use shader_resolve::ResolveError;
 
 const F32: Scalar = Scalar::F32;
 
@@ -41,32 +39,26 @@ fn product() -> Expression {
 
 #[test]
 fn matrix_products(rt: HostRuntime) {
-    let module = module(&rt, rt.alloc());
-    let locals = Arena::new(rt.alloc());
-    let context = ResolveContext::with_locals(&module, &locals, &[]);
-    matrix_products_rows(&Rows::new(&rt, &context, rt.alloc()))
-}
-
-fn matrix_products_rows<R: Abort>(rows: &Rows<'_, R>) {
+    let rows = Rows::new(&rt, rt.alloc());
     let tile = CooperativeSize::Eight;
     let wide = CooperativeSize::Sixteen;
     rows.expects(
-        &[matrix(BI, TRI, F32), matrix(QUAD, BI, F32)],
+        [matrix(BI, TRI, F32), matrix(QUAD, BI, F32)],
         product(),
         Ok(matrix(QUAD, TRI, F32)),
     );
     rows.expects(
-        &[matrix(BI, TRI, F32), vector(BI, F32)],
+        [matrix(BI, TRI, F32), vector(BI, F32)],
         product(),
         Ok(vector(TRI, F32)),
     );
     rows.expects(
-        &[vector(TRI, F32), matrix(BI, TRI, F32)],
+        [vector(TRI, F32), matrix(BI, TRI, F32)],
         product(),
         Ok(vector(BI, F32)),
     );
     rows.expects(
-        &[cooperative(tile, wide), cooperative(wide, tile)],
+        [cooperative(tile, wide), cooperative(wide, tile)],
         product(),
         Ok(cooperative(wide, wide)),
     );
@@ -74,17 +66,11 @@ fn matrix_products_rows<R: Abort>(rows: &Rows<'_, R>) {
 
 #[test]
 fn products_by_scalars(rt: HostRuntime) {
-    let module = module(&rt, rt.alloc());
-    let locals = Arena::new(rt.alloc());
-    let context = ResolveContext::with_locals(&module, &locals, &[]);
-    products_by_scalars_rows(&Rows::new(&rt, &context, rt.alloc()))
-}
-
-fn products_by_scalars_rows<R: Abort>(rows: &Rows<'_, R>) {
-    rows.expects(&[of(2), of(0)], product(), Ok(of(0)));
-    rows.expects(&[of(0), of(2)], product(), Ok(of(0)));
-    rows.expects(&[of(0), vector(TRI, F32)], product(), Ok(of(0)));
-    rows.expects_incompatible(&[of(4), of(4)], product(), "Multiply");
+    let rows = Rows::new(&rt, rt.alloc());
+    rows.expects([of(2), of(0)], product(), Ok(of(0)));
+    rows.expects([of(0), of(2)], product(), Ok(of(0)));
+    rows.expects([of(0), vector(TRI, F32)], product(), Ok(of(0)));
+    rows.expects_incompatible([of(4), of(4)], product(), "Multiply");
 }
 
 fn cast() -> Expression {
@@ -97,21 +83,15 @@ fn cast() -> Expression {
 
 #[test]
 fn conversions(rt: HostRuntime) {
-    let module = module(&rt, rt.alloc());
-    let locals = Arena::new(rt.alloc());
-    let context = ResolveContext::with_locals(&module, &locals, &[]);
-    conversions_rows(&Rows::new(&rt, &context, rt.alloc()))
-}
-
-fn conversions_rows<R: Abort>(rows: &Rows<'_, R>) {
+    let rows = Rows::new(&rt, rt.alloc());
     rows.expects(
-        &[matrix(BI, BI, F32)],
+        [matrix(BI, BI, F32)],
         cast(),
         Ok(matrix(BI, BI, Scalar::F16)),
     );
-    rows.expects(&[of(2)], cast(), Ok(scalar(Scalar::I16)));
-    rows.expects(&[of(0)], cast(), Ok(vector(TRI, Scalar::I16)));
-    rows.expects_incompatible(&[of(4)], cast(), "As");
+    rows.expects([of(2)], cast(), Ok(scalar(Scalar::I16)));
+    rows.expects([of(0)], cast(), Ok(vector(TRI, Scalar::I16)));
+    rows.expects_incompatible([of(4)], cast(), "As");
 }
 
 fn relational(fun: RelationalFunction) -> Expression {
@@ -123,38 +103,32 @@ fn relational(fun: RelationalFunction) -> Expression {
 
 #[test]
 fn tests(rt: HostRuntime) {
-    let module = module(&rt, rt.alloc());
-    let locals = Arena::new(rt.alloc());
-    let context = ResolveContext::with_locals(&module, &locals, &[]);
-    tests_rows(&Rows::new(&rt, &context, rt.alloc()))
-}
-
-fn tests_rows<R: Abort>(rows: &Rows<'_, R>) {
+    let rows = Rows::new(&rt, rt.alloc());
     let truth = scalar(Scalar::BOOL);
     rows.expects(
-        &[of(0)],
+        [of(0)],
         binary(BinaryOperator::Less),
         Ok(vector(TRI, Scalar::BOOL)),
     );
-    rows.expects(&[of(2)], binary(BinaryOperator::Equal), Ok(truth));
+    rows.expects([of(2)], binary(BinaryOperator::Equal), Ok(truth));
     rows.expects_incompatible(
-        &[of(4)],
+        [of(4)],
         binary(BinaryOperator::GreaterEqual),
         "GreaterEqual",
     );
     rows.expects(
-        &[of(2)],
+        [of(2)],
         relational(RelationalFunction::IsNan),
         Ok(scalar(Scalar::BOOL)),
     );
     rows.expects(
-        &[of(1)],
+        [of(1)],
         relational(RelationalFunction::IsInf),
         Ok(vector(BI, Scalar::BOOL)),
     );
-    rows.expects_incompatible(&[of(5)], relational(RelationalFunction::IsNan), "IsNan");
+    rows.expects_incompatible([of(5)], relational(RelationalFunction::IsNan), "IsNan");
     rows.expects(
-        &[],
+        [],
         relational(RelationalFunction::All),
         Ok(scalar(Scalar::BOOL)),
     );
@@ -162,49 +136,37 @@ fn tests_rows<R: Abort>(rows: &Rows<'_, R>) {
 
 #[test]
 fn logic(rt: HostRuntime) {
-    let module = module(&rt, rt.alloc());
-    let locals = Arena::new(rt.alloc());
-    let context = ResolveContext::with_locals(&module, &locals, &[]);
-    logic_rows(&Rows::new(&rt, &context, rt.alloc()))
-}
-
-fn logic_rows<R: Abort>(rows: &Rows<'_, R>) {
+    let rows = Rows::new(&rt, rt.alloc());
     let truth = [scalar(Scalar::BOOL)];
     rows.expects(
-        &truth,
+        truth,
         binary(BinaryOperator::LogicalOr),
         Ok(scalar(Scalar::BOOL)),
     );
-    rows.expects_incompatible(&[of(2)], binary(BinaryOperator::LogicalAnd), "LogicalAnd");
+    rows.expects_incompatible([of(2)], binary(BinaryOperator::LogicalAnd), "LogicalAnd");
 }
 
 #[test]
 fn copies(rt: HostRuntime) {
-    let module = module(&rt, rt.alloc());
-    let locals = Arena::new(rt.alloc());
-    let context = ResolveContext::with_locals(&module, &locals, &[]);
-    copies_rows(&Rows::new(&rt, &context, rt.alloc()))
-}
-
-fn copies_rows<R: Abort>(rows: &Rows<'_, R>) {
+    let rows = Rows::new(&rt, rt.alloc());
     let negated = Expression::Unary {
         op: UnaryOperator::Negate,
         expr: at(0),
     };
-    rows.expects(&[of(2)], negated, Ok(of(2)));
+    rows.expects([of(2)], negated, Ok(of(2)));
     let derivative = Expression::Derivative {
         axis: DerivativeAxis::X,
         ctrl: DerivativeControl::None,
         expr: at(0),
     };
-    rows.expects(&[of(1)], derivative, Ok(of(1)));
+    rows.expects([of(1)], derivative, Ok(of(1)));
     let select = Expression::Select {
         condition: at(9),
         accept: at(1),
         reject: at(0),
     };
-    rows.expects(&[of(1), of(2)], select, Ok(of(2)));
-    rows.expects(&[of(4)], binary(BinaryOperator::Add), Ok(of(4)));
+    rows.expects([of(1), of(2)], select, Ok(of(2)));
+    rows.expects([of(4)], binary(BinaryOperator::Add), Ok(of(4)));
 }
 
 fn multiply_add() -> Expression {
@@ -217,17 +179,11 @@ fn multiply_add() -> Expression {
 
 #[test]
 fn sums_of_products(rt: HostRuntime) {
-    let module = module(&rt, rt.alloc());
-    let locals = Arena::new(rt.alloc());
-    let context = ResolveContext::with_locals(&module, &locals, &[]);
-    sums_of_products_rows(&Rows::new(&rt, &context, rt.alloc()))
-}
-
-fn sums_of_products_rows<R: Abort>(rows: &Rows<'_, R>) {
-    rows.expects(&[of(1), of(2)], multiply_add(), Ok(of(2)));
+    let rows = Rows::new(&rt, rt.alloc());
+    rows.expects([of(1), of(2)], multiply_add(), Ok(of(2)));
     // The third operand isn't told.
     rows.expects(
-        &[of(1)],
+        [of(1)],
         multiply_add(),
         Err(ResolveError::FunctionArgumentNotFound(0)),
     );

@@ -17,8 +17,8 @@ use std::test::Fail;
 
 type Answer = Option<Result<TypeResolution, ResolveError>>;
 
-/// The answer for an expression of a module of nothing, asked again where memory was refused.
-fn answer<R: Abort + Print>(
+/// The answer for an expression in a context, asked again where memory was refused.
+fn answer_in<R: Abort + Print>(
     rt: &R,
     context: &ResolveContext<'_>,
     alloc: Global,
@@ -33,18 +33,35 @@ fn answer<R: Abort + Print>(
     Ok(resolve_held(context, alloc, held, expr))
 }
 
-fn is_incompatible(answer: &Answer, words: &str) -> bool {
+/// The same in a module of nothing.
+fn answer<R: Abort + Print>(
+    rt: &R,
+    alloc: Global,
+    held: [TypeResolution; 2],
+    expr: Expression,
+) -> Result<Answer, Fail> {
+    let module = empty_module(alloc);
+    let locals = Arena::new(alloc);
+    let context = ResolveContext::with_locals(&module, &locals, &[]);
+    answer_in(rt, &context, alloc, &held, &expr)
+}
+
+fn is_incompatible(answer: Answer, words: &str) -> bool {
     match answer {
         Some(Err(ResolveError::IncompatibleOperands(told))) => told.as_str() == words,
         _ => false,
     }
 }
 
-fn is_invalid(answer: &Answer, words: &str) -> bool {
+fn is_invalid(answer: Answer, words: &str) -> bool {
     match answer {
         Some(Err(ResolveError::BuiltinArgumentsInvalid(told))) => told.as_str() == words,
         _ => false,
     }
+}
+
+fn is_type(answer: Answer, wanted: TypeResolution) -> bool {
+    answer == Some(Ok(wanted))
 }
 
 fn call(fun: MathFunction) -> Expression {
@@ -57,71 +74,62 @@ fn call(fun: MathFunction) -> Expression {
     }
 }
 
-#[test]
-fn of_operations(rt: HostRuntime) -> Result<(), Fail> {
-    let module = empty_module(rt.alloc());
-    let locals = Arena::new(rt.alloc());
-    let context = ResolveContext::with_locals(&module, &locals, &[]);
-    let held = [
+/// Two operands that no operation takes.
+fn unlike() -> [TypeResolution; 2] {
+    [
         vector(VectorSize::Bi, Scalar::F32),
         TypeResolution::Value(TypeInner::Sampler { comparison: false }),
-    ];
+    ]
+}
+
+fn pair_of(scalar: Scalar) -> [TypeResolution; 2] {
+    [
+        vector(VectorSize::Bi, scalar),
+        vector(VectorSize::Bi, scalar),
+    ]
+}
+
+#[test]
+fn of_operations(rt: HostRuntime) -> Result<(), Fail> {
     let product = Expression::Binary {
         op: BinaryOperator::Multiply,
         left: at(0),
         right: at(1),
     };
-    let told = answer(&rt, &context, rt.alloc(), &held, &product)?;
-    assert!(rt; is_incompatible(&told, "Multiply"));
+    let told = answer(&rt, rt.alloc(), unlike(), product)?;
+    assert!(rt; is_incompatible(told, "Multiply"));
     let less = Expression::Binary {
         op: BinaryOperator::Less,
         left: at(1),
         right: at(0),
     };
-    let told = answer(&rt, &context, rt.alloc(), &held, &less)?;
-    assert!(rt; is_incompatible(&told, "Less"));
+    let told = answer(&rt, rt.alloc(), unlike(), less)?;
+    assert!(rt; is_incompatible(told, "Less"));
     let cast = Expression::As {
         expr: at(1),
         kind: ScalarKind::Sint,
         convert: None,
     };
-    let told = answer(&rt, &context, rt.alloc(), &held, &cast)?;
-    assert!(rt; is_incompatible(&told, "As"));
+    let told = answer(&rt, rt.alloc(), unlike(), cast)?;
+    assert!(rt; is_incompatible(told, "As"));
     Ok(())
 }
 
 #[test]
 fn of_builtins(rt: HostRuntime) -> Result<(), Fail> {
-    let module = empty_module(rt.alloc());
-    let locals = Arena::new(rt.alloc());
-    let context = ResolveContext::with_locals(&module, &locals, &[]);
-    let held = [
-        vector(VectorSize::Bi, Scalar::F32),
-        vector(VectorSize::Bi, Scalar::F32),
-    ];
-    let told = answer(&rt, &context, rt.alloc(), &held, &call(MathFunction::Max))?;
-    assert!(rt; told == Some(Ok(vector(VectorSize::Bi, Scalar::F32))));
-    let told = answer(&rt, &context, rt.alloc(), &held, &call(MathFunction::Cross))?;
-    assert!(rt; is_invalid(&told, "Cross"));
+    let held = pair_of(Scalar::F32);
+    let told = answer(&rt, rt.alloc(), held, call(MathFunction::Max))?;
+    assert!(rt; is_type(told, vector(VectorSize::Bi, Scalar::F32)));
+    let held = pair_of(Scalar::F32);
+    let told = answer(&rt, rt.alloc(), held, call(MathFunction::Cross))?;
+    assert!(rt; is_invalid(told, "Cross"));
     Ok(())
 }
 
 #[test]
 fn of_listed_builtins(rt: HostRuntime) -> Result<(), Fail> {
-    let module = empty_module(rt.alloc());
-    let locals = Arena::new(rt.alloc());
-    let context = ResolveContext::with_locals(&module, &locals, &[]);
-    let held = [
-        vector(VectorSize::Bi, Scalar::F16),
-        vector(VectorSize::Bi, Scalar::F16),
-    ];
-    let told = answer(
-        &rt,
-        &context,
-        rt.alloc(),
-        &held,
-        &call(MathFunction::Refract),
-    )?;
-    assert!(rt; told == Some(Ok(vector(VectorSize::Bi, Scalar::F16))));
+    let held = pair_of(Scalar::F16);
+    let told = answer(&rt, rt.alloc(), held, call(MathFunction::Refract))?;
+    assert!(rt; is_type(told, vector(VectorSize::Bi, Scalar::F16)));
     Ok(())
 }

@@ -2,8 +2,9 @@
 use crate::resolve_held;
 use shader_arena::{Arena, Handle, UniqueArena};
 use shader_ir::{
-    AddressSpace, ArraySize, Expression, ImageClass, ImageDimension, Items, Map, Module, Scalar,
-    SpecialTypes, StructMember, Type, TypeInner, TypeResolution, VectorSize, mark,
+    AddressSpace, ArraySize, Expression, FunctionArgument, ImageClass, ImageDimension, Items,
+    LocalVariable, Map, Module, Scalar, SpecialTypes, StructMember, Type, TypeInner,
+    TypeResolution, VectorSize, mark,
 };
 use shader_resolve::{ResolveContext, ResolveError};
 use std::alloc::Global;
@@ -14,22 +15,62 @@ pub const WANT: &str = "want of memory";
 
 pub type Resolved = Result<TypeResolution, ResolveError>;
 
-/// What the rows of one context are asked with.
+/// What rows are asked with.
 #[derive_where(Clone, Copy)]
 pub struct Rows<'a, R> {
     rt: &'a R,
-    context: &'a ResolveContext<'a>,
     alloc: Global,
 }
 
 impl<'a, R: Abort> Rows<'a, R> {
-    pub fn new(rt: &'a R, context: &'a ResolveContext<'a>, alloc: Global) -> Self {
-        Rows { rt, context, alloc }
+    pub fn new(rt: &'a R, alloc: Global) -> Self {
+        Rows { rt, alloc }
     }
 
-    /// Asserts the answer for an expression whose operands' types are held. Want of memory is no answer, but ends the test.
-    pub fn expects(&self, held: &[TypeResolution], expr: Expression, wanted: Resolved) {
-        let answer = resolve_held(self.context, self.alloc, held, &expr);
+    /// Asserts the answer for an expression whose operands' types are held, in the module that `module` makes.
+    pub fn expects<const N: usize>(
+        self,
+        held: [TypeResolution; N],
+        expr: Expression,
+        wanted: Resolved,
+    ) {
+        self.expects_of(module(self.rt, self.alloc), held, expr, wanted)
+    }
+
+    /// The same in another module.
+    pub fn expects_of<const N: usize>(
+        self,
+        module: Module,
+        held: [TypeResolution; N],
+        expr: Expression,
+        wanted: Resolved,
+    ) {
+        self.expects_in(module, Arena::new(self.alloc), [], held, expr, wanted)
+    }
+
+    /// The same in a function with these locals and arguments.
+    pub fn expects_in<const N: usize, const M: usize>(
+        self,
+        module: Module,
+        locals: Arena<LocalVariable, mark::LocalVariable>,
+        arguments: [FunctionArgument; M],
+        held: [TypeResolution; N],
+        expr: Expression,
+        wanted: Resolved,
+    ) {
+        let context = ResolveContext::with_locals(&module, &locals, &arguments);
+        self.expects_by(&context, &held, expr, wanted)
+    }
+
+    /// The same in a context. Want of memory is no answer, but ends the test.
+    fn expects_by(
+        self,
+        context: &ResolveContext<'_>,
+        held: &[TypeResolution],
+        expr: Expression,
+        wanted: Resolved,
+    ) {
+        let answer = resolve_held(context, self.alloc, held, &expr);
         assert!(self.rt;
             answer != Some(Err(ResolveError::OutOfMemory)),
             "want of memory"
@@ -38,13 +79,23 @@ impl<'a, R: Abort> Rows<'a, R> {
     }
 
     /// Asserts that the operands don't go together under the operation's name.
-    pub fn expects_incompatible(&self, held: &[TypeResolution], expr: Expression, name: &str) {
+    pub fn expects_incompatible<const N: usize>(
+        self,
+        held: [TypeResolution; N],
+        expr: Expression,
+        name: &str,
+    ) {
         let words = name.to_string(self.alloc).expect(self.rt, WANT);
         self.expects(held, expr, Err(ResolveError::IncompatibleOperands(words)))
     }
 
     /// Asserts that no rule of the builtin takes the arguments.
-    pub fn expects_invalid(&self, held: &[TypeResolution], expr: Expression, name: &str) {
+    pub fn expects_invalid<const N: usize>(
+        self,
+        held: [TypeResolution; N],
+        expr: Expression,
+        name: &str,
+    ) {
         let words = name.to_string(self.alloc).expect(self.rt, WANT);
         self.expects(
             held,

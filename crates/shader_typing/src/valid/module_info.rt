@@ -1,9 +1,21 @@
 //! What is recorded of a module.
-ghost use Rattle.std.specs.Prelude.{◌≡◌, ◌<◌, [], ◌∷◌, ◌++◌, length, slice_get, Some, IfErr, OnOk, OnErr};
+ghost use Rattle.std.specs.Prelude.{◌≡◌, ◌<◌, [], ◌∷◌, ◌++◌, length, slice_get, Some, false, IfErr, IfOk, OnOk, OnErr};
+ghost use Rattle.shader_chains.specs.Faults.{Cause, StepFault};
+ghost use Rattle.shader_chains.specs.Program.{Function};
+ghost use Rattle.shader_chains.specs.Steps.{MeetsSteps};
+ghost use Rattle.shader_info.specs.Fit.{Fits};
+ghost use Rattle.shader_resolve.specs.WellFormed.{IsWellFormed};
+ghost use Rattle.shader_steps.specs.Causes.{IsNamed, settings_of};
+ghost use Rattle.shader_sweeps.specs.InfoOf.{info_of, infos_of};
+ghost use Rattle.shader_typing.specs.AddedTypes.{AddsType, CanType, IsTypeRefusal};
+ghost use Rattle.shader_typing.specs.Processed.{CanProcess, HasFunction, IsFunctionAt, functions_before, infos_before};
 
+use crate::valid::analyzer::function_info;
 use shader_arena::Handle;
-use shader_info::FunctionInfo;
-use shader_ir::{TypeResolution, mark};
+use shader_expression_types::type_of;
+use shader_info::{AnalysisError, AnalysisPlace, Capabilities, FunctionInfo, ValidationFlags};
+use shader_ir::{Function, GlobalCtx, Module, TypeResolution, mark};
+use shader_resolve::{ResolveContext, ResolveError};
 use std::alloc::{AllocFailed, Global};
 use std::marker::Model;
 use std::ops::Index;
@@ -32,6 +44,29 @@ impl Model for ModuleInfo {
       entry_points = info.entry_points.items;
       global_expressions = info.global_expressions.items;
     } };
+}
+
+/// How many functions are before the place.
+fn functions_before(module: &Module, place: AnalysisPlace) -> usize
+    ensures { result ≡ functions_before «module».now place }
+{
+    match place {
+        AnalysisPlace::ConstExpression(_) => 0,
+        AnalysisPlace::Function(handle) => handle.index(),
+        AnalysisPlace::EntryPoint(_) => module.functions.len(),
+    }
+}
+
+/// The function at a place that has one.
+fn function_at(module: &Module, place: AnalysisPlace) -> &Function
+    requires { HasFunction «module».now place }
+    ensures { IsFunctionAt «module».now place result.now }
+{
+    match place {
+        AnalysisPlace::Function(handle) => &module.functions[handle],
+        AnalysisPlace::EntryPoint(index) => &module.entry_points.as_slice()[index].function,
+        AnalysisPlace::ConstExpression(_) => unreachable!(),
+    }
 }
 
 impl ModuleInfo {
@@ -70,6 +105,69 @@ impl ModuleInfo {
         ensures err { OnErr result (self.new ≡ self.old) }
     {
         self.entry_points.push(info)
+    }
+
+    /// Adds the type of the next global expression.
+    ///
+    /// # Errors
+    ///
+    /// The refusal of the expression's form, by the types of the earlier ones; want of memory.
+    pub fn process_const_expression(
+        &mut self,
+        alloc: Global,
+        handle: Handle<mark::Expression>,
+        resolve_context: &ResolveContext<'_>,
+        gctx: &GlobalCtx<'_>,
+    ) -> Result<(), ResolveError>
+        requires { CanType resolve_context.now gctx.now.global_expressions.now self.old handle }
+        ensures ok { OnOk result (AddsType resolve_context.now gctx.now.global_expressions.now self.old self.new) }
+        ensures err { OnErr result (self.new ≡ self.old) }
+        ensures refused { IfErr result (IsTypeRefusal resolve_context.now gctx.now.global_expressions.now self.old) }
+    {
+        let ty = type_of(
+            alloc,
+            resolve_context,
+            self.global_expressions.as_slice(),
+            &gctx.global_expressions[handle],
+        )?;
+        match self.global_expressions.push(ty) {
+            Ok(()) => Ok(()),
+            Err(_) => Err(ResolveError::OutOfMemory),
+        }
+    }
+
+    /// Analyses the function at a place, over the infos of the functions before it.
+    ///
+    /// The module is well formed where `check_module` answers `Ok`, and an info fits where `FunctionInfo::fits` says so: each
+    /// one that this call answers does. Nothing is added: `add_function` and `add_entry_point` do that.
+    ///
+    /// # Errors
+    ///
+    /// A fault that stands at the place; want of memory.
+    pub fn process_function(
+        &self,
+        alloc: Global,
+        place: AnalysisPlace,
+        module: &Module,
+        flags: ValidationFlags,
+        capabilities: Capabilities,
+    ) -> Result<FunctionInfo, AnalysisError>
+        requires well_formed { IsWellFormed «module».now }
+        requires held { CanProcess «module».now self.now place }
+        ensures steps { IfOk result (λ info. (f : Function) → IsFunctionAt «module».now place f → MeetsSteps «module».now (infos_of (infos_before «module».now self.now place)) f (info_of info)) }
+        ensures fits { IfOk result (λ info. (f : Function) → IsFunctionAt «module».now place f → Fits «module».now f info) }
+        ensures stages { IfOk result (λ info. info.available_stages.0 ≡ 31) }
+        ensures one_source { IfOk result (λ info. info.dual_source_blending ≡ false) }
+        ensures clean { IfOk result (λ _. (f : Function) (cause : Cause) → IsFunctionAt «module».now place f → StepFault «module».now (infos_of (infos_before «module».now self.now place)) f (settings_of flags capabilities) cause → ⊥) }
+        ensures place { IfErr result (λ error. error.place ≡ place) }
+        ensures fault { IfErr result (λ error. (f : Function) → IsFunctionAt «module».now place f → IsNamed (StepFault «module».now (infos_of (infos_before «module».now self.now place)) f (settings_of flags capabilities)) error.cause) }
+    {
+        let function = function_at(module, place);
+        let infos = &self.functions[..functions_before(module, place)];
+        match function_info(alloc, module, infos, function, flags, capabilities) {
+            Ok(info) => Ok(info),
+            Err(cause) => Err(AnalysisError { place, cause }),
+        }
     }
 
     /// The info of an entry point, by its place in the module's list.

@@ -1,0 +1,9 @@
+pub mod Arguments
+pub mod Counts
+mod Flow
+mod Members
+pub mod Misplaced
+mod Needs
+pub mod Pairs
+pub mod Unplaced
+mod Varied

@@ -1,0 +1,2 @@
+pub mod PairsFit
+pub mod Refused

@@ -1,0 +1,176 @@
+-- One more function or entry point, where the infos of those before it are exact.
+use Rattle.std.proofs.Common.{◌≡◌, refl, sym, ap, subst, ◌∙◌, ℕ, zero, suc, ◌<◌, ◌≤◌, inl, inr, List, [], ◌∷◌, ◌++◌, Option, Some, None, IsTrue, slice_get, length, map, get_or, arith, length-append}
+use Rattle.std.proofs.lemmas.Bool.{cases_eq}
+use Rattle.std.proofs.lemmas.List.{length-map}
+use Rattle.std.proofs.lemmas.Option.{slice_get_within, slice_get-get_or, same_Some, slice_get-map}
+use Rattle.std.specs.Option.{option_map}
+use Rattle.shader_chains.specs.Derivable.{AreTypes, IsRefused}
+use Rattle.shader_chains.specs.Exact.{IsExact, IsExactModule}
+use Rattle.shader_chains.specs.Faults.{Cause, ComesBefore, IsAccepted, IsFault, IsFirstFault, ModuleFault, OfEntryPoint, OfFunction, OfGlobalExpression, Settings, Site, StepFault, Untyped, in_entry_point, in_expression, in_function}
+use Rattle.shader_chains.specs.Infos.{EachNamed, Info, NamesEarlier, Pairwise}
+use Rattle.shader_chains.specs.Program.{Function, Module}
+use Rattle.shader_chains.specs.Steps.{MeetsSteps}
+use Rattle.shader_chains.proofs.EarlierLemmas.{point_backwards}
+use Rattle.shader_chains.proofs.FaultLemmas.{faults_agree}
+use Rattle.shader_chains.proofs.HeldLemmas.{entry_is_exact, named_within, next_is_exact}
+use Rattle.shader_chains.proofs.TypeLemmas.{types_are_unique}
+use Rattle.shader_info.specs.Fit.{Fits}
+use Rattle.shader_info.specs.declared.error.FunctionError.{FunctionError}
+use Rattle.shader_info.specs.declared.error.FunctionError.TheVariants as error
+use Rattle.shader_info.specs.declared.error.ExpressionError.TheVariants as expression
+use Rattle.shader_info.specs.declared.info.FunctionInfo.{FunctionInfo}
+use Rattle.shader_ir.specs.declared.function.EntryPoint.{EntryPoint}
+use Rattle.shader_ir.specs.declared.proc.type_resolution.TypeResolution.{TypeResolution}
+use Rattle.shader_resolve.specs.Context.{context_of}
+use Rattle.shader_resolve.specs.Outcome.{Refusal}
+use Rattle.shader_resolve.specs.WellFormed.{IsWellFormed}
+use Rattle.shader_steps.specs.Causes.{IsNamed}
+use Rattle.shader_sweeps.proofs.HeldInfoLemmas.{of_held}
+use Rattle.shader_sweeps.specs.InfoOf.{info_of, infos_of}
+use Rattle.shader_typing.specs.Analyzable.{AreHeld}
+use Rattle.shader_typing.specs.Analyzed.{EntryPointsFound, FunctionsFound, TypesFound}
+
+infos_of-push : (held : List FunctionInfo) (info : FunctionInfo) → infos_of (held ++ info ∷ []) ≡ infos_of held ++ info_of info ∷ []
+infos_of-push [] info = refl
+infos_of-push (x ∷ xs) info = ap (λ v. info_of x ∷ v) (infos_of-push xs info)
+
+-- what is at a place after one more is added
+pushed : {A P : Type 0} (xs : List A) (y : A) (i : ℕ) (x : A) → slice_get (xs ++ y ∷ []) i ≡ Some x → (slice_get xs i ≡ Some x → P) → (i ≡ length xs → y ≡ x → P) → P
+pushed [] y zero x e old new = new refl (same_Some y x e)
+pushed [] y (suc i) x e old new = absurd (cc)
+pushed (z ∷ xs) y zero x e old new = old e
+pushed (z ∷ xs) y (suc i) x e old new = pushed xs y i x e old (λ same is. new (ap suc same) is)
+
+longer : (held : List FunctionInfo) (info : FunctionInfo) → length (held ++ info ∷ []) ≡ length held + 1
+longer held info = length-append held (info ∷ [])
+
+-- what is at a place within
+found_at : {A : Type 0} (xs : List A) (e : ℕ) → e < length xs → (x : A) × (slice_get xs e ≡ Some x)
+found_at [] e lt = absurd (omega (arith, lt))
+found_at (x ∷ xs) e lt = (get_or (x ∷ xs) e x, slice_get-get_or (x ∷ xs) e x lt)
+
+-- a refusal that names one of some causes names one of more
+pub named_more : (P Q : Cause → Type 0) → ((cause : Cause) → P cause → Q cause) → (failure : FunctionError) → IsNamed P failure → IsNamed Q failure
+named_more P Q more (error.Expression e (expression.Resolve failure)) h = more _ h
+named_more P Q more (error.Expression e (expression.MissingCapabilities wanted)) h = (h.0, h.1, more _ h.2)
+named_more P Q more (error.Expression e expression.ExpectedGlobalOrArgument) h = more _ h
+named_more P Q more (error.Expression e expression.BindingArrayElement) h = more _ h
+named_more P Q more (error.NonUniformControlFlow needs e blamed) h = more _ h
+named_more P Q more (error.CountFull e) h = more _ h
+named_more P Q more error.OutOfMemory h = tt
+
+module _ (m : Module) (settings : Settings) (well : IsWellFormed m) (held : List FunctionInfo) (before : FunctionsFound m settings held) (f : Function)
+    (earlier : NamesEarlier (length held) f) where
+  count : length (infos_of held) ≡ length held
+  count = length-map held info_of
+
+  named : EachNamed (IsExact m) m (infos_of held) f
+  named = named_within m (infos_of held) f (λ c mention. let lt = earlier c mention in (omega (arith, lt, count), omega (arith, lt, before.held.there))) before.exact
+
+  -- a fault by the infos is one over all chains
+  fault_is : (cause : Cause) → StepFault m (infos_of held) f settings cause → IsFault m f settings cause
+  fault_is = (faults_agree m (infos_of held) f settings named).0
+
+  no_fault : ((cause : Cause) → StepFault m (infos_of held) f settings cause → ⊥) → (cause : Cause) → IsFault m f settings cause → ⊥
+  no_fault none cause h = let told = (faults_agree m (infos_of held) f settings named).1 cause h in none told.0 told.1
+
+-- no global expression is without a type
+no_untyped : (m : Module) (types : List TypeResolution) → AreTypes (context_of m [] []) m.global_expressions types → (e : ℕ) (refusal : Refusal) →
+    IsRefused (context_of m [] []) m.global_expressions e refusal → ⊥
+no_untyped m types are e refusal h =
+    let lt : e < length types = omega (arith, are.complete, slice_get_within m.global_expressions e h.expression h.stands) in
+    let t = found_at types e lt in
+    (types_are_unique (context_of m [] []) m.global_expressions e t.0 (are.derived e t.0 t.1)).1 refusal h
+
+module _ (m : Module) (settings : Settings) (well : IsWellFormed m) (types : List TypeResolution) (are : AreTypes (context_of m [] []) m.global_expressions types)
+    (held : List FunctionInfo) (before : FunctionsFound m settings held) where
+  module _ (f : Function) (is_f : slice_get m.functions (length held) ≡ Some f) where
+    ordered : NamesEarlier (length held) f
+    ordered = (point_backwards m well).functions (length held) f is_f
+
+    pub next_function : (info : FunctionInfo) → MeetsSteps m (infos_of held) f (info_of info) → Fits m f info →
+        ((cause : Cause) → StepFault m (infos_of held) f settings cause → ⊥) → FunctionsFound m settings (held ++ info ∷ [])
+    next_function info steps fits none =
+        let is_next : slice_get m.functions (length (infos_of held)) ≡ Some f = ap (slice_get m.functions) (length-map held info_of) ∙ is_f in
+        let done = next_is_exact m (infos_of held) f (info_of info) (point_backwards m well).functions is_next before.exact steps in
+        let P : List Info → Type 0 = λ v. Pairwise (IsExact m) m v in
+        record {
+          held = record {
+            there = omega (arith, longer held info, slice_get_within m.functions (length held) f is_f);
+            fit = λ c r i is_r is_i. pushed held info c i is_i (λ old. before.held.fit c r i is_r old)
+                (λ last same.
+                let same_f : f ≡ r = same_Some f r (sym is_f ∙ (ap (slice_get m.functions) (sym last) ∙ is_r)) in
+                subst (λ x. Fits m x i) same_f (subst (λ x. Fits m f x) same fits));
+          };
+          exact = subst P (sym (infos_of-push held info)) done;
+          clean = λ i g cause lt is_g. elim (cases_eq i (length held)) [
+            | inl last ↦
+                let same_f : f ≡ g = same_Some f g (sym is_f ∙ (ap (slice_get m.functions) (sym last) ∙ is_g)) in
+                subst (λ x. IsFault m x settings cause → ⊥) same_f (no_fault m settings well held before f ordered none cause)
+            | inr early ↦ before.clean i g cause (omega (arith, lt, early, longer held info)) is_g
+          ];
+        }
+
+    -- a fault of the next function is the first
+    pub first_in_function : (cause : Cause) → StepFault m (infos_of held) f settings cause → IsFirstFault m settings (OfFunction (length held)) cause
+    first_in_function cause h = record {
+      stands = in_function is_f (fault_is m settings well held before f ordered cause h);
+      first = none;
+    } where
+      none : (other : Site) (told : Cause) → ComesBefore other (OfFunction (length held)) → ModuleFault m settings other told → ⊥
+      none (OfGlobalExpression e) told lt (in_expression {refusal = refusal} r) = no_untyped m types are e refusal r
+      none (OfFunction j) told lt (in_function {f = g} is_g fault) = before.clean j g told lt is_g fault
+      none (OfEntryPoint j) told lt fault = lt
+
+  module _ (all : length held ≡ length m.functions) (done : List FunctionInfo) (entries : EntryPointsFound m settings done) (entry : EntryPoint)
+      (is_entry : slice_get m.entry_points (length done) ≡ Some entry) where
+    names_functions : NamesEarlier (length held) entry.function
+    names_functions c mention = omega (arith, all, (point_backwards m well).entry_points (length done) entry is_entry c mention)
+
+    pub next_entry_point : (info : FunctionInfo) → MeetsSteps m (infos_of held) entry.function (info_of info) →
+        ((cause : Cause) → StepFault m (infos_of held) entry.function settings cause → ⊥) → EntryPointsFound m settings (done ++ info ∷ [])
+    next_entry_point info steps none =
+        let exact : IsExact m entry.function (info_of info) =
+        entry_is_exact m (infos_of held) entry.function (info_of info) (length-map held info_of ∙ all)
+        ((point_backwards m well).entry_points (length done) entry is_entry) before.exact steps in
+        record {
+          there = omega (arith, longer done info, slice_get_within m.entry_points (length done) entry is_entry);
+          exact = λ i other at is_other is_at. pushed done info i at is_at (λ old. entries.exact i other at is_other old)
+              (λ last same.
+              let same_entry : entry ≡ other = same_Some entry other (sym is_entry ∙ (ap (slice_get m.entry_points) (sym last) ∙ is_other)) in
+              subst (λ (x : EntryPoint). IsExact m x.function (info_of at)) same_entry (subst (λ x. IsExact m entry.function (info_of x)) same exact));
+          clean = λ i other cause lt is_other. elim (cases_eq i (length done)) [
+            | inl last ↦
+                let same_entry : entry ≡ other = same_Some entry other (sym is_entry ∙ (ap (slice_get m.entry_points) (sym last) ∙ is_other)) in
+                subst (λ (x : EntryPoint). IsFault m x.function settings cause → ⊥) same_entry (no_fault m settings well held before entry.function names_functions none cause)
+            | inr early ↦ entries.clean i other cause (omega (arith, lt, early, longer done info)) is_other
+          ];
+        }
+
+    pub first_in_entry_point : (cause : Cause) → StepFault m (infos_of held) entry.function settings cause → IsFirstFault m settings (OfEntryPoint (length done)) cause
+    first_in_entry_point cause h = record {
+      stands = in_entry_point is_entry (fault_is m settings well held before entry.function names_functions cause h);
+      first = none;
+    } where
+      none : (other : Site) (told : Cause) → ComesBefore other (OfEntryPoint (length done)) → ModuleFault m settings other told → ⊥
+      none (OfGlobalExpression e) told lt (in_expression {refusal = refusal} r) = no_untyped m types are e refusal r
+      none (OfFunction j) told lt (in_function {f = g} is_g fault) = before.clean j g told (omega (arith, all, slice_get_within m.functions j g is_g)) is_g fault
+      none (OfEntryPoint j) told lt (in_entry_point {entry = g} is_g fault) = entries.clean j g told lt is_g fault
+
+  -- where all are found, no fault stands
+  module _ (all : length held ≡ length m.functions) (done : List FunctionInfo) (entries : EntryPointsFound m settings done) (last : length done ≡ length m.entry_points) where
+    pub accepted : IsAccepted m settings
+    accepted (OfGlobalExpression e) cause (in_expression {refusal = refusal} r) = no_untyped m types are e refusal r
+    accepted (OfFunction j) cause (in_function {f = g} is_g fault) = before.clean j g cause (omega (arith, all, slice_get_within m.functions j g is_g)) is_g fault
+    accepted (OfEntryPoint j) cause (in_entry_point {entry = g} is_g fault) = entries.clean j g cause (omega (arith, last, slice_get_within m.entry_points j g is_g)) is_g fault
+
+    pub exact_module : IsExactModule m types (infos_of held) (infos_of done)
+    exact_module = record {
+      types = are;
+      each_function = length-map held info_of ∙ all;
+      exact_functions = before.exact;
+      each_entry_point = length-map done info_of ∙ last;
+      exact_entry_points = λ i entry info is_entry is_info.
+          let raw = of_held done i info is_info in
+          subst (λ x. IsExact m entry.function x) raw.2 (entries.exact i entry raw.0 is_entry raw.1);
+    }

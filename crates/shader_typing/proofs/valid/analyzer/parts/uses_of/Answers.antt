@@ -1,0 +1,25 @@
+use Rattle.std.proofs.Common.{ℕ, refl, sym, ap, subst, ◌∙◌, None, Result, Ok, Err, IfOk, fold, length, map, replicate}
+use Rattle.shader_chains.specs.Program.{occurrences}
+use Rattle.shader_ir.specs.declared.name.Name.{Name}
+use Rattle.shader_steps.proofs.StepUses.{finished}
+use Rattle.shader_steps.specs.Found.{tallied}
+use Rattle.shader_steps.specs.OfTheStep.{HasUses}
+use Rattle.shader_sweeps.specs.Gathered.{listed}
+use Rattle.shader_sweeps.specs.Tallied.{occurred}
+use Rattle.shader_typing.proofs.valid.analyzer.parts.uses_of.Goals as goal
+
+ok_more : {A E : Type 0} {P Q : A → Type 0} (r : Result A E) → IfOk r P → ((a : A) → P a → Q a) → IfOk r Q
+ok_more (Ok a) h k = k a h
+ok_more (Err e) h k = tt
+
+pub returns : goal.returns
+returns c =
+    let infos = c.args.infos.now in
+    let f = c.args.function.now in
+    ok_more c.uses_of_bits.result c.uses_of_bits.ensures (λ uses is m below within fit facts own.
+    subst (HasUses m infos f) (sym (is ∙ c.deref.ensures.value))
+    (finished m infos f c.args.facts.now facts below within fit (listed c.args.all.now) c.requires (tallied m infos f)
+    (ap (λ v. fold (occurred v) (replicate (length f.expressions) 0, replicate (length m.global_variables) 0, None) (occurrences f)) (sym facts))
+    c.args.own.items c.deref_mut.result.now c.join_calls.new.uses c.deref_mut-2.result.now c.name_globals.new.uses
+    (map (λ (entry : ℕ × Name). entry.0) f.named_expressions) c.args.own.len own c.args.own.ok.0
+    c.deref_mut.ensures.value c.join_calls.auto.uses c.join_calls.ensures c.deref_mut-2.ensures.value c.name_globals.auto.uses refl c.name_globals.ensures))

@@ -1,0 +1,34 @@
+-- How far the analysis of a module has come.
+use Rattle.std.specs.Prelude.{◌≡◌, ℕ, ◌<◌, ◌≤◌, All, List, [], Some, slice_get, length}
+use Rattle.shader_chains.specs.Exact.{IsExact}
+use Rattle.shader_chains.specs.Faults.{Cause, IsFault, Settings}
+use Rattle.shader_chains.specs.Infos.{Pairwise}
+use Rattle.shader_chains.specs.Program.{Function, Module}
+use Rattle.shader_info.specs.declared.info.FunctionInfo.{FunctionInfo}
+use Rattle.shader_ir.specs.Key.{FitsTypes}
+use Rattle.shader_ir.specs.declared.function.EntryPoint.{EntryPoint}
+use Rattle.shader_ir.specs.declared.proc.type_resolution.TypeResolution.{TypeResolution}
+use Rattle.shader_resolve.specs.Context.{context_of}
+use Rattle.shader_sweeps.specs.InfoOf.{info_of, infos_of}
+use Rattle.shader_expression_types.specs.Typed.{AreOfTheFirst}
+use Rattle.shader_typing.specs.Analyzable.{AreHeld}
+
+-- the types are those of the first global expressions
+pub record TypesFound (m : Module) (types : List TypeResolution) : Type 0 where
+  pub there : length types ≤ length m.global_expressions
+  pub derived : AreOfTheFirst (context_of m [] []) m.global_expressions types
+  pub fit : All (FitsTypes m.types) types
+
+-- the infos are exact for the first functions, and no fault stands in these
+pub record FunctionsFound (m : Module) (settings : Settings) (functions : List FunctionInfo) : Type 0 where
+  pub held : AreHeld m functions
+  pub exact : Pairwise (IsExact m) m (infos_of functions)
+  pub clean : (i : ℕ) (f : Function) (cause : Cause) → i < length functions → slice_get m.functions i ≡ Some f → IsFault m f settings cause → ⊥
+
+-- the same of the first entry points
+pub record EntryPointsFound (m : Module) (settings : Settings) (entry_points : List FunctionInfo) : Type 0 where
+  pub there : length entry_points ≤ length m.entry_points
+  pub exact : (i : ℕ) (entry : EntryPoint) (info : FunctionInfo) → slice_get m.entry_points i ≡ Some entry → slice_get entry_points i ≡ Some info →
+      IsExact m entry.function (info_of info)
+  pub clean : (i : ℕ) (entry : EntryPoint) (cause : Cause) → i < length entry_points → slice_get m.entry_points i ≡ Some entry →
+      IsFault m entry.function settings cause → ⊥
