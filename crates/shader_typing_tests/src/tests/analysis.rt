@@ -105,11 +105,12 @@ pub fn analyzed(
 fn add_functions(text: &mut String, module: &Module, infos: &ModuleInfo) -> Result<(), AllocError>
     requires { length infos.now.functions ≡ length «module».now.functions }
 {
-    for (handle, _) in module.functions.iter() {
-        if handle.index() > 0 {
+    for place in 0..module.functions.len() {
+        if place > 0 {
             text.push_str("; ")?;
         }
-        write!(text, "fn {}", handle.index())?;
+        write!(text, "fn {place}")?;
+        let handle: Handle<mark::Function> = Handle::from_index(place as u32);
         add_info(text, &infos[handle])?;
     }
     Ok(())

@@ -99,7 +99,8 @@ fn added<R: Abort + Print>(rt: &R, infos: &mut ModuleInfo, info: FunctionInfo) -
         Err(failed) => {
             println!(rt; "an info was refused")?;
             assert!(rt; failed.value.expression_count() == 3);
-            Ok(infos.add_function(failed.value)?)
+            assert!(rt; infos.add_function(failed.value).is_ok());
+            Ok(())
         }
     }
 }
