@@ -129,3 +129,31 @@ fn registered_results(rt: HostRuntime) {
         Err(ResolveError::MissingSpecialType),
     );
 }
+
+#[test]
+fn unregistered_abstract_result(rt: HostRuntime) {
+    let mut module = module(&rt, rt.alloc());
+    let predeclared = PredeclaredType::ModfResult {
+        size: None,
+        scalar: F32,
+    };
+    let ty = Handle::from_index(5);
+    module
+        .special_types
+        .predeclared_types
+        .insert(predeclared, ty)
+        .expect(&rt, WANT);
+    let locals = Arena::new(rt.alloc());
+    let context = ResolveContext::with_locals(&module, &locals, &[]);
+    unregistered_rows(&Rows::new(&rt, &context, rt.alloc()))
+}
+
+/// An abstract float has a result of its own, and doesn't take that for f32.
+fn unregistered_rows<R: Abort>(rows: &Rows<'_, R>) {
+    rows.expects(&[scalar(F32)], of_one(MathFunction::Modf), Ok(of(5)));
+    rows.expects(
+        &[scalar(Scalar::ABSTRACT_FLOAT)],
+        of_one(MathFunction::Modf),
+        Err(ResolveError::MissingSpecialType),
+    );
+}
