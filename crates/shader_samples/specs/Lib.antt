@@ -1,3 +1,4 @@
+pub mod Laws
 pub mod Modules
 pub mod Names
 pub mod Samples

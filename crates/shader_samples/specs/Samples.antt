@@ -1,6 +1,6 @@
 -- The sample modules.
-use Rattle.std.specs.Prelude.{ℕ, Bool, true, false, List, [], ◌∷◌, codes, map, Option, Some, None, pos}
-use Rattle.shader_ir.specs.Body.{Body, End, Then, Step, Leaf, If, Switch, NoCase, Case, Simple, Emit, Return, Store, Call}
+use Rattle.std.specs.Prelude.{ℕ, Bool, true, false, List, [], ◌∷◌, codes, map, Some, None, pos}
+use Rattle.shader_ir.specs.Body.{Body, End, Then, Step, Leaf, If, Switch, NoCase, Case, Emit, Return, Store, Call}
 use Rattle.shader_ir.specs.Scalars.{scalar}
 use Rattle.shader_ir.specs.declared.expression.Expression.{Expression}
 use Rattle.shader_ir.specs.declared.expression.Expression.TheVariants as form

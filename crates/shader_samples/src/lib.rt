@@ -5,6 +5,7 @@ mod calls;
 mod counting;
 mod derivatives;
 mod flow;
+pub mod laws;
 mod naming;
 pub mod parts;
 mod sample;
