@@ -5,10 +5,10 @@ use crate::tests::infos::WANT;
 use shader_arena::Handle;
 use shader_ir::{Module, mark};
 use shader_resolve::check_module;
-use shader_samples::parts::at;
 use shader_typing::valid::{
     AnalysisError, AnalysisPlace, Capabilities, ExpressionError, FunctionError, FunctionInfo,
-    GlobalUse, ModuleInfo, SamplingKey, Uniformity, ValidationFlags, analyze_module,
+    GlobalUse, ModuleInfo, SamplingKey, Uniformity, UniformityRequirements, ValidationFlags,
+    analyze_module,
 };
 use std::alloc::{AllocError, Global};
 use std::process::Abort;
@@ -178,14 +178,22 @@ fn add_module(text: &mut String, module: &Module, infos: &ModuleInfo) -> Result<
     add_entry_points(text, module, infos)
 }
 
+fn add_answer(
+    rt: &impl Abort,
+    alloc: Global,
+    text: &mut String,
+    module: &Module,
+) -> Result<(), AllocError> {
+    match analyzed(rt, alloc, module) {
+        Ok(infos) => add_module(text, module, &infos),
+        Err(error) => add_error(text, &error),
+    }
+}
+
 /// Asserts what is told of a module: of each function and entry point, or of the first fault.
-pub fn expects(rt: &impl Abort, alloc: Global, module: &Module, wanted: &str) {
+pub fn expects(rt: &impl Abort, alloc: Global, module: Module, wanted: &str) {
     let mut text = String::new(alloc);
-    let told = match analyzed(rt, alloc, module) {
-        Ok(infos) => add_module(&mut text, module, &infos),
-        Err(error) => add_error(&mut text, &error),
-    };
-    told.expect(rt, WANT);
+    add_answer(rt, alloc, &mut text, &module).expect(rt, WANT);
     assert!(rt; text.as_str() == wanted, "{text}");
 }
 
@@ -205,9 +213,9 @@ pub fn processed(
     ModuleInfo::new(alloc).process_function(alloc, place, module, flags, capabilities)
 }
 
-/// Asserts that the first function is accepted, and gives its info.
-pub fn info_of(rt: &impl Abort, alloc: Global, module: &Module) -> FunctionInfo {
-    match processed(rt, alloc, module, CHECKED, PLAIN) {
+/// What is recorded of the first function, which is accepted.
+pub fn info_of(rt: &impl Abort, alloc: Global, module: Module) -> FunctionInfo {
+    match processed(rt, alloc, &module, CHECKED, PLAIN) {
         Ok(info) => info,
         Err(error) => {
             let mut text = String::new(alloc);
@@ -217,60 +225,99 @@ pub fn info_of(rt: &impl Abort, alloc: Global, module: &Module) -> FunctionInfo 
     }
 }
 
-/// Asserts why the first function is refused.
-pub fn refuses(rt: &impl Abort, alloc: Global, module: &Module, wanted: &str) {
-    let mut text = String::new(alloc);
-    match processed(rt, alloc, module, CHECKED, PLAIN) {
-        Ok(_) => text.push_str("accepted").expect(rt, WANT),
-        Err(error) => add_error(&mut text, &error).expect(rt, WANT),
-    }
-    assert!(rt; text.as_str() == wanted, "{text}");
-}
-
-/// Asserts that the first function is accepted, whatever it is told.
-pub fn accepts(rt: &impl Abort, alloc: Global, module: &Module) {
-    let _info = info_of(rt, alloc, module);
-}
-
-/// Where the expression of the first function may differ among invocations, if it may.
-pub fn origin(
+fn add_refusal(
     rt: &impl Abort,
-    info: &FunctionInfo,
-    place: u32,
-) -> Option<Handle<mark::Expression>> {
-    assert!(rt; (place as usize) < info.expression_count());
-    info[at(place)].uniformity.non_uniform_result
+    alloc: Global,
+    text: &mut String,
+    module: &Module,
+) -> Result<(), AllocError> {
+    match processed(rt, alloc, module, CHECKED, PLAIN) {
+        Ok(_) => text.push_str("accepted"),
+        Err(error) => add_error(text, &error),
+    }
 }
 
-/// The counts of the expressions alone.
-pub fn expects_counts(rt: &impl Abort, alloc: Global, info: &FunctionInfo, wanted: &str) {
+/// Asserts why the first function is refused, or that it is `accepted`.
+pub fn refuses(rt: &impl Abort, alloc: Global, module: Module, wanted: &str) {
     let mut text = String::new(alloc);
-    add_counts(&mut text, info).expect(rt, WANT);
+    add_refusal(rt, alloc, &mut text, &module).expect(rt, WANT);
     assert!(rt; text.as_str() == wanted, "{text}");
+}
+
+/// Whether the first function is accepted.
+pub fn is_accepted(
+    rt: &impl Abort,
+    alloc: Global,
+    module: Module,
+    flags: ValidationFlags,
+    capabilities: Capabilities,
+) -> bool {
+    processed(rt, alloc, &module, flags, capabilities).is_ok()
+}
+
+fn add_origins(text: &mut String, info: &FunctionInfo) -> Result<(), AllocError> {
+    for (place, expression) in info.expressions.as_slice().iter().enumerate() {
+        separate(text, place)?;
+        match expression.uniformity.non_uniform_result {
+            None => text.push_str("-")?,
+            Some(origin) => write!(text, "{}", origin.index())?,
+        }
+    }
+    Ok(())
+}
+
+/// Asserts of each expression of the first function why it may differ among invocations: the place of a source, or `-`.
+pub fn expects_origins(rt: &impl Abort, alloc: Global, module: Module, wanted: &str) {
+    let info = info_of(rt, alloc, module);
+    let mut text = String::new(alloc);
+    add_origins(&mut text, &info).expect(rt, WANT);
+    assert!(rt; text.as_str() == wanted, "{text}");
+}
+
+/// Asserts how often each expression of a function is an operand.
+pub fn expects_counts(rt: &impl Abort, alloc: Global, info: FunctionInfo, wanted: &str) {
+    let mut text = String::new(alloc);
+    add_counts(&mut text, &info).expect(rt, WANT);
+    assert!(rt; text.as_str() == wanted, "{text}");
+}
+
+/// How the first global is used by the first function.
+pub fn first_use(rt: &impl Abort, alloc: Global, module: Module) -> GlobalUse {
+    use_in(rt, info_of(rt, alloc, module))
 }
 
 /// How the first global is used.
-pub fn first_use(rt: &impl Abort, info: &FunctionInfo) -> GlobalUse {
+pub fn use_in(rt: &impl Abort, info: FunctionInfo) -> GlobalUse {
     assert!(rt; info.global_variable_count() > 0);
     let first: Handle<mark::GlobalVariable> = Handle::from_index(0);
     info[first]
 }
 
+/// What the first function asks of the flow.
+pub fn needs(rt: &impl Abort, alloc: Global, module: Module) -> UniformityRequirements {
+    info_of(rt, alloc, module).uniformity.requirements
+}
+
 /// What is recorded of a function of a module without a fault.
-pub fn info_at(rt: &impl Abort, alloc: Global, module: &Module, place: u32) -> FunctionInfo {
+pub fn info_at(rt: &impl Abort, alloc: Global, module: Module, place: u32) -> FunctionInfo {
     let handle: Handle<mark::Function> = Handle::from_index(place);
     assert!(rt; module.functions.contains_handle(handle));
-    match analyzed(rt, alloc, module) {
+    match analyzed(rt, alloc, &module) {
         Ok(infos) => infos[handle].copy(alloc).expect(rt, WANT),
         Err(_) => panic!(rt; "refused"),
     }
 }
 
 /// What is recorded of the first entry point of a module without a fault.
-pub fn entry_point_info(rt: &impl Abort, alloc: Global, module: &Module) -> FunctionInfo {
+pub fn entry_point_info(rt: &impl Abort, alloc: Global, module: Module) -> FunctionInfo {
     assert!(rt; module.entry_points.len() > 0);
-    match analyzed(rt, alloc, module) {
+    match analyzed(rt, alloc, &module) {
         Ok(infos) => infos.get_entry_point(0).copy(alloc).expect(rt, WANT),
         Err(_) => panic!(rt; "refused"),
     }
+}
+
+/// Whether a function of a module without a fault may end an invocation while others go on.
+pub fn kills(rt: &impl Abort, alloc: Global, module: Module, place: u32) -> bool {
+    info_at(rt, alloc, module, place).may_kill
 }

@@ -1,5 +1,5 @@
 //! Functions that call others: what is recorded of them is what all chains of calls give.
-use crate::tests::analysis::{expects, info_at};
+use crate::tests::analysis::{expects, info_at, kills, use_in};
 use crate::tests::infos::WANT;
 use crate::tests::made::{
     IMAGE, NUMBER, POINT, SAMPLER, argument, local, nothing, one, plain, taking, two,
@@ -12,7 +12,7 @@ use shader_ir::{
 };
 use shader_samples::parts::{at, branch, call, emit, global, resource, storage};
 use shader_samples::{named, over_a_float, parts, stored, with_matrix};
-use shader_typing::valid::{GlobalOrArgument, GlobalUse};
+use shader_typing::valid::{FunctionInfo, GlobalOrArgument, GlobalUse};
 use std::alloc::Global;
 use std::process::Abort;
 
@@ -92,7 +92,7 @@ fn one_image_meets_both_samplers(rt: HostRuntime) {
     expects(
         &rt,
         alloc,
-        &module,
+        module,
         "fn 0 uses 0,0,0 pairs - counts 1,1,1,0 result uniform; fn 1 uses 0,1,0 pairs - counts 1,1 result uniform; fn 2 uses 0,0,1 pairs - counts 1,1 result uniform; fn 3 uses 1,1,1 pairs 0/1,0/2 counts 2 result uniform",
     );
 }
@@ -108,7 +108,11 @@ fn swapping(rt: &impl Abort, alloc: Global) -> Module {
 #[test]
 fn arguments_are_led_back_to_the_callers(rt: HostRuntime) {
     let alloc = rt.alloc();
-    let info = info_at(&rt, alloc, &swapping(&rt, alloc), 1);
+    samples_the_other_way(&rt, info_at(&rt, alloc, swapping(&rt, alloc), 1));
+}
+
+/// Asserts that the second argument is sampled with the first, and nothing else is.
+fn samples_the_other_way(rt: &impl Abort, info: FunctionInfo) {
     let (first, second) = (GlobalOrArgument::Argument(0), GlobalOrArgument::Argument(1));
     assert!(rt; info.has_sampling(second, first));
     assert!(rt; info.sampling.len() == 1 && info.sampling_set.is_empty());
@@ -123,7 +127,7 @@ fn what_is_passed_on_to_be_sampled_has_a_place(rt: HostRuntime) {
     caller.body = called.body;
     let functions = vec![in alloc; sampling(&rt, alloc), caller].expect(&rt, WANT);
     let module = with_functions(&rt, alloc, resources(&rt, alloc), functions);
-    expects(&rt, alloc, &module, "fn 1 A1 at 1 E3");
+    expects(&rt, alloc, module, "fn 1 A1 at 1 E3");
 }
 
 fn calling(rt: &impl Abort, alloc: Global, function: u32) -> Function {
@@ -146,7 +150,7 @@ fn uses_go_on_along_calls(rt: HostRuntime) {
     expects(
         &rt,
         alloc,
-        &module,
+        module,
         "fn 0 uses 4 pairs - counts 0 result uniform; fn 1 uses 6 pairs - counts 1,1 result uniform; fn 2 uses 6 pairs - counts - result uniform",
     );
 }
@@ -172,7 +176,7 @@ fn a_name_queries_nothing_that_a_callee_uses(rt: HostRuntime) {
     expects(
         &rt,
         alloc,
-        &module,
+        module,
         "fn 0 uses 2 pairs - counts 1,1 result uniform; fn 1 uses 2 pairs - counts 0 result uniform",
     );
 }
@@ -203,27 +207,26 @@ fn a_result_without_a_call_varies_as_its_callee_does(rt: HostRuntime) {
     expects(
         &rt,
         alloc,
-        &module,
+        module,
         "fn 0 uses 1 pairs - counts 1,1 result non-uniform; fn 1 uses 0 pairs - counts 1 result non-uniform",
     );
+}
+
+/// A function that kills, and one that calls it where its argument says so, and then loads a matrix.
+fn killing_all(rt: &impl Abort, alloc: Global) -> Module {
+    let choice = branch(0, one(rt, alloc, call(0, Vec::new(alloc))), nothing(alloc));
+    let statements = two(rt, alloc, choice, emit(4, 5));
+    let caller = with_matrix(alloc, statements).expect(rt, WANT);
+    let callee = plain(rt, alloc, Vec::new(alloc), one(rt, alloc, Statement::Kill));
+    let functions = vec![in alloc; callee, caller].expect(rt, WANT);
+    over_a_float(alloc, functions).expect(rt, WANT)
 }
 
 #[test]
 fn a_kill_that_all_come_to_kills_no_flow(rt: HostRuntime) {
     let alloc = rt.alloc();
-    let choice = branch(0, one(&rt, alloc, call(0, Vec::new(alloc))), nothing(alloc));
-    let statements = two(&rt, alloc, choice, emit(4, 5));
-    let caller = with_matrix(alloc, statements).expect(&rt, WANT);
-    let callee = plain(
-        &rt,
-        alloc,
-        Vec::new(alloc),
-        one(&rt, alloc, Statement::Kill),
-    );
-    let functions = vec![in alloc; callee, caller].expect(&rt, WANT);
-    let module = over_a_float(alloc, functions).expect(&rt, WANT);
-    assert!(rt; !info_at(&rt, alloc, &module, 0).may_kill);
-    assert!(rt; !info_at(&rt, alloc, &module, 1).may_kill);
+    assert!(rt; !kills(&rt, alloc, killing_all(&rt, alloc), 0));
+    assert!(rt; !kills(&rt, alloc, killing_all(&rt, alloc), 1));
 }
 
 /// Passes a pointer to function 0, which writes through it.
@@ -242,7 +245,6 @@ fn writing_through_an_argument(rt: &impl Abort, alloc: Global) -> Module {
 #[test]
 fn a_pointer_that_is_passed_is_read(rt: HostRuntime) {
     let alloc = rt.alloc();
-    let module = writing_through_an_argument(&rt, alloc);
-    let info = info_at(&rt, alloc, &module, 1);
-    assert!(rt; crate::tests::analysis::first_use(&rt, &info) == GlobalUse::READ);
+    let info = info_at(&rt, alloc, writing_through_an_argument(&rt, alloc), 1);
+    assert!(rt; use_in(&rt, info) == GlobalUse::READ);
 }

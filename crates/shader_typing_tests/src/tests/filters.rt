@@ -57,13 +57,13 @@ fn decides(
     let mut module = differentiating(rt, alloc, leaf);
     let nodes = vec![in alloc; filters.0, filters.1].expect(rt, WANT);
     module.diagnostic_filters = arena_of(alloc, nodes).expect(rt, WANT);
-    refuses(rt, alloc, &module, wanted);
+    refuses(rt, alloc, module, wanted);
 }
 
 #[test]
 fn without_a_filter_it_is_an_error(rt: HostRuntime) {
     let alloc = rt.alloc();
-    refuses(&rt, alloc, &differentiating(&rt, alloc, None), REFUSED);
+    refuses(&rt, alloc, differentiating(&rt, alloc, None), REFUSED);
     let off = (filter(Severity::Off, None), filter(Severity::Off, None));
     decides(&rt, alloc, off, None, REFUSED);
 }

@@ -1,5 +1,5 @@
 //! Where flow is disrupted, so that a derivative may not be taken.
-use crate::tests::analysis::{expects, info_of, refuses};
+use crate::tests::analysis::{expects, kills, needs, refuses};
 use crate::tests::infos::WANT;
 use crate::tests::made::{argument, nothing, one, taking, two, with_function, with_functions};
 use shader_ir::{
@@ -45,7 +45,7 @@ fn module_of(rt: &impl Abort, alloc: Global, statements: Vec<Statement>) -> Modu
 }
 
 fn flows(rt: &impl Abort, alloc: Global, statements: Vec<Statement>, wanted: &str) {
-    refuses(rt, alloc, &module_of(rt, alloc, statements), wanted);
+    refuses(rt, alloc, module_of(rt, alloc, statements), wanted);
 }
 
 /// Takes the derivative.
@@ -284,41 +284,40 @@ fn behind_a_kill_of_some(rt: HostRuntime) {
 fn behind_a_kill_of_all(rt: HostRuntime) {
     let alloc = rt.alloc();
     let statements = two(&rt, alloc, Statement::Kill, differentiate());
-    let info = info_of(&rt, alloc, &module_of(&rt, alloc, statements));
-    assert!(rt; !info.may_kill);
+    assert!(rt; !kills(&rt, alloc, module_of(&rt, alloc, statements), 0));
 }
 
 #[test]
 fn a_kill_of_some_is_recorded(rt: HostRuntime) {
     let alloc = rt.alloc();
     let choice = by_choice(&rt, alloc, Statement::Kill);
-    let module = module_of(&rt, alloc, one(&rt, alloc, choice));
-    assert!(rt; info_of(&rt, alloc, &module).may_kill);
+    let statements = one(&rt, alloc, choice);
+    assert!(rt; kills(&rt, alloc, module_of(&rt, alloc, statements), 0));
+}
+
+/// A function that may kill, and one that takes the derivative behind a call of it.
+fn calling_what_kills(rt: &impl Abort, alloc: Global) -> Module {
+    let choice = by_choice(rt, alloc, Statement::Kill);
+    let callee = differentiating(rt, alloc, one(rt, alloc, choice));
+    let passed = vec![in alloc; at(SHARED)].expect(rt, WANT);
+    let statements = two(rt, alloc, call(0, passed), differentiate());
+    let caller = differentiating(rt, alloc, statements);
+    let functions = vec![in alloc; callee, caller].expect(rt, WANT);
+    with_functions(rt, alloc, Vec::new(alloc), functions)
 }
 
 #[test]
 fn behind_a_call_that_kills(rt: HostRuntime) {
     let alloc = rt.alloc();
-    let choice = by_choice(&rt, alloc, Statement::Kill);
-    let callee = differentiating(&rt, alloc, one(&rt, alloc, choice));
-    let passed = vec![in alloc; at(SHARED)].expect(&rt, WANT);
-    let statements = two(&rt, alloc, call(0, passed), differentiate());
-    let caller = differentiating(&rt, alloc, statements);
-    let functions = vec![in alloc; callee, caller].expect(&rt, WANT);
-    let module = with_functions(&rt, alloc, Vec::new(alloc), functions);
-    expects(
-        &rt,
-        alloc,
-        &module,
-        "fn 1 A2 at 2 needs 2: There is a Discard earlier in the entry point across all called functions",
-    );
+    let wanted =
+        "fn 1 A2 at 2 needs 2: There is a Discard earlier in the entry point across all called functions";
+    expects(&rt, alloc, calling_what_kills(&rt, alloc), wanted);
 }
 
 /// What the statement, in a branch on what varies, asks of the flow. It is accepted there: an `Emit` alone is refused.
 fn asked(rt: &impl Abort, alloc: Global, statement: Statement) -> UniformityRequirements {
     let choice = by_choice(rt, alloc, statement);
-    let module = module_of(rt, alloc, one(rt, alloc, choice));
-    info_of(rt, alloc, &module).uniformity.requirements
+    needs(rt, alloc, module_of(rt, alloc, one(rt, alloc, choice)))
 }
 
 #[test]

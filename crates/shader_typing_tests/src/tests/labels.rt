@@ -1,5 +1,5 @@
 //! How a use of an expression is one of the global that it points into.
-use crate::tests::analysis::{first_use, info_of};
+use crate::tests::analysis::first_use;
 use crate::tests::infos::WANT;
 use crate::tests::made::{
     ELEMENTS, NUMBER, NUMBERS, TEXELS, beginning, nothing, one, one_global, plain, with_function,
@@ -18,8 +18,7 @@ const NO_USE: GlobalUse = GlobalUse(0);
 
 fn used(rt: &impl Abort, alloc: Global, variable: GlobalVariable, function: Function) -> GlobalUse {
     let globals = one_global(rt, alloc, variable);
-    let module = with_function(rt, alloc, globals, function);
-    first_use(rt, &info_of(rt, alloc, &module))
+    first_use(rt, alloc, with_function(rt, alloc, globals, function))
 }
 
 /// How the statement uses the global, which is expression 0, where expressions 1 and 2 are numbers.

@@ -44,7 +44,7 @@ fn an_entry_point_is_refused_last(rt: HostRuntime) {
     let made = with_function(&rt, alloc, Vec::new(alloc), empty(&rt, alloc));
     let module = with_entry_point(&rt, alloc, made, faulty(&rt, alloc, 2));
     let wanted = "entry 0 A1 at 0 E1 Function argument 2 doesn't exist";
-    expects(&rt, alloc, &module, wanted);
+    expects(&rt, alloc, module, wanted);
 }
 
 #[test]
@@ -54,7 +54,7 @@ fn a_function_is_refused_before_it(rt: HostRuntime) {
     let made = with_functions(&rt, alloc, Vec::new(alloc), functions);
     let module = with_entry_point(&rt, alloc, made, faulty(&rt, alloc, 2));
     let wanted = "fn 1 A1 at 0 E1 Function argument 1 doesn't exist";
-    expects(&rt, alloc, &module, wanted);
+    expects(&rt, alloc, module, wanted);
 }
 
 #[test]
@@ -63,13 +63,13 @@ fn a_global_expression_is_refused_first(rt: HostRuntime) {
     let made = with_function(&rt, alloc, Vec::new(alloc), faulty(&rt, alloc, 1));
     let module = with_constants(&rt, alloc, made, argument(0));
     let wanted = "const 1 A1 at 1 E1 Function argument 0 doesn't exist";
-    expects(&rt, alloc, &module, wanted);
+    expects(&rt, alloc, module, wanted);
 }
 
 /// Asserts that the second global expression is a u32.
-fn is_a_number(rt: &impl Abort, alloc: Global, module: &Module) {
+fn is_a_number(rt: &impl Abort, alloc: Global, module: Module) {
     assert!(rt; module.global_expressions.contains_handle(at(1)));
-    match analyzed(rt, alloc, module) {
+    match analyzed(rt, alloc, &module) {
         Ok(infos) => {
             let number = TypeResolution::Value(TypeInner::Scalar(Scalar::U32));
             assert!(rt; infos[at(1)] == number);
@@ -82,5 +82,5 @@ fn is_a_number(rt: &impl Abort, alloc: Global, module: &Module) {
 fn global_expressions_have_types(rt: HostRuntime) {
     let alloc = rt.alloc();
     let made = with_function(&rt, alloc, Vec::new(alloc), empty(&rt, alloc));
-    is_a_number(&rt, alloc, &with_constants(&rt, alloc, made, number(8)));
+    is_a_number(&rt, alloc, with_constants(&rt, alloc, made, number(8)));
 }

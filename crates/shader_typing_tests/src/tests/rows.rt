@@ -1,6 +1,7 @@
 //! Functions of one argument: what varies, what is counted, what is refused.
 use crate::tests::analysis::{
-    CHECKED, PLAIN, accepts, expects, expects_counts, info_at, info_of, origin, processed, refuses,
+    CHECKED, PLAIN, expects, expects_counts, expects_origins, info_at, info_of, is_accepted,
+    refuses,
 };
 use crate::tests::infos::WANT;
 use crate::tests::made::{
@@ -40,17 +41,19 @@ fn tripled(rt: &impl Abort, alloc: Global) -> Expression {
     }
 }
 
+/// The argument, its double and a vector of it.
+fn summing(rt: &impl Abort, alloc: Global) -> Module {
+    let expressions = vec![in alloc; argument(0), doubled(), tripled(rt, alloc)].expect(rt, WANT);
+    let function = taking(rt, alloc, expressions, nothing(alloc));
+    with_function(rt, alloc, Vec::new(alloc), function)
+}
+
 #[test]
 fn counts_go_on_past_what_varies(rt: HostRuntime) {
     let alloc = rt.alloc();
-    let expressions = vec![in alloc; argument(0), doubled(), tripled(&rt, alloc)].expect(&rt, WANT);
-    let function = taking(&rt, alloc, expressions, nothing(alloc));
-    let module = with_function(&rt, alloc, Vec::new(alloc), function);
-    let info = info_of(&rt, alloc, &module);
-    expects_counts(&rt, alloc, &info, "5,0,0");
-    assert!(rt; origin(&rt, &info, 0) == Some(at(0)));
-    assert!(rt; origin(&rt, &info, 1) == Some(at(0)));
-    assert!(rt; origin(&rt, &info, 2) == Some(at(0)));
+    let info = info_of(&rt, alloc, summing(&rt, alloc));
+    expects_counts(&rt, alloc, info, "5,0,0");
+    expects_origins(&rt, alloc, summing(&rt, alloc), "0,0,0");
 }
 
 /// A global binding array of the type, indexed by the argument.
@@ -64,51 +67,52 @@ fn indexing(rt: &impl Abort, alloc: Global, ty: u32, binding: Option<Binding>) -
     with_function(rt, alloc, one_global(rt, alloc, resource(ty)), function)
 }
 
-/// Whether the module is accepted where this capability is given.
-fn is_accepted(rt: &impl Abort, alloc: Global, module: &Module, given: Capabilities) -> bool {
-    processed(rt, alloc, module, CHECKED, given).is_ok()
+/// Whether such an access is accepted where this capability is given.
+fn may_index(rt: &impl Abort, alloc: Global, ty: u32, given: Capabilities) -> bool {
+    is_accepted(rt, alloc, indexing(rt, alloc, ty, None), CHECKED, given)
 }
 
 #[test]
 fn images_are_indexed_non_uniformly_by_capability(rt: HostRuntime) {
     let alloc = rt.alloc();
     let module = indexing(&rt, alloc, IMAGES, None);
-    refuses(&rt, alloc, &module, "fn 0 A1 at 2 E2 1");
-    assert!(rt; is_accepted(&rt, alloc, &module, TEXTURES));
-    assert!(rt; !is_accepted(&rt, alloc, &module, TEXEL_TEXTURES));
+    refuses(&rt, alloc, module, "fn 0 A1 at 2 E2 1");
+    assert!(rt; may_index(&rt, alloc, IMAGES, TEXTURES));
+    assert!(rt; !may_index(&rt, alloc, IMAGES, TEXEL_TEXTURES));
 }
 
 #[test]
 fn samplers_are_indexed_non_uniformly_by_capability(rt: HostRuntime) {
     let alloc = rt.alloc();
     let module = indexing(&rt, alloc, SAMPLERS, None);
-    refuses(&rt, alloc, &module, "fn 0 A1 at 2 E2 1");
-    assert!(rt; is_accepted(&rt, alloc, &module, TEXTURES));
+    refuses(&rt, alloc, module, "fn 0 A1 at 2 E2 1");
+    assert!(rt; may_index(&rt, alloc, SAMPLERS, TEXTURES));
 }
 
 #[test]
 fn storage_images_have_a_capability_of_their_own(rt: HostRuntime) {
     let alloc = rt.alloc();
     let module = indexing(&rt, alloc, TEXEL_IMAGES, None);
-    refuses(&rt, alloc, &module, "fn 0 A1 at 2 E2 2");
-    assert!(rt; is_accepted(&rt, alloc, &module, TEXEL_TEXTURES));
-    assert!(rt; !is_accepted(&rt, alloc, &module, TEXTURES));
+    refuses(&rt, alloc, module, "fn 0 A1 at 2 E2 2");
+    assert!(rt; may_index(&rt, alloc, TEXEL_IMAGES, TEXEL_TEXTURES));
+    assert!(rt; !may_index(&rt, alloc, TEXEL_IMAGES, TEXTURES));
 }
 
 #[test]
 fn images_are_indexed_uniformly_without_a_capability(rt: HostRuntime) {
     let alloc = rt.alloc();
-    accepts(&rt, alloc, &indexing(&rt, alloc, IMAGES, WORK_GROUP_ID));
+    let module = indexing(&rt, alloc, IMAGES, WORK_GROUP_ID);
+    refuses(&rt, alloc, module, "accepted");
 }
 
 #[test]
 fn binding_arrays_of_floats_are_never_indexed(rt: HostRuntime) {
     let alloc = rt.alloc();
     let module = indexing(&rt, alloc, FLOATS, None);
-    refuses(&rt, alloc, &module, "fn 0 A1 at 2 E4");
-    assert!(rt; !is_accepted(&rt, alloc, &module, TEXTURES | TEXEL_TEXTURES));
+    refuses(&rt, alloc, module, "fn 0 A1 at 2 E4");
+    assert!(rt; !may_index(&rt, alloc, FLOATS, TEXTURES | TEXEL_TEXTURES));
     let module = indexing(&rt, alloc, FLOATS, WORK_GROUP_ID);
-    refuses(&rt, alloc, &module, "fn 0 A1 at 2 E4");
+    refuses(&rt, alloc, module, "fn 0 A1 at 2 E4");
 }
 
 /// Samples expression 0 with expression 1 at expression 2.
@@ -134,7 +138,7 @@ fn a_local_is_no_sampler(rt: HostRuntime) {
     let function = taking(&rt, alloc, expressions.expect(&rt, WANT), nothing(alloc));
     let globals = one_global(&rt, alloc, resource(IMAGE));
     let module = with_function(&rt, alloc, globals, function);
-    refuses(&rt, alloc, &module, "fn 0 A1 at 3 E3");
+    refuses(&rt, alloc, module, "fn 0 A1 at 3 E3");
 }
 
 #[test]
@@ -146,7 +150,7 @@ fn an_argument_that_is_not_there_has_no_type(rt: HostRuntime) {
     refuses(
         &rt,
         alloc,
-        &module,
+        module,
         "fn 0 A1 at 0 E1 Function argument 1 doesn't exist",
     );
 }
@@ -175,44 +179,37 @@ fn sampling_by_choice(rt: &impl Abort, alloc: Global, level: SampleLevel) -> Mod
     with_function(rt, alloc, globals, function)
 }
 
+const MISPLACED: &str =
+    "fn 0 A2 at 5 needs 4: Expression [3] produced non-uniform result, and control flow depends on it";
+
 #[test]
 fn implicit_levels_need_uniform_flow(rt: HostRuntime) {
     let alloc = rt.alloc();
     let module = sampling_by_choice(&rt, alloc, SampleLevel::Auto);
-    refuses(
-        &rt,
-        alloc,
-        &module,
-        "fn 0 A2 at 5 needs 4: Expression [3] produced non-uniform result, and control flow depends on it",
-    );
-    let unchecked = processed(&rt, alloc, &module, ValidationFlags(0), PLAIN);
-    assert!(rt; unchecked.is_ok());
+    refuses(&rt, alloc, module, MISPLACED);
+    let module = sampling_by_choice(&rt, alloc, SampleLevel::Auto);
+    assert!(rt; is_accepted(&rt, alloc, module, ValidationFlags(0), PLAIN));
 }
 
 #[test]
 fn biased_levels_need_uniform_flow(rt: HostRuntime) {
     let alloc = rt.alloc();
     let module = sampling_by_choice(&rt, alloc, SampleLevel::Bias(at(2)));
-    refuses(
-        &rt,
-        alloc,
-        &module,
-        "fn 0 A2 at 5 needs 4: Expression [3] produced non-uniform result, and control flow depends on it",
-    );
+    refuses(&rt, alloc, module, MISPLACED);
+}
+
+/// Asserts that an image may be sampled at such a level anywhere.
+fn may_be_anywhere(rt: &impl Abort, alloc: Global, level: SampleLevel) {
+    refuses(rt, alloc, sampling_by_choice(rt, alloc, level), "accepted");
 }
 
 #[test]
 fn given_levels_do_not(rt: HostRuntime) {
     let alloc = rt.alloc();
-    accepts(
-        &rt,
-        alloc,
-        &sampling_by_choice(&rt, alloc, SampleLevel::Zero),
-    );
-    let level = SampleLevel::Exact(at(2));
-    accepts(&rt, alloc, &sampling_by_choice(&rt, alloc, level));
-    let level = SampleLevel::Gradient { x: at(2), y: at(2) };
-    accepts(&rt, alloc, &sampling_by_choice(&rt, alloc, level));
+    may_be_anywhere(&rt, alloc, SampleLevel::Zero);
+    may_be_anywhere(&rt, alloc, SampleLevel::Exact(at(2)));
+    let (x, y) = (at(2), at(2));
+    may_be_anywhere(&rt, alloc, SampleLevel::Gradient { x, y });
 }
 
 fn derivative() -> Expression {
@@ -238,13 +235,12 @@ fn differentiating_by_choice(rt: &impl Abort, alloc: Global) -> Module {
 #[test]
 fn a_call_needs_what_its_callee_needs(rt: HostRuntime) {
     let alloc = rt.alloc();
-    let module = differentiating_by_choice(&rt, alloc);
     expects(
         &rt,
         alloc,
-        &module,
+        differentiating_by_choice(&rt, alloc),
         "fn 0 uses - pairs - counts 1,0 result uniform; fn 1 uses - pairs - counts 1,1 result uniform",
     );
-    let info = info_at(&rt, alloc, &module, 1);
+    let info = info_at(&rt, alloc, differentiating_by_choice(&rt, alloc), 1);
     assert!(rt; info.uniformity.requirements == UniformityRequirements::DERIVATIVE);
 }

@@ -1,16 +1,12 @@
 //! The sample modules, and bodies over the expressions of some.
-use crate::tests::analysis::{
-    CHECKED, PLAIN, entry_point_info, expects, info_at, info_of, processed, refuses,
-};
+use crate::tests::analysis::{entry_point_info, expects, info_at, kills, needs, refuses};
 use crate::tests::infos::WANT;
 use crate::tests::made::{nothing, one, plain};
+use shader_arena::Handle;
 use shader_ir::{Block, EntryPoint, Items, Module, Name, ShaderStage, Statement};
 use shader_samples::parts::{at, branch, call, emit, store};
 use shader_samples::{Sample, over_a_float, sampling, with_derivatives, with_matrix};
-use shader_typing::valid::{
-    AnalysisError, FunctionError, FunctionInfo, GlobalOrArgument, UniformityDisruptor,
-    UniformityRequirements,
-};
+use shader_typing::valid::{GlobalOrArgument, UniformityRequirements};
 use std::alloc::Global;
 use std::process::Abort;
 
@@ -18,7 +14,7 @@ fn expects_sample(rt: &impl Abort, alloc: Global, name: &str, wanted: &str) {
     let sample = Sample::from_name(name.as_bytes()).expect(rt, "a sample");
     assert!(rt; sample.name() == name);
     let module = sample.build(alloc).expect(rt, WANT);
-    expects(rt, alloc, &module, wanted);
+    expects(rt, alloc, module, wanted);
 }
 
 #[test]
@@ -48,8 +44,8 @@ fn pairs_come_together_along_calls(rt: HostRuntime) {
         "fn 0 uses 0,0 pairs - counts 1,1,1,1 result non-uniform; fn 1 uses 0,1 pairs - counts 1,1 result non-uniform; fn 2 uses 1,1 pairs 0/1 counts 2 result non-uniform",
     );
     let module = sampling(alloc).expect(&rt, WANT);
-    let info = info_at(&rt, alloc, &module, 1);
-    let sampler = GlobalOrArgument::Global(shader_arena::Handle::from_index(1));
+    let sampler = GlobalOrArgument::Global(Handle::from_index(1));
+    let info = info_at(&rt, alloc, module, 1);
     assert!(rt; info.has_sampling(GlobalOrArgument::Argument(0), sampler));
 }
 
@@ -60,7 +56,7 @@ fn exits_go_on_into_the_case_that_follows(rt: HostRuntime) {
     refuses(
         &rt,
         alloc,
-        &exit,
+        exit,
         "fn 0 A2 at 4 needs 8: There is a Return earlier in the control flow of the function",
     );
     let accepted = "fn 0 uses 1 pairs - counts 1,1,1,1,0 result uniform";
@@ -79,10 +75,10 @@ fn operands_are_counted(rt: HostRuntime) {
     );
 }
 
-/// The requirements of the first function of a sample.
-fn needs(rt: &impl Abort, alloc: Global, sample: Sample) -> UniformityRequirements {
-    let module = sample.build(alloc).expect(rt, WANT);
-    info_of(rt, alloc, &module).uniformity.requirements
+/// Asserts that the first function of a sample needs derivatives.
+fn takes_a_derivative(rt: &impl Abort, alloc: Global, sample: Sample) {
+    let asked = needs(rt, alloc, sample.build(alloc).expect(rt, WANT));
+    assert!(rt; asked == UniformityRequirements::DERIVATIVE);
 }
 
 #[test]
@@ -94,8 +90,7 @@ fn derivatives_are_taken_in_uniform_flow(rt: HostRuntime) {
         "derivative-uniform",
         "fn 0 uses 0,5 pairs - counts 2,1,1,2,0,0 result uniform",
     );
-    let derivative = UniformityRequirements::DERIVATIVE;
-    assert!(rt; needs(&rt, alloc, Sample::DerivativeUniform) == derivative);
+    takes_a_derivative(&rt, alloc, Sample::DerivativeUniform);
 }
 
 #[test]
@@ -107,52 +102,35 @@ fn derivatives_are_taken_anywhere_where_the_filter_is_off(rt: HostRuntime) {
         "derivative-off",
         "fn 0 uses 1,4 pairs - counts 2,1,2,1,0,0 result uniform",
     );
-    let derivative = UniformityRequirements::DERIVATIVE;
-    assert!(rt; needs(&rt, alloc, Sample::DerivativeOff) == derivative);
+    takes_a_derivative(&rt, alloc, Sample::DerivativeOff);
 }
 
 #[test]
 fn derivatives_are_refused_elsewhere(rt: HostRuntime) {
     let alloc = rt.alloc();
-    let module = Sample::Derivative.build(alloc).expect(&rt, WANT);
     let wanted =
         "fn 0 A2 at 1 needs 2: Expression [2] produced non-uniform result, and control flow depends on it";
-    expects(&rt, alloc, &module, wanted);
-    match processed(&rt, alloc, &module, CHECKED, PLAIN) {
-        Err(AnalysisError { cause, .. }) => assert!(rt; is_misplaced(&cause)),
-        Ok(_) => panic!(rt; "accepted"),
-    }
+    expects_sample(&rt, alloc, "derivative", wanted);
 }
 
-fn is_misplaced(cause: &FunctionError) -> bool {
-    matches!(
-        cause,
-        FunctionError::NonUniformControlFlow(
-            UniformityRequirements::DERIVATIVE,
-            _,
-            UniformityDisruptor::Expression(_),
-        )
-    )
-}
-
-#[test]
-fn what_follows_a_return_is_disrupted(rt: HostRuntime) {
-    let alloc = rt.alloc();
-    let returns = one(&rt, alloc, Statement::Return { value: None });
+/// Returns where expression 2 says so, and then returns it.
+fn returning(rt: &impl Abort, alloc: Global) -> Module {
+    let returns = one(rt, alloc, Statement::Return { value: None });
     let value = Some(at(2));
     let statements = vec![in alloc;
         branch(2, returns, nothing(alloc)),
         emit(2, 4),
         Statement::Return { value },
     ];
-    let module = with_derivatives(alloc, statements.expect(&rt, WANT)).expect(&rt, WANT);
-    expects(
-        &rt,
-        alloc,
-        &module,
-        "fn 0 uses 1,4 pairs - counts 1,0,3,1,0,0 result non-uniform",
-    );
-    assert!(rt; !info_of(&rt, alloc, &module).may_kill);
+    with_derivatives(alloc, statements.expect(rt, WANT)).expect(rt, WANT)
+}
+
+#[test]
+fn what_follows_a_return_is_disrupted(rt: HostRuntime) {
+    let alloc = rt.alloc();
+    let wanted = "fn 0 uses 1,4 pairs - counts 1,0,3,1,0,0 result non-uniform";
+    expects(&rt, alloc, returning(&rt, alloc), wanted);
+    assert!(rt; !kills(&rt, alloc, returning(&rt, alloc), 0));
 }
 
 /// Kills where expression 2 says so, then stores, kills and returns.
@@ -182,18 +160,21 @@ fn with_entry_point(rt: &impl Abort, alloc: Global, made: Module) -> Module {
     module
 }
 
+fn entering(rt: &impl Abort, alloc: Global) -> Module {
+    with_entry_point(rt, alloc, killing(rt, alloc))
+}
+
 #[test]
 fn what_follows_a_kill_is_disrupted(rt: HostRuntime) {
     let alloc = rt.alloc();
-    let module = with_entry_point(&rt, alloc, killing(&rt, alloc));
     expects(
         &rt,
         alloc,
-        &module,
+        entering(&rt, alloc),
         "fn 0 uses 3,4 pairs - counts 1,0,2,1,1,2 result non-uniform; entry 0 uses 3,4 pairs - counts - result non-uniform",
     );
-    assert!(rt; info_at(&rt, alloc, &module, 0).may_kill);
-    assert!(rt; entry_point_info(&rt, alloc, &module).may_kill);
+    assert!(rt; kills(&rt, alloc, entering(&rt, alloc), 0));
+    assert!(rt; entry_point_info(&rt, alloc, entering(&rt, alloc)).may_kill);
 }
 
 /// The statements inside 200 blocks.
@@ -220,14 +201,14 @@ fn exits_are_found_deep_inside(rt: HostRuntime) {
     refuses(
         &rt,
         alloc,
-        &module,
+        module,
         "fn 0 A2 at 4 needs 8: There is a Discard earlier in the entry point across all called functions",
     );
     let module = loading_after(&rt, alloc, nothing(alloc));
     expects(
         &rt,
         alloc,
-        &module,
+        module,
         "fn 0 uses 1 pairs - counts 1,0,1,1,0 result uniform",
     );
 }

@@ -1,5 +1,5 @@
 //! What may differ among invocations by itself.
-use crate::tests::analysis::{info_of, origin};
+use crate::tests::analysis::{expects_origins, info_of};
 use crate::tests::infos::WANT;
 use crate::tests::made::{
     NUMBER, TEXELS, argument, local, nothing, one, one_global, plain, taking, taking_bound,
@@ -14,27 +14,29 @@ use shader_samples::parts::{at, number, resource};
 use std::alloc::Global;
 use std::process::Abort;
 
-/// Whether the expression differs, in a function with an argument and a local. If it does, it is its own origin.
-fn varies(rt: &impl Abort, alloc: Global, expression: Expression) -> bool {
+/// Asserts whether the expression differs, in a function with an argument and a local: its origin is `0`, itself, or `-`.
+fn varies(rt: &impl Abort, alloc: Global, expression: Expression, wanted: &str) {
     let expressions = vec![in alloc; expression].expect(rt, WANT);
     let function = taking(rt, alloc, expressions, nothing(alloc));
     let globals = one_global(rt, alloc, resource(TEXELS));
-    let info = info_of(rt, alloc, &with_function(rt, alloc, globals, function));
-    let found = origin(rt, &info, 0);
-    assert!(rt; found == None || found == Some(at(0)));
-    found.is_some()
+    expects_origins(
+        rt,
+        alloc,
+        with_function(rt, alloc, globals, function),
+        wanted,
+    );
 }
 
-/// Whether the argument differs that is bound so.
-fn bound_varies(rt: &impl Abort, alloc: Global, binding: Option<Binding>) -> bool {
+/// Asserts the same of an argument that is bound so.
+fn bound_varies(rt: &impl Abort, alloc: Global, binding: Option<Binding>, wanted: &str) {
     let expressions = vec![in alloc; argument(0)].expect(rt, WANT);
     let function = taking_bound(rt, alloc, binding, expressions, nothing(alloc));
     let module = with_function(rt, alloc, Vec::new(alloc), function);
-    origin(rt, &info_of(rt, alloc, &module), 0) == Some(at(0))
+    expects_origins(rt, alloc, module, wanted);
 }
 
-/// Whether a global of this space differs.
-fn space_varies(rt: &impl Abort, alloc: Global, space: AddressSpace) -> bool {
+/// Asserts the same of a global of this space.
+fn space_varies(rt: &impl Abort, alloc: Global, space: AddressSpace, wanted: &str) {
     let variable = GlobalVariable {
         name: None,
         space,
@@ -45,8 +47,12 @@ fn space_varies(rt: &impl Abort, alloc: Global, space: AddressSpace) -> bool {
     let expressions = vec![in alloc; expression].expect(rt, WANT);
     let function = plain(rt, alloc, expressions, nothing(alloc));
     let globals = one_global(rt, alloc, variable);
-    let module = with_function(rt, alloc, globals, function);
-    origin(rt, &info_of(rt, alloc, &module), 0) == Some(at(0))
+    expects_origins(
+        rt,
+        alloc,
+        with_function(rt, alloc, globals, function),
+        wanted,
+    );
 }
 
 fn storage(access: StorageAccess) -> AddressSpace {
@@ -56,49 +62,49 @@ fn storage(access: StorageAccess) -> AddressSpace {
 #[test]
 fn arguments_vary_but_for_what_a_work_group_shares(rt: HostRuntime) {
     let alloc = rt.alloc();
-    assert!(rt; bound_varies(&rt, alloc, None));
-    assert!(rt; bound_varies(&rt, alloc, Some(Binding::Location(0))));
+    bound_varies(&rt, alloc, None, "0");
+    bound_varies(&rt, alloc, Some(Binding::Location(0)), "0");
     let other = BuiltIn::Other(0);
-    assert!(rt; bound_varies(&rt, alloc, Some(Binding::BuiltIn(other))));
+    bound_varies(&rt, alloc, Some(Binding::BuiltIn(other)), "0");
 }
 
 #[test]
 fn what_a_work_group_shares_does_not_vary(rt: HostRuntime) {
     let alloc = rt.alloc();
     let id = BuiltIn::WorkGroupId;
-    assert!(rt; !bound_varies(&rt, alloc, Some(Binding::BuiltIn(id))));
+    bound_varies(&rt, alloc, Some(Binding::BuiltIn(id)), "-");
     let size = BuiltIn::WorkGroupSize;
-    assert!(rt; !bound_varies(&rt, alloc, Some(Binding::BuiltIn(size))));
+    bound_varies(&rt, alloc, Some(Binding::BuiltIn(size)), "-");
     let count = BuiltIn::NumWorkGroups;
-    assert!(rt; !bound_varies(&rt, alloc, Some(Binding::BuiltIn(count))));
+    bound_varies(&rt, alloc, Some(Binding::BuiltIn(count)), "-");
 }
 
 #[test]
 fn globals_of_an_invocation_vary(rt: HostRuntime) {
     let alloc = rt.alloc();
-    assert!(rt; space_varies(&rt, alloc, AddressSpace::Function));
-    assert!(rt; space_varies(&rt, alloc, AddressSpace::Private));
-    assert!(rt; space_varies(&rt, alloc, AddressSpace::RayPayload));
-    assert!(rt; space_varies(&rt, alloc, AddressSpace::IncomingRayPayload));
-    assert!(rt; space_varies(&rt, alloc, AddressSpace::Handle));
+    space_varies(&rt, alloc, AddressSpace::Function, "0");
+    space_varies(&rt, alloc, AddressSpace::Private, "0");
+    space_varies(&rt, alloc, AddressSpace::RayPayload, "0");
+    space_varies(&rt, alloc, AddressSpace::IncomingRayPayload, "0");
+    space_varies(&rt, alloc, AddressSpace::Handle, "0");
 }
 
 #[test]
 fn globals_that_all_share_do_not_vary(rt: HostRuntime) {
     let alloc = rt.alloc();
-    assert!(rt; !space_varies(&rt, alloc, AddressSpace::WorkGroup));
-    assert!(rt; !space_varies(&rt, alloc, AddressSpace::Uniform));
-    assert!(rt; !space_varies(&rt, alloc, AddressSpace::Immediate));
-    assert!(rt; !space_varies(&rt, alloc, AddressSpace::TaskPayload));
+    space_varies(&rt, alloc, AddressSpace::WorkGroup, "-");
+    space_varies(&rt, alloc, AddressSpace::Uniform, "-");
+    space_varies(&rt, alloc, AddressSpace::Immediate, "-");
+    space_varies(&rt, alloc, AddressSpace::TaskPayload, "-");
 }
 
 #[test]
 fn storage_that_is_written_varies(rt: HostRuntime) {
     let alloc = rt.alloc();
     let both = StorageAccess::LOAD | StorageAccess::STORE;
-    assert!(rt; space_varies(&rt, alloc, storage(both)));
-    assert!(rt; space_varies(&rt, alloc, storage(StorageAccess::STORE)));
-    assert!(rt; !space_varies(&rt, alloc, storage(StorageAccess::LOAD)));
+    space_varies(&rt, alloc, storage(both), "0");
+    space_varies(&rt, alloc, storage(StorageAccess::STORE), "0");
+    space_varies(&rt, alloc, storage(StorageAccess::LOAD), "-");
 }
 
 #[test]
@@ -106,20 +112,25 @@ fn what_statements_answer_varies(rt: HostRuntime) {
     let alloc = rt.alloc();
     let ty = Handle::from_index(NUMBER);
     let comparison = false;
-    assert!(rt; varies(&rt, alloc, Expression::AtomicResult { ty, comparison }));
-    assert!(rt; varies(&rt, alloc, Expression::RayQueryProceedResult));
-    assert!(rt; varies(&rt, alloc, Expression::SubgroupBallotResult));
-    assert!(rt; varies(&rt, alloc, Expression::SubgroupOperationResult { ty }));
-    assert!(rt; !varies(&rt, alloc, Expression::WorkGroupUniformLoadResult { ty }));
+    varies(&rt, alloc, Expression::AtomicResult { ty, comparison }, "0");
+    varies(&rt, alloc, Expression::RayQueryProceedResult, "0");
+    varies(&rt, alloc, Expression::SubgroupBallotResult, "0");
+    varies(&rt, alloc, Expression::SubgroupOperationResult { ty }, "0");
+    varies(
+        &rt,
+        alloc,
+        Expression::WorkGroupUniformLoadResult { ty },
+        "-",
+    );
 }
 
 #[test]
 fn locals_vary_and_constants_do_not(rt: HostRuntime) {
     let alloc = rt.alloc();
-    assert!(rt; varies(&rt, alloc, local()));
-    assert!(rt; !varies(&rt, alloc, number(7)));
+    varies(&rt, alloc, local(), "0");
+    varies(&rt, alloc, number(7), "-");
     let ty = Handle::from_index(NUMBER);
-    assert!(rt; !varies(&rt, alloc, Expression::ZeroValue(ty)));
+    varies(&rt, alloc, Expression::ZeroValue(ty), "-");
 }
 
 #[test]
@@ -133,9 +144,7 @@ fn what_has_an_operand_that_varies_varies(rt: HostRuntime) {
     let expressions = vec![in alloc; number(1), argument(0), sum].expect(&rt, WANT);
     let function = taking(&rt, alloc, expressions, nothing(alloc));
     let module = with_function(&rt, alloc, Vec::new(alloc), function);
-    let info = info_of(&rt, alloc, &module);
-    assert!(rt; origin(&rt, &info, 0) == None);
-    assert!(rt; origin(&rt, &info, 2) == Some(at(1)));
+    expects_origins(&rt, alloc, module, "-,1,1");
 }
 
 /// Whether the function's result differs, whose argument is expression 0 and a number expression 1.
@@ -143,7 +152,7 @@ fn result_varies(rt: &impl Abort, alloc: Global, statement: Statement) -> bool {
     let expressions = vec![in alloc; argument(0), number(1)].expect(rt, WANT);
     let function = taking(rt, alloc, expressions, one(rt, alloc, statement));
     let module = with_function(rt, alloc, Vec::new(alloc), function);
-    info_of(rt, alloc, &module).uniformity.non_uniform_result == Some(at(0))
+    info_of(rt, alloc, module).uniformity.non_uniform_result == Some(at(0))
 }
 
 fn store_matrix(target: u32, pointer: u32) -> Statement {

@@ -4,7 +4,8 @@ use crate::tests::infos::WANT;
 use crate::tests::made::{NUMBER, nothing, one, plain, two, with_function, with_functions};
 use shader_ir::{
     AtomicFunction, Barrier, Block, CollectiveOperation, CooperativeData, Direction, GatherMode,
-    Items, RayPipelineFunction, RayQueryFunction, Statement, SubgroupOperation, SwitchValue,
+    Items, Module, RayPipelineFunction, RayQueryFunction, Statement, SubgroupOperation,
+    SwitchValue,
 };
 use shader_samples::parts;
 use shader_samples::parts::{at, branch, call, case, emit, number, store};
@@ -26,7 +27,7 @@ fn info(rt: &impl Abort, alloc: Global, statement: Statement) -> FunctionInfo {
     info_of(
         rt,
         alloc,
-        &with_function(rt, alloc, Vec::new(alloc), function),
+        with_function(rt, alloc, Vec::new(alloc), function),
     )
 }
 
@@ -40,7 +41,7 @@ fn counts(
 ) {
     let info = info(rt, alloc, statement);
     assert!(rt; info.uniformity.requirements == asked);
-    expects_counts(rt, alloc, &info, wanted);
+    expects_counts(rt, alloc, info, wanted);
 }
 
 #[test]
@@ -334,18 +335,23 @@ fn of_matrix_stores(rt: HostRuntime) {
     counts(&rt, alloc, write, MATRIX, "1,1,1,0,0");
 }
 
+/// A function of two arguments, and one that calls it twice.
+fn calling_twice(rt: &impl Abort, alloc: Global) -> Module {
+    let mut callee = plain(rt, alloc, Vec::new(alloc), nothing(alloc));
+    let arguments = vec![in alloc; parts::argument(NUMBER), parts::argument(NUMBER)];
+    callee.arguments = Items::from(arguments.expect(rt, WANT));
+    let passed = vec![in alloc; at(0), at(0)].expect(rt, WANT);
+    let other = vec![in alloc; at(1), at(0)].expect(rt, WANT);
+    let statements = two(rt, alloc, call(0, passed), call(0, other));
+    let expressions = vec![in alloc; number(0), number(1)].expect(rt, WANT);
+    let caller = plain(rt, alloc, expressions, statements);
+    let functions = vec![in alloc; callee, caller].expect(rt, WANT);
+    with_functions(rt, alloc, Vec::new(alloc), functions)
+}
+
 #[test]
 fn of_calls(rt: HostRuntime) {
     let alloc = rt.alloc();
-    let mut callee = plain(&rt, alloc, Vec::new(alloc), nothing(alloc));
-    let arguments = vec![in alloc; parts::argument(NUMBER), parts::argument(NUMBER)];
-    callee.arguments = Items::from(arguments.expect(&rt, WANT));
-    let passed = vec![in alloc; at(0), at(0)].expect(&rt, WANT);
-    let other = vec![in alloc; at(1), at(0)].expect(&rt, WANT);
-    let statements = two(&rt, alloc, call(0, passed), call(0, other));
-    let expressions = vec![in alloc; number(0), number(1)].expect(&rt, WANT);
-    let caller = plain(&rt, alloc, expressions, statements);
-    let functions = vec![in alloc; callee, caller].expect(&rt, WANT);
-    let module = with_functions(&rt, alloc, Vec::new(alloc), functions);
-    expects_counts(&rt, alloc, &info_at(&rt, alloc, &module, 1), "3,1");
+    let caller = info_at(&rt, alloc, calling_twice(&rt, alloc), 1);
+    expects_counts(&rt, alloc, caller, "3,1");
 }
