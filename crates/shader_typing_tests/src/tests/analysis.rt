@@ -7,8 +7,8 @@ use shader_ir::{Module, mark};
 use shader_resolve::check_module;
 use shader_typing::valid::{
     AnalysisError, AnalysisPlace, Capabilities, ExpressionError, FunctionError, FunctionInfo,
-    GlobalUse, ModuleInfo, SamplingKey, Uniformity, UniformityRequirements, ValidationFlags,
-    analyze_module,
+    GlobalOrArgument, GlobalUse, ModuleInfo, SamplingKey, Uniformity, UniformityRequirements,
+    ValidationFlags, analyze_module,
 };
 use std::alloc::{AllocError, Global};
 use std::process::Abort;
@@ -281,23 +281,6 @@ pub fn expects_counts(rt: &impl Abort, alloc: Global, info: FunctionInfo, wanted
     assert!(rt; text.as_str() == wanted, "{text}");
 }
 
-/// How the first global is used by the first function.
-pub fn first_use(rt: &impl Abort, alloc: Global, module: Module) -> GlobalUse {
-    use_in(rt, info_of(rt, alloc, module))
-}
-
-/// How the first global is used.
-pub fn use_in(rt: &impl Abort, info: FunctionInfo) -> GlobalUse {
-    assert!(rt; info.global_variable_count() > 0);
-    let first: Handle<mark::GlobalVariable> = Handle::from_index(0);
-    info[first]
-}
-
-/// What the first function asks of the flow.
-pub fn needs(rt: &impl Abort, alloc: Global, module: Module) -> UniformityRequirements {
-    info_of(rt, alloc, module).uniformity.requirements
-}
-
 /// What is recorded of a function of a module without a fault.
 pub fn info_at(rt: &impl Abort, alloc: Global, module: Module, place: u32) -> FunctionInfo {
     let handle: Handle<mark::Function> = Handle::from_index(place);
@@ -308,11 +291,11 @@ pub fn info_at(rt: &impl Abort, alloc: Global, module: Module, place: u32) -> Fu
     }
 }
 
-/// What is recorded of the first entry point of a module without a fault.
-pub fn entry_point_info(rt: &impl Abort, alloc: Global, module: Module) -> FunctionInfo {
+/// Whether the first entry point of a module without a fault may end an invocation while others go on.
+pub fn entry_point_kills(rt: &impl Abort, alloc: Global, module: Module) -> bool {
     assert!(rt; module.entry_points.len() > 0);
     match analyzed(rt, alloc, &module) {
-        Ok(infos) => infos.get_entry_point(0).copy(alloc).expect(rt, WANT),
+        Ok(infos) => infos.get_entry_point(0).may_kill,
         Err(_) => panic!(rt; "refused"),
     }
 }
@@ -320,4 +303,23 @@ pub fn entry_point_info(rt: &impl Abort, alloc: Global, module: Module) -> Funct
 /// Whether a function of a module without a fault may end an invocation while others go on.
 pub fn kills(rt: &impl Abort, alloc: Global, module: Module, place: u32) -> bool {
     info_at(rt, alloc, module, place).may_kill
+}
+
+/// What a function of a module without a fault asks of the flow.
+pub fn needs(rt: &impl Abort, alloc: Global, module: Module, place: u32) -> UniformityRequirements {
+    info_at(rt, alloc, module, place).uniformity.requirements
+}
+
+/// How a function of a module without a fault uses the first global.
+pub fn first_use(rt: &impl Abort, alloc: Global, module: Module, place: u32) -> GlobalUse {
+    let info = info_at(rt, alloc, module, place);
+    assert!(rt; info.global_variable_count() > 0);
+    let first: Handle<mark::GlobalVariable> = Handle::from_index(0);
+    info[first]
+}
+
+/// Whether a function of a module without a fault samples its first argument with the second global.
+pub fn samples_its_argument(rt: &impl Abort, alloc: Global, module: Module, place: u32) -> bool {
+    let sampler = GlobalOrArgument::Global(Handle::from_index(1));
+    info_at(rt, alloc, module, place).has_sampling(GlobalOrArgument::Argument(0), sampler)
 }

@@ -1,5 +1,5 @@
 //! Functions that call others: what is recorded of them is what all chains of calls give.
-use crate::tests::analysis::{expects, info_at, kills, use_in};
+use crate::tests::analysis::{expects, first_use, info_at, kills};
 use crate::tests::infos::WANT;
 use crate::tests::made::{
     IMAGE, NUMBER, POINT, SAMPLER, argument, local, nothing, one, plain, taking, two,
@@ -118,16 +118,20 @@ fn samples_the_other_way(rt: &impl Abort, info: FunctionInfo) {
     assert!(rt; info.sampling.len() == 1 && info.sampling_set.is_empty());
 }
 
+/// Passes a local on where a sampler is taken.
+fn passing_a_local(rt: &impl Abort, alloc: Global) -> Module {
+    let passed = vec![in alloc; at(0), at(1)].expect(rt, WANT);
+    let statements = one(rt, alloc, call(0, passed));
+    let expressions = vec![in alloc; global(0), local()].expect(rt, WANT);
+    let caller = taking(rt, alloc, expressions, statements);
+    let functions = vec![in alloc; sampling(rt, alloc), caller].expect(rt, WANT);
+    with_functions(rt, alloc, resources(rt, alloc), functions)
+}
+
 #[test]
 fn what_is_passed_on_to_be_sampled_has_a_place(rt: HostRuntime) {
     let alloc = rt.alloc();
-    let mut caller = taking(&rt, alloc, Vec::new(alloc), nothing(alloc));
-    let called = passing(&rt, alloc, global(0), local());
-    caller.expressions = called.expressions;
-    caller.body = called.body;
-    let functions = vec![in alloc; sampling(&rt, alloc), caller].expect(&rt, WANT);
-    let module = with_functions(&rt, alloc, resources(&rt, alloc), functions);
-    expects(&rt, alloc, module, "fn 1 A1 at 1 E3");
+    expects(&rt, alloc, passing_a_local(&rt, alloc), "fn 1 A1 at 1 E3");
 }
 
 fn calling(rt: &impl Abort, alloc: Global, function: u32) -> Function {
@@ -245,6 +249,6 @@ fn writing_through_an_argument(rt: &impl Abort, alloc: Global) -> Module {
 #[test]
 fn a_pointer_that_is_passed_is_read(rt: HostRuntime) {
     let alloc = rt.alloc();
-    let info = info_at(&rt, alloc, writing_through_an_argument(&rt, alloc), 1);
-    assert!(rt; use_in(&rt, info) == GlobalUse::READ);
+    let module = writing_through_an_argument(&rt, alloc);
+    assert!(rt; first_use(&rt, alloc, module, 1) == GlobalUse::READ);
 }

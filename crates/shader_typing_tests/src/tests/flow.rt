@@ -317,7 +317,7 @@ fn behind_a_call_that_kills(rt: HostRuntime) {
 /// What the statement, in a branch on what varies, asks of the flow. It is accepted there: an `Emit` alone is refused.
 fn asked(rt: &impl Abort, alloc: Global, statement: Statement) -> UniformityRequirements {
     let choice = by_choice(rt, alloc, statement);
-    needs(rt, alloc, module_of(rt, alloc, one(rt, alloc, choice)))
+    needs(rt, alloc, module_of(rt, alloc, one(rt, alloc, choice)), 0)
 }
 
 #[test]

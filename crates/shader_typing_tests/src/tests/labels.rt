@@ -18,7 +18,7 @@ const NO_USE: GlobalUse = GlobalUse(0);
 
 fn used(rt: &impl Abort, alloc: Global, variable: GlobalVariable, function: Function) -> GlobalUse {
     let globals = one_global(rt, alloc, variable);
-    first_use(rt, alloc, with_function(rt, alloc, globals, function))
+    first_use(rt, alloc, with_function(rt, alloc, globals, function), 0)
 }
 
 /// How the statement uses the global, which is expression 0, where expressions 1 and 2 are numbers.

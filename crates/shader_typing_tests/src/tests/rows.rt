@@ -1,7 +1,6 @@
 //! Functions of one argument: what varies, what is counted, what is refused.
 use crate::tests::analysis::{
-    CHECKED, PLAIN, expects, expects_counts, expects_origins, info_at, info_of, is_accepted,
-    refuses,
+    CHECKED, PLAIN, expects, expects_counts, expects_origins, info_of, is_accepted, needs, refuses,
 };
 use crate::tests::infos::WANT;
 use crate::tests::made::{
@@ -241,6 +240,6 @@ fn a_call_needs_what_its_callee_needs(rt: HostRuntime) {
         differentiating_by_choice(&rt, alloc),
         "fn 0 uses - pairs - counts 1,0 result uniform; fn 1 uses - pairs - counts 1,1 result uniform",
     );
-    let info = info_at(&rt, alloc, differentiating_by_choice(&rt, alloc), 1);
-    assert!(rt; info.uniformity.requirements == UniformityRequirements::DERIVATIVE);
+    let asked = needs(&rt, alloc, differentiating_by_choice(&rt, alloc), 1);
+    assert!(rt; asked == UniformityRequirements::DERIVATIVE);
 }

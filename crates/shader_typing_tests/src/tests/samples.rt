@@ -1,12 +1,13 @@
 //! The sample modules, and bodies over the expressions of some.
-use crate::tests::analysis::{entry_point_info, expects, info_at, kills, needs, refuses};
+use crate::tests::analysis::{
+    entry_point_kills, expects, kills, needs, refuses, samples_its_argument,
+};
 use crate::tests::infos::WANT;
 use crate::tests::made::{nothing, one, plain};
-use shader_arena::Handle;
 use shader_ir::{Block, EntryPoint, Items, Module, Name, ShaderStage, Statement};
 use shader_samples::parts::{at, branch, call, emit, store};
 use shader_samples::{Sample, over_a_float, sampling, with_derivatives, with_matrix};
-use shader_typing::valid::{GlobalOrArgument, UniformityRequirements};
+use shader_typing::valid::UniformityRequirements;
 use std::alloc::Global;
 use std::process::Abort;
 
@@ -44,9 +45,7 @@ fn pairs_come_together_along_calls(rt: HostRuntime) {
         "fn 0 uses 0,0 pairs - counts 1,1,1,1 result non-uniform; fn 1 uses 0,1 pairs - counts 1,1 result non-uniform; fn 2 uses 1,1 pairs 0/1 counts 2 result non-uniform",
     );
     let module = sampling(alloc).expect(&rt, WANT);
-    let sampler = GlobalOrArgument::Global(Handle::from_index(1));
-    let info = info_at(&rt, alloc, module, 1);
-    assert!(rt; info.has_sampling(GlobalOrArgument::Argument(0), sampler));
+    assert!(rt; samples_its_argument(&rt, alloc, module, 1));
 }
 
 #[test]
@@ -77,7 +76,7 @@ fn operands_are_counted(rt: HostRuntime) {
 
 /// Asserts that the first function of a sample needs derivatives.
 fn takes_a_derivative(rt: &impl Abort, alloc: Global, sample: Sample) {
-    let asked = needs(rt, alloc, sample.build(alloc).expect(rt, WANT));
+    let asked = needs(rt, alloc, sample.build(alloc).expect(rt, WANT), 0);
     assert!(rt; asked == UniformityRequirements::DERIVATIVE);
 }
 
@@ -174,7 +173,7 @@ fn what_follows_a_kill_is_disrupted(rt: HostRuntime) {
         "fn 0 uses 3,4 pairs - counts 1,0,2,1,1,2 result non-uniform; entry 0 uses 3,4 pairs - counts - result non-uniform",
     );
     assert!(rt; kills(&rt, alloc, entering(&rt, alloc), 0));
-    assert!(rt; entry_point_info(&rt, alloc, entering(&rt, alloc)).may_kill);
+    assert!(rt; entry_point_kills(&rt, alloc, entering(&rt, alloc)));
 }
 
 /// The statements inside 200 blocks.
