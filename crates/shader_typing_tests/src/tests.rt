@@ -1,3 +1,15 @@
+mod analysis;
+mod chains;
+mod filters;
+mod flow;
 mod infos;
+mod labels;
+mod made;
 mod modules;
+mod places;
+mod refusals;
+mod rows;
+mod samples;
+mod sources;
+mod statements;
 mod texts;

@@ -1,0 +1,5 @@
+pub mod Laws
+pub mod Modules
+pub mod Names
+pub mod Samples
+pub mod Types

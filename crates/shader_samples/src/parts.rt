@@ -1,0 +1,226 @@
+//! What the samples are put together from.
+ghost use Rattle.std.specs.Prelude.{◌≡◌, ◌≤◌, [], None, length, IfOk};
+ghost use Rattle.shader_arena.specs.Places.{most_items};
+ghost use Rattle.shader_ir.specs.BodyOf.{body_of};
+ghost use Rattle.shader_ir.specs.declared.expression.Expression.TheVariants as form;
+ghost use Rattle.shader_ir.specs.declared.statement.Statement.TheVariants as statement;
+ghost use Rattle.shader_samples.specs.Modules.{function_with, module_with};
+ghost use Rattle.shader_samples.specs.Samples.{argument, number, off, resource, storage};
+ghost use Rattle.shader_samples.specs.Types.{types_after};
+
+use shader_arena::{Arena, Handle, Range, UniqueArena};
+use shader_ir::{
+    AddressSpace, Block, DiagnosticFilterNode, DiagnosticRule, Expression, Function,
+    FunctionArgument, GlobalVariable, Items, Literal, Map, Module, Severity, Statement,
+    StorageAccess, SwitchCase, SwitchValue, Type, TypeInner, mark,
+};
+use std::alloc::{AllocError, Global};
+
+/// An arena of the items, in order.
+///
+/// # Errors
+///
+/// Want of memory.
+pub fn arena_of<T: Drop, M>(alloc: Global, items: Vec<T>) -> Result<Arena<T, M>, AllocError>
+    requires { length items.items ≤ most_items }
+    ensures { IfOk result (λ arena. arena ≡ items.items) }
+{
+    let mut arena = Arena::new(alloc);
+    for item in items {
+        arena.append(item)?;
+    }
+    Ok(arena)
+}
+
+/// An arena of the types, without names, in order. A type that comes again is there once.
+///
+/// # Errors
+///
+/// Want of memory.
+pub fn types_of(
+    alloc: Global,
+    inners: Vec<TypeInner>,
+) -> Result<UniqueArena<Type, mark::Type>, AllocError>
+    requires { length inners.items ≤ most_items }
+    ensures { IfOk result (λ types. types ≡ types_after [] inners.items) }
+{
+    let mut types = UniqueArena::new(alloc);
+    for inner in inners {
+        types.insert(Type { name: None, inner })?;
+    }
+    Ok(types)
+}
+
+/// A module of these types, globals and functions alone.
+///
+/// # Errors
+///
+/// Want of memory.
+pub fn module_of(
+    alloc: Global,
+    types: Vec<TypeInner>,
+    globals: Vec<GlobalVariable>,
+    functions: Vec<Function>,
+) -> Result<Module, AllocError>
+    requires types { length types.items ≤ most_items }
+    requires globals { length globals.items ≤ most_items }
+    requires functions { length functions.items ≤ most_items }
+    ensures { IfOk result (λ made. made ≡ module_with (types_after [] types.items) globals.items functions.items) }
+{
+    let mut module = Module::new(alloc);
+    module.types = types_of(alloc, types)?;
+    module.global_variables = arena_of(alloc, globals)?;
+    module.functions = arena_of(alloc, functions)?;
+    Ok(module)
+}
+
+/// A function without arguments, result and locals.
+///
+/// # Errors
+///
+/// Want of memory.
+pub fn function_of(
+    alloc: Global,
+    expressions: Vec<Expression>,
+    statements: Vec<Statement>,
+) -> Result<Function, AllocError>
+    requires { length expressions.items ≤ most_items }
+    ensures { IfOk result (λ made. made ≡ function_with [] None expressions.items [] (body_of statements.items)) }
+{
+    Ok(Function {
+        name: None,
+        arguments: Items::from(Vec::new(alloc)),
+        result: None,
+        local_variables: Arena::new(alloc),
+        expressions: arena_of(alloc, expressions)?,
+        named_expressions: Map::new(alloc),
+        body: Block { statements },
+        diagnostic_filter_leaf: None,
+    })
+}
+
+/// The expression at a place.
+pub fn at(place: u32) -> Handle<mark::Expression>
+    ensures { result ≡ place }
+{
+    Handle::from_index(place)
+}
+
+/// A global in the handle space, as images and samplers are.
+pub fn resource(ty: u32) -> GlobalVariable
+    ensures { result ≡ resource ty }
+{
+    GlobalVariable {
+        name: None,
+        space: AddressSpace::Handle,
+        ty: Handle::from_index(ty),
+        init: None,
+    }
+}
+
+/// A global in a storage buffer that is read and written.
+pub fn storage(ty: u32) -> GlobalVariable
+    ensures { result ≡ storage ty }
+{
+    GlobalVariable {
+        name: None,
+        space: AddressSpace::Storage {
+            access: StorageAccess::LOAD | StorageAccess::STORE,
+        },
+        ty: Handle::from_index(ty),
+        init: None,
+    }
+}
+
+/// An argument that is bound to nothing.
+pub fn argument(ty: u32) -> FunctionArgument
+    ensures { result ≡ argument ty }
+{
+    FunctionArgument {
+        name: None,
+        ty: Handle::from_index(ty),
+        binding: None,
+    }
+}
+
+/// The global at a place.
+pub fn global(place: u32) -> Expression
+    ensures { result ≡ form.GlobalVariable place }
+{
+    Expression::GlobalVariable(Handle::from_index(place))
+}
+
+/// A literal u32.
+pub fn number(value: u32) -> Expression
+    ensures { result ≡ number value }
+{
+    Expression::Literal(Literal::U32(value))
+}
+
+/// Evaluates the expressions from `start` to `end`, without `end`.
+pub fn emit(start: u32, end: u32) -> Statement
+    ensures { result ≡ statement.Emit (start, end) }
+{
+    Statement::Emit(Range::new(at(start), at(end)))
+}
+
+/// Writes a value through a pointer.
+pub fn store(pointer: u32, value: u32) -> Statement
+    ensures { result ≡ statement.Store pointer value }
+{
+    Statement::Store {
+        pointer: at(pointer),
+        value: at(value),
+    }
+}
+
+/// Calls a function, and takes no result of it.
+pub fn call(function: u32, arguments: Vec<Handle<mark::Expression>>) -> Statement
+    ensures { result ≡ statement.Call function arguments.items None }
+{
+    Statement::Call {
+        function: Handle::from_index(function),
+        arguments: Items::from(arguments),
+        result: None,
+    }
+}
+
+/// Runs the first statements where the condition holds, else the second.
+pub fn branch(condition: u32, accept: Vec<Statement>, reject: Vec<Statement>) -> Statement
+    ensures { result ≡ statement.If condition (body_of accept.items) (body_of reject.items) }
+{
+    Statement::If {
+        condition: at(condition),
+        accept: Block { statements: accept },
+        reject: Block { statements: reject },
+    }
+}
+
+/// One case of a switch.
+pub fn case(value: SwitchValue, statements: Vec<Statement>, fall_through: bool) -> SwitchCase
+    ensures { result ≡ record { value = value; body = body_of statements.items; fall_through = fall_through } }
+{
+    SwitchCase {
+        value,
+        body: Block { statements },
+        fall_through,
+    }
+}
+
+/// One filter, which says nothing of derivatives outside uniform flow.
+///
+/// # Errors
+///
+/// Want of memory.
+pub fn derivatives_off(
+    alloc: Global,
+) -> Result<Arena<DiagnosticFilterNode, mark::DiagnosticFilterNode>, AllocError>
+    ensures { IfOk result (λ filters. filters ≡ off) }
+{
+    let filter = DiagnosticFilterNode {
+        severity: Severity::Off,
+        rule: DiagnosticRule::DerivativeUniformity,
+        parent: None,
+    };
+    arena_of(alloc, vec![in alloc; filter]?)
+}

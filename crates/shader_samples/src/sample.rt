@@ -1,0 +1,92 @@
+//! The samples by name.
+use crate::{
+    counts, derivative, derivative_off, derivative_uniform, exit, exit_off, named, no_fall,
+    sampling, stored,
+};
+use shader_ir::Module;
+use std::alloc::{AllocError, Global};
+
+/// A sample module. The function of the same name in this crate says what is in it.
+#[derive(Clone, Copy, Debug, PartialEq, Eq)]
+pub enum Sample {
+    Named,
+    Stored,
+    Sampling,
+    Exit,
+    NoFall,
+    ExitOff,
+    Counts,
+    DerivativeUniform,
+    Derivative,
+    DerivativeOff,
+}
+
+impl Sample {
+    ghost use Rattle.std.specs.Prelude.{◌≡◌, IfOk};
+    ghost use Rattle.shader_samples.specs.Names.{sample_named, name_text};
+    ghost use Rattle.shader_samples.specs.Samples.{module_of};
+
+    /// All samples.
+    pub const ALL: [Sample; 10] = [
+        Sample::Named,
+        Sample::Stored,
+        Sample::Sampling,
+        Sample::Exit,
+        Sample::NoFall,
+        Sample::ExitOff,
+        Sample::Counts,
+        Sample::DerivativeUniform,
+        Sample::Derivative,
+        Sample::DerivativeOff,
+    ];
+
+    /// The name, in lower case, with hyphens between words.
+    pub fn name(self) -> &'static str
+        ensures { result.now ≡ name_text self }
+    {
+        match self {
+            Sample::Named => "named",
+            Sample::Stored => "stored",
+            Sample::Sampling => "sampling",
+            Sample::Exit => "exit",
+            Sample::NoFall => "no-fall",
+            Sample::ExitOff => "exit-off",
+            Sample::Counts => "counts",
+            Sample::DerivativeUniform => "derivative-uniform",
+            Sample::Derivative => "derivative",
+            Sample::DerivativeOff => "derivative-off",
+        }
+    }
+
+    /// The sample of this name.
+    pub fn from_name(name: &[u8]) -> Option<Sample>
+        ensures { result ≡ sample_named name.now }
+    {
+        Sample::ALL
+            .iter()
+            .copied()
+            .find(|sample| sample.name().as_bytes() == name)
+    }
+
+    /// The module.
+    ///
+    /// # Errors
+    ///
+    /// Want of memory.
+    pub fn build(self, alloc: Global) -> Result<Module, AllocError>
+        ensures { IfOk result (λ made. made ≡ module_of self) }
+    {
+        match self {
+            Sample::Named => named(alloc),
+            Sample::Stored => stored(alloc),
+            Sample::Sampling => sampling(alloc),
+            Sample::Exit => exit(alloc),
+            Sample::NoFall => no_fall(alloc),
+            Sample::ExitOff => exit_off(alloc),
+            Sample::Counts => counts(alloc),
+            Sample::DerivativeUniform => derivative_uniform(alloc),
+            Sample::Derivative => derivative(alloc),
+            Sample::DerivativeOff => derivative_off(alloc),
+        }
+    }
+}
