@@ -130,29 +130,34 @@ fn registered_results(rt: HostRuntime) {
     );
 }
 
-#[test]
-fn unregistered_abstract_result(rt: HostRuntime) {
-    let mut module = module(&rt, rt.alloc());
+/// The module in which the result of modf of f32 is registered.
+fn with_modf_result(rt: &impl Abort, alloc: Global) -> Module {
+    let mut module = module(rt, alloc);
     let predeclared = PredeclaredType::ModfResult {
         size: None,
         scalar: F32,
     };
-    let ty = Handle::from_index(5);
     module
         .special_types
         .predeclared_types
-        .insert(predeclared, ty)
-        .expect(&rt, WANT);
-    let locals = Arena::new(rt.alloc());
-    let context = ResolveContext::with_locals(&module, &locals, &[]);
-    unregistered_rows(&Rows::new(&rt, &context, rt.alloc()))
+        .insert(predeclared, Handle::from_index(5))
+        .expect(rt, WANT);
+    module
 }
 
 /// An abstract float has a result of its own, and doesn't take that for f32.
-fn unregistered_rows<R: Abort>(rows: &Rows<'_, R>) {
-    rows.expects(&[scalar(F32)], of_one(MathFunction::Modf), Ok(of(5)));
-    rows.expects(
-        &[scalar(Scalar::ABSTRACT_FLOAT)],
+#[test]
+fn unregistered_abstract_result(rt: HostRuntime) {
+    let rows = Rows::new(&rt, rt.alloc());
+    rows.expects_of(
+        with_modf_result(&rt, rt.alloc()),
+        [scalar(F32)],
+        of_one(MathFunction::Modf),
+        Ok(of(5)),
+    );
+    rows.expects_of(
+        with_modf_result(&rt, rt.alloc()),
+        [scalar(Scalar::ABSTRACT_FLOAT)],
         of_one(MathFunction::Modf),
         Err(ResolveError::MissingSpecialType),
     );
