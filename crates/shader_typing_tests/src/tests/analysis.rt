@@ -213,6 +213,14 @@ pub fn processed(
     ModuleInfo::new(alloc).process_function(alloc, place, module, flags, capabilities)
 }
 
+/// Asserts that memory wasn't wanted.
+pub fn wants_no_memory(rt: &impl Abort, error: &AnalysisError) {
+    assert!(rt;
+        !matches!(error.cause, FunctionError::OutOfMemory),
+        "want of memory"
+    );
+}
+
 /// What is recorded of the first function, which is accepted.
 pub fn info_of(rt: &impl Abort, alloc: Global, module: Module) -> FunctionInfo {
     match processed(rt, alloc, &module, CHECKED, PLAIN) {
@@ -252,7 +260,13 @@ pub fn is_accepted(
     flags: ValidationFlags,
     capabilities: Capabilities,
 ) -> bool {
-    processed(rt, alloc, &module, flags, capabilities).is_ok()
+    match processed(rt, alloc, &module, flags, capabilities) {
+        Ok(_) => true,
+        Err(error) => {
+            wants_no_memory(rt, &error);
+            false
+        }
+    }
 }
 
 fn add_origins(text: &mut String, info: &FunctionInfo) -> Result<(), AllocError> {
@@ -287,7 +301,10 @@ pub fn info_at(rt: &impl Abort, alloc: Global, module: Module, place: u32) -> Fu
     assert!(rt; module.functions.contains_handle(handle));
     match analyzed(rt, alloc, &module) {
         Ok(infos) => infos[handle].copy(alloc).expect(rt, WANT),
-        Err(_) => panic!(rt; "refused"),
+        Err(error) => {
+            wants_no_memory(rt, &error);
+            panic!(rt; "refused")
+        }
     }
 }
 
@@ -296,7 +313,10 @@ pub fn entry_point_kills(rt: &impl Abort, alloc: Global, module: Module) -> bool
     assert!(rt; module.entry_points.len() > 0);
     match analyzed(rt, alloc, &module) {
         Ok(infos) => infos.get_entry_point(0).may_kill,
-        Err(_) => panic!(rt; "refused"),
+        Err(error) => {
+            wants_no_memory(rt, &error);
+            panic!(rt; "refused")
+        }
     }
 }
 

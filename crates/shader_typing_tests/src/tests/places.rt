@@ -1,5 +1,5 @@
 //! Where a module is refused: at its first global expression, function or entry point with a fault.
-use crate::tests::analysis::{analyzed, expects};
+use crate::tests::analysis::{analyzed, expects, wants_no_memory};
 use crate::tests::infos::WANT;
 use crate::tests::made::{argument, nothing, plain, with_function, with_functions};
 use shader_ir::{
@@ -74,7 +74,10 @@ fn is_a_number(rt: &impl Abort, alloc: Global, module: Module) {
             let number = TypeResolution::Value(TypeInner::Scalar(Scalar::U32));
             assert!(rt; infos[at(1)] == number);
         }
-        Err(_) => panic!(rt; "refused"),
+        Err(error) => {
+            wants_no_memory(rt, &error);
+            panic!(rt; "refused")
+        }
     }
 }
 
