@@ -66,7 +66,7 @@ impl Step {
 ///
 /// # Errors
 ///
-/// Want of memory, or of room in the arena.
+/// Memory is refused, or the arena is full.
 pub fn calls_from_words(
     alloc: Global,
     words: Pieces<'_>,

@@ -6,13 +6,13 @@ use std::alloc::{AllocError, Global};
 
 /// A type whose values are copied with memory, as a container copies what it holds.
 ///
-/// It stands in place of `Clone`, which has no place for an allocator.
+/// It stands in place of `Clone`, of which nothing says for every type that a clone is equal, and which is told no allocator.
 pub trait TryCopy: Drop {
-    /// The same value again.
+    /// Returns an equal value.
     ///
     /// # Errors
     ///
-    /// Want of memory.
+    /// `AllocError` if memory is refused.
     fn try_copy(&self, alloc: Global) -> Result<Self, AllocError>
         ensures { IfOk result (λ copy. copy ≡ self.now) };
 }
@@ -41,7 +41,7 @@ impl<T: TryCopy> TryCopy for Option<T> {
     }
 }
 
-/// The same items again, in order.
+/// Copies items, in order.
 pub(crate) fn copy_items<T: TryCopy>(alloc: Global, items: &[T]) -> Result<Vec<T>, AllocError>
     ensures { IfOk result (λ copy. copy.items ≡ items.now) }
 {

@@ -1,3 +1,3 @@
 mod FaultLemmas
-mod ListLemmas
+pub mod ListLemmas
 mod TypedLemmas

@@ -6,4 +6,4 @@ mod one;
 mod sweep;
 
 pub use one::type_of;
-pub use sweep::types_of;
+pub use sweep::{types_of, untyped};

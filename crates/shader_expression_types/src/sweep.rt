@@ -30,8 +30,9 @@ fn context_of<'a>(module: &'a Module, function: &'a Function) -> ResolveContext<
     )
 }
 
-/// How a function is refused where the type of an expression is.
-fn untyped(handle: Handle<mark::Expression>, failure: ResolveError) -> FunctionError
+/// How a function, or a global expression, is refused where the type of an expression is: want of memory is told as such, and any
+/// other refusal with its expression.
+pub fn untyped(handle: Handle<mark::Expression>, failure: ResolveError) -> FunctionError
     ensures { result ≡ untyped_error handle failure }
 {
     match failure {

@@ -3,7 +3,7 @@ pub mod Counts
 mod Flow
 mod Members
 pub mod Misplaced
-mod Needs
+pub mod Needs
 pub mod Pairs
 pub mod Unplaced
 mod Varied

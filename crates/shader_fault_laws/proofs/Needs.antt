@@ -76,7 +76,7 @@ form_small (form.CooperativeLoad a b r t) = omega arith
 form_small (form.CooperativeMultiplyAdd a b c) = omega arith
 form_small x = omega arith
 
-result_small : (infos : List FunctionInfo) (c : ℕ) → result_needs infos c < 16
+pub result_small : (infos : List FunctionInfo) (c : ℕ) → result_needs infos c < 16
 result_small infos c = at (slice_get infos c) where
   at : (o : Option FunctionInfo) → unwrap_or (option_map (λ (i : FunctionInfo). bit_and i.uniformity.requirements.0 15) o) 0 < 16
   at None = omega arith

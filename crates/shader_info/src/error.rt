@@ -13,8 +13,10 @@ pub enum UniformityDisruptor {
     /// A condition or a selector differs among invocations, because this expression does.
     #[error("Expression {0:?} produced non-uniform result, and control flow depends on it")]
     Expression(Handle<mark::Expression>),
+    /// An earlier `Return` stands in disrupted flow.
     #[error("There is a Return earlier in the control flow of the function")]
     Return,
+    /// An earlier `Kill` stands in disrupted flow, in the function or in one that it calls.
     #[error("There is a Discard earlier in the entry point across all called functions")]
     Discard,
 }
@@ -39,6 +41,7 @@ pub enum ExpressionError {
 /// Why a function, or a global expression, is refused.
 #[derive(Debug, Drop, Error)]
 pub enum FunctionError {
+    /// An expression is refused.
     #[error("Expression {handle:?}: {source}")]
     Expression {
         handle: Handle<mark::Expression>,
@@ -50,6 +53,7 @@ pub enum FunctionError {
     /// The expression is an operand more often than a `usize` counts.
     #[error("CountFull")]
     CountFull(Handle<mark::Expression>),
+    /// Memory is refused.
     #[error("OutOfMemory")]
     OutOfMemory,
 }
@@ -70,6 +74,7 @@ impl From<AllocError> for FunctionError {
 pub enum AnalysisPlace {
     /// A global expression.
     ConstExpression(Handle<mark::Expression>),
+    /// A function that may be called.
     Function(Handle<mark::Function>),
     /// The entry point at this place in the module's list.
     EntryPoint(usize),

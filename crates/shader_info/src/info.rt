@@ -26,6 +26,7 @@ pub struct Uniformity {
 /// Where an image or a sampler comes from.
 #[derive(Clone, Copy, Debug, PartialEq, Eq, Hash)]
 pub enum GlobalOrArgument {
+    /// A global variable.
     Global(Handle<mark::GlobalVariable>),
     /// The place among the function's arguments.
     Argument(u32),
@@ -55,11 +56,11 @@ pub struct ExpressionInfo {
 }
 
 impl ExpressionInfo {
-    /// The same info again.
+    /// Returns an equal info.
     ///
     /// # Errors
     ///
-    /// Want of memory for the type.
+    /// `AllocError` if memory for the type is refused.
     pub fn copy(&self, alloc: Global) -> Result<ExpressionInfo, AllocError>
         ensures { IfOk result (λ copy. copy ≡ self.now) }
     {
@@ -144,11 +145,11 @@ impl FunctionInfo {
         self.sampling.contains(&Sampling { image, sampler })
     }
 
-    /// The same info again.
+    /// Returns an equal info.
     ///
     /// # Errors
     ///
-    /// Want of memory for a table or a set.
+    /// `AllocError` if memory for a table or a set is refused.
     pub fn copy(&self, alloc: Global) -> Result<FunctionInfo, AllocError>
         ensures { IfOk result (λ copy. SameInfo self.now copy) }
     {

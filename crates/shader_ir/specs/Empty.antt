@@ -1,5 +1,7 @@
--- Modules with nothing in them.
+-- Modules and functions with nothing in them.
 use Rattle.std.specs.Prelude.{◌≡◌, [], None}
+use Rattle.shader_ir.specs.Body.{End}
+use Rattle.shader_ir.specs.declared.function.Function.{Function}
 use Rattle.shader_ir.specs.declared.«module».Module.{Module}
 
 -- the module has no types, no other items and no special types
@@ -15,3 +17,14 @@ pub record IsEmptyModule (m : Module) : Type 0 where
   pub functions : m.functions ≡ []
   pub entry_points : m.entry_points ≡ []
   pub diagnostic_filters : m.diagnostic_filters ≡ []
+
+-- the function has no name, arguments, result, locals, expressions, names, statements and filter
+pub record IsEmptyFunction (f : Function) : Type 0 where
+  pub name : f.name ≡ None
+  pub arguments : f.arguments ≡ []
+  pub result : f.result ≡ None
+  pub local_variables : f.local_variables ≡ []
+  pub expressions : f.expressions ≡ []
+  pub named_expressions : f.named_expressions ≡ []
+  pub body : f.body ≡ End
+  pub diagnostic_filter_leaf : f.diagnostic_filter_leaf ≡ None

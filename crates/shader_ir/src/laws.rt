@@ -1,4 +1,4 @@
-//! Laws of what this crate's calls answer, each the contract of a function that does nothing.
+//! Laws of what this crate's calls return, each the contract of a function that does nothing.
 ghost use Rattle.std.specs.Prelude.{◌≡◌, [], ◌∷◌};
 ghost use Rattle.shader_ir.specs.Conversion.{ConversionsListed};
 ghost use Rattle.shader_ir.specs.LayoutLaws.{RefusalsRepeat, UpdatesCompose};

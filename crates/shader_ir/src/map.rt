@@ -58,11 +58,11 @@ impl<K: Eq + Hash, V> Map<K, V> {
         self.entries.get(key)
     }
 
-    /// Sets the value of a key, and answers the old one. A new key comes last.
+    /// Sets the value of a key, and returns the old one. A new key comes last.
     ///
     /// # Errors
     ///
-    /// Want of memory hands key and value back.
+    /// If memory is refused, key and value are handed back.
     pub fn insert(&mut self, key: K, value: V) -> Result<Option<V>, AllocFailed<(K, V)>>
     where
         K: Drop,
@@ -91,11 +91,11 @@ impl<K: Eq + Hash, V> Map<K, V> {
 }
 
 impl<K: Eq + Hash + TryCopy, V: TryCopy> Map<K, V> {
-    /// The same map again.
+    /// Returns an equal map.
     ///
     /// # Errors
     ///
-    /// Want of memory for the map, or for a key or value.
+    /// `AllocError` if memory for the map or for a key or value is refused.
     pub fn copy(&self, alloc: Global) -> Result<Map<K, V>, AllocError>
         ensures { IfOk result (λ copy. copy ≡ self.now) }
     {

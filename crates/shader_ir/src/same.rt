@@ -7,7 +7,7 @@ use crate::{ArraySize, PredeclaredType, Scalar, StructMember, Type, TypeInner, V
 
 /// A type whose `==` leaves nothing of a value out: two values are equal exactly where contracts see the same of both.
 ///
-/// So a `UniqueArena` of such items holds each of them once, and answers the handle of the very item that it was given.
+/// So a `UniqueArena` of such items holds each of them once, and returns the handle of the very item that it was given.
 pub trait Same: Eq {
     /// Whether both values are the same.
     final fn is_same(&self, other: &Self) -> bool

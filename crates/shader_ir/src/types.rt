@@ -137,11 +137,11 @@ pub struct Type {
 }
 
 impl Type {
-    /// The same type again.
+    /// Returns an equal type.
     ///
     /// # Errors
     ///
-    /// Want of memory for names and members.
+    /// `AllocError` if memory for names and members is refused.
     pub fn copy(&self, alloc: Global) -> Result<Type, AllocError>
         ensures { IfOk result (λ copy. copy ≡ self.now) }
     {
@@ -153,11 +153,11 @@ impl Type {
 }
 
 impl TypeInner {
-    /// The same type again.
+    /// Returns an equal type.
     ///
     /// # Errors
     ///
-    /// Want of memory for the members of a struct.
+    /// `AllocError` if memory for the members of a struct is refused.
     pub fn copy(&self, alloc: Global) -> Result<TypeInner, AllocError>
         ensures copy { IfOk result (λ inner. inner ≡ self.now) }
         ensures ok { HoldsNoMembers self.now → IsOk result }
@@ -181,7 +181,7 @@ impl TypeInner {
         }
     }
 
-    /// The same type again, which is made of scalars.
+    /// Copies a type that is made of scalars.
     fn copy_of_scalars(&self) -> TypeInner
         requires { IsOfScalars self.now }
         ensures { result ≡ self.now }
@@ -223,7 +223,7 @@ impl TypeInner {
         }
     }
 
-    /// The same type again, which is an array or a resource.
+    /// Copies a type that is an array or a resource.
     fn copy_of_resources(&self) -> TypeInner
         requires { IsResource self.now }
         ensures { result ≡ self.now }
@@ -264,11 +264,11 @@ impl TypeInner {
 }
 
 impl StructMember {
-    /// The same member again.
+    /// Returns an equal member.
     ///
     /// # Errors
     ///
-    /// Want of memory for the name.
+    /// `AllocError` if memory for the name is refused.
     pub fn copy(&self, alloc: Global) -> Result<StructMember, AllocError>
         ensures { IfOk result (λ member. member ≡ self.now) }
     {

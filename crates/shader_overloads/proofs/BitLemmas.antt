@@ -47,7 +47,7 @@ module _ (n k a : ℕ) (is : n ≡ a * 2 ^ suc k + 2 ^ k) where
   small : 2 ^ k < 2 ^ suc k
   small = let p : 0 < 2 ^ k = pow_pos k in rw (pow-succ' 2 k) (omega arith)
 
-  bit_low : (i : ℕ) → i < suc k → bit_at n i ≡ bit_at (2 ^ k) i
+  pub bit_low : (i : ℕ) → i < suc k → bit_at n i ≡ bit_at (2 ^ k) i
   bit_low i h = ap (λ m. bit_at m i) is ∙ bit_at_cat_low a (suc k) (2 ^ k) i h
 
   bit_high : (i : ℕ) → k < i → bit_at n i ≡ bit_at a (i - suc k)

@@ -5,11 +5,17 @@ use Rattle.std.proofs.lemmas.List.{length-replicate}
 use Rattle.shader_ir.specs.declared.scalar.Scalar.{Scalar}
 use Rattle.shader_ir.specs.declared.proc.type_resolution.TypeResolution.TheVariants as resolutions
 use Rattle.shader_overloads.specs.declared.constructor_set.ConstructorSize.{ConstructorSize}
+use Rattle.shader_overloads.specs.declared.mask.Mask.{Mask}
 use Rattle.shader_overloads.specs.declared.regular.ConclusionRule.{ConclusionRule}
+use Rattle.shader_overloads.specs.declared.regular.RegularRows.{RegularRows}
 use Rattle.shader_overloads.specs.declared.rule.Rule.{Rule}
-use Rattle.shader_overloads.specs.Constructors.{to_inner}
+use Rattle.shader_ir.specs.Scalars.{named_scalars}
+use Rattle.shader_overloads.specs.Constructors.{all_constructors, to_inner}
 use Rattle.shader_overloads.specs.Counts.{IsCount, IsLeastCount, IsGreatestCount}
+use Rattle.shader_overloads.specs.Masks.{has_place, rules_at}
+use Rattle.shader_overloads.specs.Regular.{all_rules}
 use Rattle.shader_overloads.specs.Rules.{regular_rules, rule_for}
+use Rattle.shader_overloads.proofs.ListCountLemmas.{place_of}
 
 -- an element of a list, of which each is made by f of some two parts
 element_of : {X Y Z : Type 0} (P : Z → Type 0) (f : X → Y → Z) → ((x : X) (y : Y) → P (f x y)) → (x : X) (ys : List Y) (rest : List Z) → ((k : ℕ) (z : Z) → slice_get rest k ≡ Some z → P z) → (k : ℕ) (z : Z) → slice_get (map (f x) ys ++ rest) k ≡ Some z → P z
@@ -33,22 +39,26 @@ some_first : (rules : List Rule) → rules ≢ [] → (rule : Rule) × (slice_ge
 some_first [] some = absurd (some refl)
 some_first (rule ∷ rules) some = (rule, refl)
 
-reached : (arity : ℕ) (conclude : ConclusionRule) (all : List ConstructorSize) (scalars : List Scalar) (rules : List Rule) → regular_rules arity conclude all scalars ≡ rules → rules ≢ [] → IsCount arity rules
-reached arity conclude all scalars rules e some =
-    let first = some_first rules some in
-    (0, first.0, first.1, count_of arity conclude all scalars 0 first.0 (ap (λ list. slice_get list 0) e ∙ first.1))
+module _ (table : RegularRows) (mask : Mask) (rules : List Rule) (is : rules_at mask (all_rules table) ≡ rules) where
+  -- so it is of those whose numbers are in a mask
+  bound : (k : ℕ) (rule : Rule) → slice_get rules k ≡ Some rule → length rule.arguments ≡ table.arity
+  bound k rule at =
+      let r = place_of (has_place mask) (all_rules table) rule k (ap (λ list. slice_get list k) is ∙ at) in
+      count_of table.arity table.conclude all_constructors named_scalars r.place rule r.at
 
-bound : (arity : ℕ) (conclude : ConclusionRule) (all : List ConstructorSize) (scalars : List Scalar) (rules : List Rule) → regular_rules arity conclude all scalars ≡ rules → (k : ℕ) (rule : Rule) → slice_get rules k ≡ Some rule → length rule.arguments ≡ arity
-bound arity conclude all scalars rules e k rule at = count_of arity conclude all scalars k rule (ap (λ list. slice_get list k) e ∙ at)
+  reached : rules ≢ [] → IsCount table.arity rules
+  reached some =
+      let first = some_first rules some in
+      (0, first.0, first.1, bound 0 first.0 first.1)
 
-pub least_count : (arity : ℕ) (conclude : ConclusionRule) (all : List ConstructorSize) (scalars : List Scalar) (rules : List Rule) → regular_rules arity conclude all scalars ≡ rules → rules ≢ [] → IsLeastCount arity rules
-least_count arity conclude all scalars rules e some = record {
-  reached = reached arity conclude all scalars rules e some;
-  bound = λ k rule at. let count = bound arity conclude all scalars rules e k rule at in omega arith;
-}
+  pub least_count : rules ≢ [] → IsLeastCount table.arity rules
+  least_count some = record {
+    reached = reached some;
+    bound = λ k rule at. let count = bound k rule at in omega arith;
+  }
 
-pub greatest_count : (arity : ℕ) (conclude : ConclusionRule) (all : List ConstructorSize) (scalars : List Scalar) (rules : List Rule) → regular_rules arity conclude all scalars ≡ rules → rules ≢ [] → IsGreatestCount arity rules
-greatest_count arity conclude all scalars rules e some = record {
-  reached = reached arity conclude all scalars rules e some;
-  bound = λ k rule at. let count = bound arity conclude all scalars rules e k rule at in omega arith;
-}
+  pub greatest_count : rules ≢ [] → IsGreatestCount table.arity rules
+  greatest_count some = record {
+    reached = reached some;
+    bound = λ k rule at. let count = bound k rule at in omega arith;
+  }

@@ -5,6 +5,10 @@ pub mod NarrowLemmas
 pub mod RegularLemmas
 pub mod SetLemmas
 pub mod MaskLemmas
+pub mod DigitLemmas
+pub mod PlaceLemmas
+pub mod PairLemmas
+pub mod TableLemmas
 pub mod TakesLemmas
 pub mod FormLemmas
 pub mod BuiltinLemmas

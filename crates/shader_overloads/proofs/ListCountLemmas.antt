@@ -1,16 +1,15 @@
 -- How many arguments the rules have that are left of a list.
-use Rattle.std.proofs.Common.{◌≡◌, ◌≤◌, ◌<◌, ◌∙◌, ℕ, zero, suc, Bool, true, false, List, [], ◌∷◌, length, sym, ap, arith, subst, inl, inr, ◌⊎◌, Some, slice_get, min, max, refl}
+use Rattle.std.proofs.Common.{◌≡◌, ◌≤◌, ◌∙◌, ℕ, zero, suc, Bool, true, false, not, ◌&&◌, nat_eq, List, [], ◌∷◌, length, sym, ap, arith, subst, inl, inr, ◌⊎◌, Some, slice_get, min, max, refl}
 use Rattle.std.proofs.Math.Nat.{min-eq_left, min-eq_right, max-eq_left, max-eq_right}
-use Rattle.std.proofs.lemmas.Bool.{both_ways, cases_lt, cases_eq}
+use Rattle.std.proofs.lemmas.Bool.{both_ways, cases_lt, cases_eq, ne_eqb}
 use Rattle.shader_overloads.specs.declared.rule.Rule.{Rule}
 use Rattle.shader_overloads.specs.Bits.{cons_if, items_where}
 use Rattle.shader_overloads.specs.Counts.{IsCount, IsLeastCount, IsGreatestCount}
-use Rattle.shader_overloads.proofs.ListLemmas.{slice_get-within}
 
 -- ---- elements and their places
 
 -- a place that passes, with its element
-record PlaceOf {X : Type 0} (p : ℕ → Bool) (xs : List X) (x : X) : Type 0 where
+pub record PlaceOf {X : Type 0} (p : ℕ → Bool) (xs : List X) (x : X) : Type 0 where
   pub place : ℕ
   pub at : slice_get xs place ≡ Some x
   pub passes : p place ≡ true
@@ -20,7 +19,7 @@ place_of_kept p y x xs rest true here later zero at = record { place = 0; at = a
 place_of_kept p y x xs rest true here later (suc k) at = let r = later k at in record { place = suc r.place; at = r.at; passes = r.passes }
 place_of_kept p y x xs rest false here later k at = let r = later k at in record { place = suc r.place; at = r.at; passes = r.passes }
 
-place_of : {X : Type 0} (p : ℕ → Bool) (xs : List X) (x : X) (k : ℕ) → slice_get (items_where p xs) k ≡ Some x → PlaceOf p xs x
+pub place_of : {X : Type 0} (p : ℕ → Bool) (xs : List X) (x : X) (k : ℕ) → slice_get (items_where p xs) k ≡ Some x → PlaceOf p xs x
 place_of p [] x k at = absurd (cc)
 place_of p (y ∷ xs) x k at = place_of_kept p y x xs (items_where (λ i. p (suc i)) xs) (p 0) refl (λ j e. place_of (λ i. p (suc i)) xs x j e) k at
 
@@ -44,10 +43,10 @@ listed p (y ∷ xs) x (suc k) here at = listed_later (p 0) y x (items_where (λ 
 
 -- ---- the best count so far
 
--- a count of a member that is in the relation to those of all members below a place
-pub record BestSoFar (relation : ℕ → ℕ → Type 0) (members : ℕ → Bool) (rules : List Rule) (place best : ℕ) : Type 0 where
+-- a count of a member that is in the relation to those of all members that are no longer left
+pub record BestSoFar (relation : ℕ → ℕ → Type 0) (members left : ℕ → Bool) (rules : List Rule) (best : ℕ) : Type 0 where
   pub reached : IsCount best (items_where members rules)
-  pub bound : (k : ℕ) (rule : Rule) → k < place → slice_get rules k ≡ Some rule → members k ≡ true → relation best (length rule.arguments)
+  pub bound : (k : ℕ) (rule : Rule) → slice_get rules k ≡ Some rule → members k ≡ true → left k ≡ false → relation best (length rule.arguments)
 
 abbrev pub AtMost : ℕ → ℕ → Type 0
 AtMost a b = a ≤ b
@@ -55,65 +54,60 @@ AtMost a b = a ≤ b
 abbrev pub AtLeast : ℕ → ℕ → Type 0
 AtLeast a b = b ≤ a
 
-pub best_first : (relation : ℕ → ℕ → Type 0) (members : ℕ → Bool) (rules : List Rule) (rule : Rule) (best : ℕ) → slice_get (items_where members rules) 0 ≡ Some rule → best ≡ length rule.arguments → BestSoFar relation members rules 0 best
+pub best_first : (relation : ℕ → ℕ → Type 0) (members : ℕ → Bool) (rules : List Rule) (rule : Rule) (best : ℕ) → slice_get (items_where members rules) 0 ≡ Some rule → best ≡ length rule.arguments → BestSoFar relation members members rules best
 best_first relation members rules rule best at e = record {
   reached = (0, rule, at, sym e);
-  bound = λ k other h. absurd (omega arith);
+  bound = λ k other found here out. absurd (both_ways (members k) out here);
 }
 
-pub best_skip : (relation : ℕ → ℕ → Type 0) (members : ℕ → Bool) (rules : List Rule) (place best : ℕ) → members place ≡ false → BestSoFar relation members rules place best → BestSoFar relation members rules (suc place) best
-best_skip relation members rules place best out so = record {
-  reached = so.reached;
-  bound = λ k rule h at here. elim (cases_eq k place) [
-    | inl e ↦ absurd (both_ways (members place) out (ap members (sym e) ∙ here))
-    | inr ne ↦ so.bound k rule (omega (arith, ne)) at here
-  ];
-}
+still_left : (b : Bool) → (b && not false) ≡ false → b ≡ false
+still_left true e = e
+still_left false e = refl
 
 -- the better one of the best so far and of the count of the next rule
-best_next : (relation : ℕ → ℕ → Type 0) (members : ℕ → Bool) (rules : List Rule) (place best better : ℕ) (next : Rule)
-    → slice_get rules place ≡ Some next → members place ≡ true → (better ≡ best) ⊎ (better ≡ length next.arguments)
-    → relation better (length next.arguments) → ((n : ℕ) → relation best n → relation better n)
-    → BestSoFar relation members rules place best → BestSoFar relation members rules (suc place) better
-best_next relation members rules place best better next at in_set which new old so = record {
+best_next : (relation : ℕ → ℕ → Type 0) (members left next : ℕ → Bool) (rules : List Rule) (place best better : ℕ) (rule : Rule)
+    → slice_get rules place ≡ Some rule → members place ≡ true → ((k : ℕ) → next k ≡ (left k && not (nat_eq k place))) → (better ≡ best) ⊎ (better ≡ length rule.arguments)
+    → relation better (length rule.arguments) → ((n : ℕ) → relation best n → relation better n)
+    → BestSoFar relation members left rules best → BestSoFar relation members next rules better
+best_next relation members left next rules place best better rule at in_set others which new old so = record {
   reached = elim which [
     | inl e ↦ subst (λ n. IsCount n (items_where members rules)) (sym e) so.reached
-    | inr e ↦ let r = listed members rules next place in_set at in (r.number, next, r.at, sym e)
+    | inr e ↦ let r = listed members rules rule place in_set at in (r.number, rule, r.at, sym e)
   ];
-  bound = λ k rule h found here. elim (cases_eq k place) [
-    | inl e ↦ let same : next ≡ rule = cc (sym at ∙ ap (slice_get rules) (sym e) ∙ found) in subst (λ (r : Rule). relation better (length r.arguments)) same new
-    | inr ne ↦ old (length rule.arguments) (so.bound k rule (omega (arith, ne)) found here)
+  bound = λ k other found here out. elim (cases_eq k place) [
+    | inl e ↦ let same : rule ≡ other = cc (sym at ∙ ap (slice_get rules) (sym e) ∙ found) in subst (λ (r : Rule). relation better (length r.arguments)) same new
+    | inr ne ↦ old (length other.arguments) (so.bound k other found here (still_left (left k) (sym (ap (λ b. left k && not b) (ne_eqb k place ne)) ∙ sym (others k) ∙ out)))
   ];
 }
 
-pub least_next : (members : ℕ → Bool) (rules : List Rule) (place best : ℕ) (next : Rule) → slice_get rules place ≡ Some next → members place ≡ true → BestSoFar AtMost members rules place best → BestSoFar AtMost members rules (suc place) (min best (length next.arguments))
-least_next members rules place best next at in_set so = elim (cases_lt best (length next.arguments)) [
-  | inl less ↦
-      let is : min best (length next.arguments) ≡ best = min-eq_left (omega arith) in
-      best_next AtMost members rules place best _ next at in_set (inl is) (omega (arith, is)) (λ n h. omega (arith, is)) so
-  | inr more ↦
-      let is : min best (length next.arguments) ≡ length next.arguments = min-eq_right more in
-      best_next AtMost members rules place best _ next at in_set (inr is) (omega (arith, is)) (λ n h. omega (arith, is)) so
-]
+module _ (members left next : ℕ → Bool) (rules : List Rule) (place best : ℕ) (rule : Rule) (at : slice_get rules place ≡ Some rule) (in_set : members place ≡ true) (others : (k : ℕ) → next k ≡ (left k && not (nat_eq k place))) where
+  pub least_next : BestSoFar AtMost members left rules best → BestSoFar AtMost members next rules (min best (length rule.arguments))
+  least_next so = elim (cases_lt best (length rule.arguments)) [
+    | inl less ↦
+        let is : min best (length rule.arguments) ≡ best = min-eq_left (omega arith) in
+        best_next AtMost members left next rules place best _ rule at in_set others (inl is) (omega (arith, is)) (λ n h. omega (arith, is)) so
+    | inr more ↦
+        let is : min best (length rule.arguments) ≡ length rule.arguments = min-eq_right more in
+        best_next AtMost members left next rules place best _ rule at in_set others (inr is) (omega (arith, is)) (λ n h. omega (arith, is)) so
+  ]
 
-pub greatest_next : (members : ℕ → Bool) (rules : List Rule) (place best : ℕ) (next : Rule) → slice_get rules place ≡ Some next → members place ≡ true → BestSoFar AtLeast members rules place best → BestSoFar AtLeast members rules (suc place) (max best (length next.arguments))
-greatest_next members rules place best next at in_set so = elim (cases_lt best (length next.arguments)) [
-  | inl less ↦
-      let is : max best (length next.arguments) ≡ length next.arguments = max-eq_right (omega arith) in
-      best_next AtLeast members rules place best _ next at in_set (inr is) (omega (arith, is)) (λ n h. omega (arith, is)) so
-  | inr more ↦
-      let is : max best (length next.arguments) ≡ best = max-eq_left more in
-      best_next AtLeast members rules place best _ next at in_set (inl is) (omega (arith, is)) (λ n h. omega (arith, is)) so
-]
+  pub greatest_next : BestSoFar AtLeast members left rules best → BestSoFar AtLeast members next rules (max best (length rule.arguments))
+  greatest_next so = elim (cases_lt best (length rule.arguments)) [
+    | inl less ↦
+        let is : max best (length rule.arguments) ≡ length rule.arguments = max-eq_right (omega arith) in
+        best_next AtLeast members left next rules place best _ rule at in_set others (inr is) (omega (arith, is)) (λ n h. omega (arith, is)) so
+    | inr more ↦
+        let is : max best (length rule.arguments) ≡ best = max-eq_left more in
+        best_next AtLeast members left next rules place best _ rule at in_set others (inl is) (omega (arith, is)) (λ n h. omega (arith, is)) so
+  ]
 
-best_done : (relation : ℕ → ℕ → Type 0) (members : ℕ → Bool) (rules : List Rule) (place best : ℕ) → length rules ≤ place → BestSoFar relation members rules place best → (k : ℕ) (rule : Rule) → slice_get (items_where members rules) k ≡ Some rule → relation best (length rule.arguments)
-best_done relation members rules place best h so k rule at =
+best_done : (relation : ℕ → ℕ → Type 0) (members left : ℕ → Bool) (rules : List Rule) (best : ℕ) → ((k : ℕ) → left k ≡ false) → BestSoFar relation members left rules best → (k : ℕ) (rule : Rule) → slice_get (items_where members rules) k ≡ Some rule → relation best (length rule.arguments)
+best_done relation members left rules best none so k rule at =
     let r = place_of members rules rule k at in
-    let within = slice_get-within rules r.place rule r.at in
-    so.bound r.place rule (omega (arith, within)) r.at r.passes
+    so.bound r.place rule r.at r.passes (none r.place)
 
-pub least_done : (members : ℕ → Bool) (rules : List Rule) (place best : ℕ) → length rules ≤ place → BestSoFar AtMost members rules place best → IsLeastCount best (items_where members rules)
-least_done members rules place best h so = record { reached = so.reached; bound = best_done AtMost members rules place best h so }
+pub least_done : (members left : ℕ → Bool) (rules : List Rule) (best : ℕ) → ((k : ℕ) → left k ≡ false) → BestSoFar AtMost members left rules best → IsLeastCount best (items_where members rules)
+least_done members left rules best none so = record { reached = so.reached; bound = best_done AtMost members left rules best none so }
 
-pub greatest_done : (members : ℕ → Bool) (rules : List Rule) (place best : ℕ) → length rules ≤ place → BestSoFar AtLeast members rules place best → IsGreatestCount best (items_where members rules)
-greatest_done members rules place best h so = record { reached = so.reached; bound = best_done AtLeast members rules place best h so }
+pub greatest_done : (members left : ℕ → Bool) (rules : List Rule) (best : ℕ) → ((k : ℕ) → left k ≡ false) → BestSoFar AtLeast members left rules best → IsGreatestCount best (items_where members rules)
+greatest_done members left rules best none so = record { reached = so.reached; bound = best_done AtLeast members left rules best none so }

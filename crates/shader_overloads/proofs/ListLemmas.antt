@@ -1,10 +1,8 @@
 -- The elements at the places that pass.
-use Rattle.std.proofs.Common.{◌≡◌, ◌≢◌, ℕ, zero, suc, ◌+◌, ◌<◌, ◌≤◌, Bool, true, false, cond, not, ◌&&◌, ◌||◌, List, [], ◌∷◌, ◌++◌, length, map, refl, sym, ◌∙◌, ap, arith, inl, inr, Some, slice_get, get_or, append_assoc, length-append, ◌*◌, take}
+use Rattle.std.proofs.Common.{◌≡◌, ◌≢◌, ℕ, zero, suc, ◌+◌, ◌<◌, ◌≤◌, Bool, true, false, cond, not, ◌&&◌, ◌||◌, List, [], ◌∷◌, ◌++◌, length, map, refl, sym, ◌∙◌, ap, arith, inl, inr, Some, slice_get, get_or, length-append, ◌*◌}
 use Rattle.std.specs.List.{filter, flat_map, list_any}
 use Rattle.std.proofs.lemmas.Bool.{cases_lt, both_ways, or_parts, or_from, or_left, and_parts, not-true}
-use Rattle.std.proofs.lemmas.List.Elements.{filter-append, filter_agree}
 use Rattle.std.proofs.lemmas.List.{nil_from_length, length-map}
-use Rattle.std.proofs.lemmas.List.Concat.{flat_map_single}
 use Rattle.shader_overloads.specs.Bits.{items_where, cons_if}
 
 pub items_where-none : {X : Type 0} (p : ℕ → Bool) (xs : List X) → ((i : ℕ) → i < length xs → p i ≡ false) → items_where p xs ≡ []
@@ -50,36 +48,9 @@ first_within p xs t none some = elim (cases_lt t (length xs)) [
   | inr h ↦ absurd (some (items_where-none p xs (λ i l. none i (omega arith))))
 ]
 
--- ---- a filter of all combinations
-
-filter-map : {X Y : Type 0} (p : Y → Bool) (f : X → Y) (xs : List X) → filter p (map f xs) ≡ map f (filter (λ x. p (f x)) xs)
-filter-map p f [] = refl
-filter-map p f (x ∷ xs) = elim (p (f x)) as (λ b. cond b (f x ∷ filter p (map f xs)) (filter p (map f xs)) ≡ map f (cond b (x ∷ filter (λ y. p (f y)) xs) (filter (λ y. p (f y)) xs))) [
-  | true ↦ ap (λ ys. f x ∷ ys) (filter-map p f xs)
-  | false ↦ filter-map p f xs
-]
-
 pub filter_all : {X : Type 0} (xs : List X) → filter (λ _. true) xs ≡ xs
 filter_all [] = refl
 filter_all (x ∷ xs) = ap (λ ys. x ∷ ys) (filter_all xs)
-
-pub filter_none : {X : Type 0} (xs : List X) → filter (λ _. false) xs ≡ []
-filter_none [] = refl
-filter_none (x ∷ xs) = filter_none xs
-
--- the tests of two parts, where the first part is fixed
-filter-part : {Y : Type 0} (b : Bool) (q : Y → Bool) (ys : List Y) → filter (λ y. b && q y) ys ≡ cond b (filter q ys) []
-filter-part true q ys = refl
-filter-part false q ys = filter_none ys
-
--- a test of combinations that is a test of each part keeps the combinations of the parts that pass
-pub filter-combinations : {X Y Z : Type 0} (f : X → Y → Z) (p : Z → Bool) (g : X → Bool) (q : Y → Bool) → ((x : X) (y : Y) → p (f x y) ≡ (g x && q y)) → (xs : List X) (ys : List Y) → filter p (flat_map (λ x. map (f x) ys) xs) ≡ flat_map (λ x. map (f x) (filter q ys)) (filter g xs)
-filter-combinations f p g q parts [] ys = refl
-filter-combinations f p g q parts (x ∷ xs) ys =
-    filter-append p (map (f x) ys) (flat_map (λ v. map (f v) ys) xs)
-    ∙ ap (λ zs. zs ++ filter p (flat_map (λ v. map (f v) ys) xs)) (filter-map p (f x) ys ∙ ap (map (f x)) (filter_agree _ _ (parts x) ys ∙ filter-part (g x) q ys))
-    ∙ ap (λ zs. map (f x) (cond (g x) (filter q ys) []) ++ zs) (filter-combinations f p g q parts xs ys)
-    ∙ elim (g x) as (λ b. map (f x) (cond b (filter q ys) []) ++ flat_map (λ v. map (f v) (filter q ys)) (filter g xs) ≡ flat_map (λ v. map (f v) (filter q ys)) (cond b (x ∷ filter g xs) (filter g xs))) [ true ↦ refl | false ↦ refl ]
 
 -- ---- the places of a set against a test of the elements
 
@@ -178,54 +149,7 @@ places_of_either p q m n r [] left right either = tt
 places_of_either p q m n r (x ∷ xs) left right either =
     (either 0 ∙ ap (λ b. b || n 0) left.0 ∙ ap (λ b. p x || b) right.0, places_of_either p q (λ k. m (suc k)) (λ k. n (suc k)) (λ k. r (suc k)) xs left.1 right.1 (λ k. either (suc k)))
 
--- two tests that say the same of the places of a set keep the same elements of any set
-pub filter_same_places : {X : Type 0} (p q : X → Bool) (m n : ℕ → Bool) (xs : List X) → Places m p xs → Places m q xs → filter p (items_where n xs) ≡ filter q (items_where n xs)
-filter_same_places p q m n [] left right = refl
-filter_same_places p q m n (x ∷ xs) left right =
-    filter-cons_if p (n 0) x _
-    ∙ ap (λ b. cons_if (n 0 && b) x (filter p (items_where (λ k. n (suc k)) xs))) (sym left.0 ∙ right.0)
-    ∙ ap (cons_if (n 0 && q x) x) (filter_same_places p q (λ k. m (suc k)) (λ k. n (suc k)) xs left.1 right.1)
-    ∙ sym (filter-cons_if q (n 0) x _)
-
--- ---- a loop over the members of a set, each seen as a list of one element
-
--- the first member of a list, and the others
-pub record Next {X : Type 0} (whole item rest : List X) : Type 0 where
-  pub first : X
-  pub alone : item ≡ first ∷ []
-  pub is : whole ≡ first ∷ rest
-
-same_from_singles : {X : Type 0} (xs ys : List X) → map (λ x. x ∷ []) xs ≡ map (λ x. x ∷ []) ys → xs ≡ ys
-same_from_singles [] [] e = refl
-same_from_singles [] (y ∷ ys) e = cc
-same_from_singles (x ∷ xs) [] e = cc
-same_from_singles (x ∷ xs) (y ∷ ys) e =
-    let d : x ≡ y = cc in
-    let t : map (λ z. z ∷ []) xs ≡ map (λ z. z ∷ []) ys = cc in
-    ap (λ z. z ∷ xs) d ∙ ap (λ zs. y ∷ zs) (same_from_singles xs ys t)
-
-pub next_member : {X : Type 0} (whole item rest : List X) → map (λ x. x ∷ []) whole ≡ item ∷ map (λ x. x ∷ []) rest → Next whole item rest
-next_member [] item rest e = cc
-next_member (x ∷ xs) item rest e =
-    let t : map (λ z. z ∷ []) xs ≡ map (λ z. z ∷ []) rest = cc in
-    record { first = x; alone = cc; is = ap (λ zs. x ∷ zs) (same_from_singles xs rest t) }
-
-pub none_left : {X : Type 0} (xs : List X) → map (λ x. x ∷ []) xs ≡ [] → xs ≡ []
-none_left [] e = refl
-none_left (x ∷ xs) e = cc
-
--- a list that grows by what a member gives, toward what all members give
-pub grown : {X Y : Type 0} (g : X → List Y) (done more all : List Y) (whole item rest : List X) (v : X) → map (λ x. x ∷ []) whole ≡ item ∷ map (λ x. x ∷ []) rest → slice_get item 0 ≡ Some v → more ≡ done ++ g v → done ++ flat_map g whole ≡ all → more ++ flat_map g rest ≡ all
-grown g done more all whole item rest v step here e invariant =
-    let next = next_member whole item rest step in
-    let same : next.first ≡ v = cc (ap (λ xs. slice_get xs 0) next.alone) in
-    ap (λ ys. ys ++ flat_map g rest) e ∙ append_assoc done (g v) (flat_map g rest)
-    ∙ ap (λ x. done ++ (g x ++ flat_map g rest)) (sym same) ∙ sym (ap (λ xs. done ++ flat_map g xs) next.is) ∙ invariant
-
-pub grown_one : {X Y : Type 0} (f : X → Y) (done more all : List Y) (whole item rest : List X) (v : X) → map (λ x. x ∷ []) whole ≡ item ∷ map (λ x. x ∷ []) rest → slice_get item 0 ≡ Some v → more ≡ done ++ f v ∷ [] → done ++ map f whole ≡ all → more ++ map f rest ≡ all
-grown_one f done more all whole item rest v step here e invariant =
-    ap (λ ys. more ++ ys) (sym (flat_map_single f rest))
-    ∙ grown (λ x. f x ∷ []) done more all whole item rest v step here e (ap (λ ys. done ++ ys) (flat_map_single f whole) ∙ invariant)
+-- ---- elements by their numbers
 
 -- a set of places whose elements are those of another set that pass a test
 pub items_where-filter : {X : Type 0} (q : X → Bool) (n r : ℕ → Bool) (xs : List X) → ((k : ℕ) (x : X) → slice_get xs k ≡ Some x → r k ≡ (n k && q x)) → items_where r xs ≡ filter q (items_where n xs)
@@ -294,25 +218,9 @@ items_where-first p (x ∷ xs) zero none here h = rw here refl
 items_where-first p (x ∷ xs) (suc t) none here h =
     rw (none 0 (omega arith)) (items_where-first (λ k. p (suc k)) xs t (λ i l. none (suc i) (omega arith)) here (omega arith))
 
--- one more element, in or out
 cons_if-append : {X : Type 0} (b : Bool) (y : X) (ys zs : List X) → cons_if b y (ys ++ zs) ≡ cons_if b y ys ++ zs
 cons_if-append true y ys zs = refl
 cons_if-append false y ys zs = refl
-
-pub items_where-take_in : {X : Type 0} (p : ℕ → Bool) (xs : List X) (t : ℕ) (x : X) → p t ≡ true → slice_get xs t ≡ Some x → items_where p (take (suc t) xs) ≡ items_where p (take t xs) ++ x ∷ []
-items_where-take_in p [] t x here at = cc
-items_where-take_in p (y ∷ xs) zero x here at = let d : y ≡ x = cc in rw here (ap (λ v. v ∷ []) d)
-items_where-take_in p (y ∷ xs) (suc t) x here at =
-    ap (cons_if (p 0) y) (items_where-take_in (λ k. p (suc k)) xs t x here at) ∙ cons_if-append (p 0) y (items_where (λ k. p (suc k)) (take t xs)) (x ∷ [])
-
-take_nil : {X : Type 0} (t : ℕ) → take {A = X} t [] ≡ []
-take_nil zero = refl
-take_nil (suc t) = refl
-
-pub items_where-take_out : {X : Type 0} (p : ℕ → Bool) (xs : List X) (t : ℕ) → p t ≡ false → items_where p (take (suc t) xs) ≡ items_where p (take t xs)
-items_where-take_out {X = X} p [] t here = sym (ap (items_where p) (take_nil {X = X} t))
-items_where-take_out p (y ∷ xs) zero here = rw here refl
-items_where-take_out p (y ∷ xs) (suc t) here = ap (cons_if (p 0) y) (items_where-take_out (λ k. p (suc k)) xs t here)
 
 pub items_where-all : {X : Type 0} (p : ℕ → Bool) (xs : List X) → ((i : ℕ) → i < length xs → p i ≡ true) → items_where p xs ≡ xs
 items_where-all p [] all = refl

@@ -1,14 +1,12 @@
 -- Masks of the rules that are left.
-use Rattle.std.proofs.Common.{◌≡◌, ◌≢◌, ℕ, zero, suc, ◌-◌, ◌*◌, ◌%◌, ◌^◌, ◌<◌, ◌≤◌, Bool, true, false, ◌||◌, List, [], ◌∷◌, length, refl, sym, ◌∙◌, ap, arith, inl, inr, bit_or, nat_eq, nat_lt, Some, slice_get, All, get_or, subst}
+use Rattle.std.proofs.Common.{◌≡◌, ℕ, zero, suc, ◌-◌, ◌*◌, ◌%◌, ◌^◌, ◌<◌, ◌≤◌, Bool, true, false, ◌||◌, List, [], ◌∷◌, length, refl, sym, ◌∙◌, ap, arith, inl, inr, bit_or, nat_eq, nat_lt, Some, slice_get, All, get_or, subst}
 use Rattle.std.proofs.Math.Nat.{mod-eq_of_lt}
 use Rattle.std.proofs.Math.Pow.{pow-lt}
-use Rattle.std.specs.Int.{w64, trailing_zeros}
+use Rattle.std.specs.Int.{w64}
 use Rattle.std.proofs.lemmas.List.Elements.{All-head, All-tail}
-use Rattle.std.proofs.lemmas.Bool.{both_ways, cases_lt, cases_eq, eq-eqb, ne_eqb, lt-ltb, le-ltb}
-use Rattle.std.proofs.lemmas.Nat.Bits.{bit_at_set_same, bit_at_set_other, bit_at_ones, bit_at_ones_above, bit_at-trailing_zeros, bit_at-zero}
-use Rattle.shader_overloads.specs.Bits.{cons_if, has_bit, items_where, IsWithin}
-use Rattle.shader_overloads.proofs.BitLemmas.{some_bit}
-use Rattle.shader_overloads.proofs.ListLemmas.{element_at, first_within, items_where-first, items_where-none}
+use Rattle.std.proofs.lemmas.Bool.{cases_lt, cases_eq, eq-eqb, ne_eqb, lt-ltb, le-ltb}
+use Rattle.std.proofs.lemmas.Nat.Bits.{bit_at_set_same, bit_at_set_other, bit_at_ones, bit_at_ones_above}
+use Rattle.shader_overloads.specs.Bits.{cons_if, has_bit, items_where}
 
 -- a bit put into a word
 pub with_bit : (n p k : ℕ) → p < 64 → has_bit (bit_or n (1 * 2 ^ p % 2 ^ 64)) k ≡ (nat_eq k p || has_bit n k)
@@ -23,40 +21,11 @@ all_bits count k = elim (cases_lt k count) [
   | inr far ↦ ap (λ d. nat_eq d 1) (bit_at_ones_above count k far) ∙ sym (le-ltb k count far)
 ]
 
--- ---- a mask over a list
+-- ---- a set of places of a list
 
-pub first_member : {X : Type 0} (n : ℕ) (xs : List X) → n < 2 ^ 64 → items_where (has_bit n) xs ≢ [] → (trailing_zeros w64 n < length xs) × (slice_get (items_where (has_bit n) xs) 0 ≡ slice_get xs (trailing_zeros w64 n))
-first_member n xs fits some =
-    let facts = bit_at-trailing_zeros w64 n (some_bit n xs some) fits in
-    let none : (i : ℕ) → i < trailing_zeros w64 n → has_bit n i ≡ false = λ i h. ap (λ b. nat_eq b 1) (facts.2 i h) in
-    let within = first_within (has_bit n) xs (trailing_zeros w64 n) none some in
-    (within, items_where-first (has_bit n) xs (trailing_zeros w64 n) none (ap (λ b. nat_eq b 1) facts.1) within)
-
-no_element : {X : Type 0} (xs : List X) (k : ℕ) (x : X) → xs ≡ [] → slice_get xs k ≡ Some x → ⊥
+pub no_element : {X : Type 0} (xs : List X) (k : ℕ) (x : X) → xs ≡ [] → slice_get xs k ≡ Some x → ⊥
 no_element [] k x e at = cc
 no_element (y ∷ xs) k x e at = cc
-
-some_member : {X : Type 0} (n : ℕ) (xs : List X) → n < 2 ^ 64 → IsWithin n (length xs) → 0 < n → items_where (has_bit n) xs ≡ [] → ⊥
-some_member n xs fits within some none_left =
-    let facts = bit_at-trailing_zeros w64 n some fits in
-    let none : (i : ℕ) → i < trailing_zeros w64 n → has_bit n i ≡ false = λ i h. ap (λ b. nat_eq b 1) (facts.2 i h) in
-    let here : has_bit n (trailing_zeros w64 n) ≡ true = ap (λ b. nat_eq b 1) facts.1 in
-    elim (cases_lt (trailing_zeros w64 n) (length xs)) [
-      | inl near ↦
-          let element = element_at xs (trailing_zeros w64 n) near in
-          no_element (items_where (has_bit n) xs) 0 element.element none_left (items_where-first (has_bit n) xs (trailing_zeros w64 n) none here near ∙ element.is)
-      | inr far ↦ both_ways _ (within (trailing_zeros w64 n) far) here
-    ]
-
--- a mask that leaves nothing is 0
-pub zero_from_none : {X : Type 0} (n : ℕ) (xs : List X) → n < 2 ^ 64 → IsWithin n (length xs) → items_where (has_bit n) xs ≡ [] → n ≡ 0
-zero_from_none n xs fits within none = elim (cases_lt 0 n) [
-  | inl some ↦ absurd (some_member n xs fits within some none)
-  | inr least ↦ omega arith
-]
-
-pub none_from_zero : {X : Type 0} (n : ℕ) (xs : List X) → n ≡ 0 → items_where (has_bit n) xs ≡ []
-none_from_zero n xs e = items_where-none (has_bit n) xs (λ i h. ap (λ m. has_bit m i) e ∙ ap (λ b. nat_eq b 1) (bit_at-zero i))
 
 all_later : {X : Type 0} (P : X → Type 0) (b : Bool) (x : X) (xs : List X) → All P (cons_if b x xs) → All P xs
 all_later P true x xs all = All-tail P x xs all

@@ -1,9 +1,9 @@
--- The rules of a regular set under a filter.
-use Rattle.std.proofs.Common.{All, subst, ◌≡◌, ℕ, zero, suc, ◌<◌, ◌≤◌, Bool, true, false, cond, ◌&&◌, List, [], ◌∷◌, map, refl, sym, ◌∙◌, ap, arith, inl, inr, ◌⊎◌, Some, None, slice_get, replicate, IfOk, Result, Ok, Err, Option}
+-- The rules of a regular set and their numbers.
+use Rattle.std.proofs.Common.{All, ◌≡◌, ℕ, zero, suc, ◌+◌, ◌*◌, ◌/◌, ◌%◌, ◌^◌, ◌<◌, ◌≤◌, Bool, true, false, ◌&&◌, List, [], ◌∷◌, length, map, refl, sym, ◌∙◌, ap, arith, Some, None, get_or, slice_get, replicate, IfOk, Result, Ok, Err, Option}
 use Rattle.std.specs.List.{filter, flat_map, list_all}
 use Rattle.std.specs.Option.{option_and_then}
-use Rattle.std.proofs.lemmas.Bool.{and_from, and_parts}
-use Rattle.std.proofs.lemmas.List.Elements.{All-append, All-map, All-replicate, filter_agree}
+use Rattle.std.proofs.lemmas.Bool.{lt-ltb}
+use Rattle.std.proofs.lemmas.List.Elements.{All-append, All-head, All-map, All-replicate, All-tail}
 use Rattle.shader_ir.specs.declared.scalar.Scalar.{Scalar}
 use Rattle.shader_ir.specs.declared.types.«Type».{«Type»}
 use Rattle.shader_ir.specs.declared.types.TypeInner.{TypeInner}
@@ -11,16 +11,26 @@ use Rattle.shader_ir.specs.declared.types.TypeInner.TheVariants as types
 use Rattle.shader_ir.specs.declared.proc.type_resolution.TypeResolution.TheVariants as resolutions
 use Rattle.shader_ir.specs.Conversion.{same_size}
 use Rattle.shader_ir.specs.Key.{inner_of}
-use Rattle.shader_ir.specs.Scalars.{is_convertible}
+use Rattle.shader_ir.specs.Scalars.{is_convertible, named_scalars}
+use Rattle.shader_overloads.specs.declared.constructor_set.ConstructorSet.{ConstructorSet}
 use Rattle.shader_overloads.specs.declared.constructor_set.ConstructorSize.{ConstructorSize}
 use Rattle.shader_overloads.specs.declared.constructor_set.ConstructorSize.TheVariants as sizes
+use Rattle.shader_overloads.specs.declared.mask.Mask.{Mask}
 use Rattle.shader_overloads.specs.declared.regular.ConclusionRule.{ConclusionRule}
+use Rattle.shader_overloads.specs.declared.regular.RegularRows.{RegularRows}
 use Rattle.shader_overloads.specs.declared.rule.Rule.{Rule}
-use Rattle.shader_overloads.specs.Constructors.{is_made_by, to_inner}
-use Rattle.shader_overloads.specs.ScalarSets.{is_concrete_scalar}
-use Rattle.shader_overloads.specs.Rules.{regular_rules, rule_for, can_conclude}
+use Rattle.shader_overloads.specs.declared.scalar_set.ScalarSet.{ScalarSet}
+use Rattle.shader_overloads.specs.Bits.{cons_if, has_bit, items_where}
+use Rattle.shader_overloads.specs.Constructors.{all_constructors, constructors_in, is_made_by, to_inner}
+use Rattle.shader_overloads.specs.Masks.{IsBelow, has_place, rules_at}
+use Rattle.shader_overloads.specs.Regular.{all_rules}
+use Rattle.shader_overloads.specs.ScalarSets.{is_concrete_scalar, scalars_in}
+use Rattle.shader_overloads.specs.Rules.{regular_rules, rule_for}
 use Rattle.shader_overloads.specs.Remaining.{ArgumentFits, RuleFits, RulesFit, accepts, argument_at, some_takes, takes, leaf_scalar, is_concrete, has_concrete_arguments}
-use Rattle.shader_overloads.proofs.ListLemmas.{filter-combinations, filter_none, filter_all, next_member}
+use Rattle.shader_overloads.proofs.ListLemmas.{ElementAt, element_at, items_where-combinations, items_where-filter, length-combinations, slice_get-combinations, slice_get-within}
+use Rattle.shader_overloads.proofs.MaskLemmas.{all_bits}
+use Rattle.shader_overloads.proofs.PlaceLemmas.{below_from_high, high_from_below}
+use Rattle.shader_overloads.proofs.SetLemmas.{constructor_place, scalar_place}
 
 -- ---- one rule
 
@@ -61,7 +71,7 @@ accepts_parts types arity i conclude ty from e h size s =
     ap (λ argument. some_takes ty (option_and_then (inner_of types) argument)) (slice_get-replicate arity i (resolutions.Value (to_inner size s)) h)
     ∙ takes_parts ty from e size s
 
-accepts_past : (types : List «Type») (arity i : ℕ) (conclude : ConclusionRule) (ty : TypeInner) → arity ≤ i → (size : ConstructorSize) (s : Scalar) → accepts types i ty (rule_for arity conclude size s) ≡ (false && true)
+accepts_past : (types : List «Type») (arity i : ℕ) (conclude : ConclusionRule) (ty : TypeInner) → arity ≤ i → (size : ConstructorSize) (s : Scalar) → accepts types i ty (rule_for arity conclude size s) ≡ false
 accepts_past types arity i conclude ty h size s =
     ap (λ argument. some_takes ty (option_and_then (inner_of types) argument)) (slice_get-replicate_past arity i (resolutions.Value (to_inner size s)) h)
 
@@ -77,121 +87,129 @@ is_concrete-to_inner types sizes.Scalar s = refl
 is_concrete-to_inner types (sizes.Vector n) s = refl
 is_concrete-to_inner types (sizes.Matrix c r) s = refl
 
-concrete_parts : (types : List «Type») (arity : ℕ) (conclude : ConclusionRule) → 0 < arity → (size : ConstructorSize) (s : Scalar) → has_concrete_arguments types (rule_for arity conclude size s) ≡ (true && is_concrete_scalar s)
+concrete_parts : (types : List «Type») (arity : ℕ) (conclude : ConclusionRule) → 0 < arity → (size : ConstructorSize) (s : Scalar) → has_concrete_arguments types (rule_for arity conclude size s) ≡ is_concrete_scalar s
 concrete_parts types arity conclude h size s =
     list_all-replicate (λ argument. is_concrete types (inner_of types argument)) arity (resolutions.Value (to_inner size s)) h
     ∙ is_concrete-to_inner types size s
 
--- ---- all rules
+-- ---- the numbered rules of all constructors and scalars
 
--- `arg` at an argument that the rules have
-pub regular_rules-accepts : (types : List «Type») (arity i : ℕ) (conclude : ConclusionRule) (ty : TypeInner) (from : Scalar) (sizes : List ConstructorSize) (scalars : List Scalar) → leaf_scalar ty ≡ Some from → i < arity
-    → filter (accepts types i ty) (regular_rules arity conclude sizes scalars) ≡ regular_rules arity conclude (filter (is_made_by ty) sizes) (filter (is_convertible from) scalars)
+length-constructors : length all_constructors ≡ 13
+unfolding all_constructors
+length-constructors = refl
+
+length-scalars : length named_scalars ≡ 12
+unfolding named_scalars
+length-scalars = refl
+
+pub length-all_rules : (table : RegularRows) → length (all_rules table) ≡ 156
 unfolding regular_rules
-regular_rules-accepts types arity i conclude ty from sizes scalars e h =
-    filter-combinations (rule_for arity conclude) (accepts types i ty) (is_made_by ty) (is_convertible from) (accepts_parts types arity i conclude ty from e h) sizes scalars
+length-all_rules table = length-combinations (rule_for table.arity table.conclude) all_constructors named_scalars ∙ rw (length-constructors, length-scalars) refl
 
--- `arg` past the arguments
-pub regular_rules-past : (types : List «Type») (arity i : ℕ) (conclude : ConclusionRule) (ty : TypeInner) (sizes : List ConstructorSize) (scalars : List Scalar) → arity ≤ i → filter (accepts types i ty) (regular_rules arity conclude sizes scalars) ≡ []
+-- the parts of the rule of a number
+pub record RowParts (table : RegularRows) (row : ℕ) : Type 0 where
+  pub size : ElementAt all_constructors (row / 12)
+  pub scalar : ElementAt named_scalars (row % 12)
+  pub is : slice_get (all_rules table) row ≡ Some (rule_for table.arity table.conclude size.element scalar.element)
+
+pub row_parts : (table : RegularRows) (row : ℕ) → row < 156 → RowParts table row
 unfolding regular_rules
-regular_rules-past types arity i conclude ty sizes scalars h =
-    filter-combinations (rule_for arity conclude) (accepts types i ty) (λ _. false) (λ _. true) (accepts_past types arity i conclude ty h) sizes scalars
-    ∙ ap (λ none. flat_map (λ size. map (rule_for arity conclude size) (filter (λ _. true) scalars)) none) (filter_none sizes)
+row_parts table row h =
+    let c = element_at all_constructors (row / 12) (rw length-constructors (omega arith)) in
+    let s = element_at named_scalars (row % 12) (rw length-scalars (omega arith)) in
+    let at : row / 12 * length named_scalars + row % 12 ≡ row = rw length-scalars (omega arith) in
+    record {
+      size = c;
+      scalar = s;
+      is = ap (slice_get (all_rules table)) (sym at) ∙ slice_get-combinations (rule_for table.arity table.conclude) all_constructors named_scalars (row / 12) (row % 12) c.element s.element c.is s.is;
+    }
 
--- `arg` of a type that no rule takes
-pub rules-untaken : (types : List «Type») (i : ℕ) (ty : TypeInner) (rules : List Rule) → leaf_scalar ty ≡ None → filter (accepts types i ty) rules ≡ []
-rules-untaken types i ty rules e = filter_agree (accepts types i ty) (λ _. false) (λ rule. some_takes_none ty e (argument_at types i rule)) rules ∙ filter_none rules
+module _ (table : RegularRows) (row : ℕ) (rule : Rule) (at : slice_get (all_rules table) row ≡ Some rule) where
+  pub row_within : row < 156
+  row_within = omega (arith, slice_get-within (all_rules table) row rule at, length-all_rules table)
 
--- a set without combinations
-pub regular_rules-empty : (arity : ℕ) (conclude : ConclusionRule) (sizes : List ConstructorSize) (scalars : List Scalar) → (sizes ≡ []) ⊎ (scalars ≡ []) → regular_rules arity conclude sizes scalars ≡ []
+  parts : RowParts table row
+  parts = row_parts table row row_within
+
+  same_rule : rule_for table.arity table.conclude parts.size.element parts.scalar.element ≡ rule
+  same_rule = cc (parts.is, at)
+
+  -- an argument that the rule has
+  pub row_accepts : (types : List «Type») (i : ℕ) (ty : TypeInner) (from : Scalar) (c : ConstructorSet) (s : ScalarSet) → leaf_scalar ty ≡ Some from → i < table.arity
+      → constructors_in c ≡ filter (is_made_by ty) all_constructors → scalars_in s ≡ filter (is_convertible from) named_scalars
+      → (has_bit c.0 (row / 12) && has_bit s.0 (row % 12)) ≡ accepts types i ty rule
+  row_accepts types i ty from c s leaf h made convertible =
+      ap (λ b. b && has_bit s.0 (row % 12)) (constructor_place (is_made_by ty) c (row / 12) parts.size.element made parts.size.is)
+      ∙ ap (λ b. is_made_by ty parts.size.element && b) (scalar_place (is_convertible from) s (row % 12) parts.scalar.element convertible parts.scalar.is)
+      ∙ sym (accepts_parts types table.arity i table.conclude ty from leaf h parts.size.element parts.scalar.element)
+      ∙ ap (accepts types i ty) same_rule
+
+  -- one past its arguments
+  pub row_past : (types : List «Type») (i : ℕ) (ty : TypeInner) → table.arity ≤ i → false ≡ accepts types i ty rule
+  row_past types i ty h = sym (accepts_past types table.arity i table.conclude ty h parts.size.element parts.scalar.element) ∙ ap (accepts types i ty) same_rule
+
+  -- a type that no rule takes
+  pub row_untaken : (types : List «Type») (i : ℕ) (ty : TypeInner) → leaf_scalar ty ≡ None → false ≡ accepts types i ty rule
+  row_untaken types i ty none = sym (some_takes_none ty none (argument_at types i rule))
+
+  pub row_concrete : (types : List «Type») (s : ScalarSet) → 0 < table.arity → scalars_in s ≡ filter is_concrete_scalar named_scalars → has_bit s.0 (row % 12) ≡ has_concrete_arguments types rule
+  row_concrete types s many concrete =
+      scalar_place is_concrete_scalar s (row % 12) parts.scalar.element concrete parts.scalar.is
+      ∙ sym (concrete_parts types table.arity table.conclude many parts.size.element parts.scalar.element)
+      ∙ ap (has_concrete_arguments types) same_rule
+
+  pub row_without_arguments : (types : List «Type») → table.arity ≡ 0 → true ≡ has_concrete_arguments types rule
+  row_without_arguments types none =
+      sym (ap (λ n. has_concrete_arguments types (rule_for n table.conclude parts.size.element parts.scalar.element)) none)
+      ∙ ap (has_concrete_arguments types) same_rule
+
+-- a mask of some numbers is one of those of the rules that pass a test
+pub kept_rows : (table : RegularRows) (q : Rule → Bool) (mask rows both : Mask) → ((row : ℕ) (rule : Rule) → slice_get (all_rules table) row ≡ Some rule → has_place rows row ≡ q rule) → ((k : ℕ) → has_place both k ≡ (has_place mask k && has_place rows k))
+    → rules_at both (all_rules table) ≡ filter q (rules_at mask (all_rules table))
+kept_rows table q mask rows both tested met =
+    items_where-filter q (has_place mask) (has_place both) (all_rules table) (λ k rule at. met k ∙ ap (λ b. has_place mask k && b) (tested k rule at))
+
+-- the numbers of the combinations of two sets
+pub rules_of_pairs : (table : RegularRows) (constructors : ConstructorSet) (scalars : ScalarSet) (mask : Mask) → ((k : ℕ) → k < 156 → has_place mask k ≡ (has_bit constructors.0 (k / 12) && has_bit scalars.0 (k % 12)))
+    → rules_at mask (all_rules table) ≡ regular_rules table.arity table.conclude (constructors_in constructors) (scalars_in scalars)
 unfolding regular_rules
-regular_rules-empty arity conclude sizes scalars empty = elim empty [
-  | inl e ↦ ap (λ none. regular_rules arity conclude none scalars) e
-  | inr e ↦ ap (regular_rules arity conclude sizes) e ∙ no_scalars sizes
-]
-  where
-    no_scalars : (all : List ConstructorSize) → flat_map (λ size. map (rule_for arity conclude size) []) all ≡ []
-    no_scalars [] = refl
-    no_scalars (size ∷ all) = no_scalars all
+rules_of_pairs table constructors scalars mask pairs =
+    items_where-combinations (rule_for table.arity table.conclude) (has_place mask) (has_bit constructors.0) (has_bit scalars.0) all_constructors named_scalars
+    (λ i j l n.
+    let i_below : i < 13 = omega (arith, l, length-constructors) in
+    let j_below : j < 12 = omega (arith, n, length-scalars) in
+    let index : i * length named_scalars + j ≡ i * 12 + j = rw length-scalars refl in
+    let group : (i * 12 + j) / 12 ≡ i = omega arith in
+    let place : (i * 12 + j) % 12 ≡ j = omega arith in
+    ap (has_place mask) index ∙ pairs (i * 12 + j) (omega arith)
+    ∙ ap (λ k. has_bit constructors.0 k && has_bit scalars.0 ((i * 12 + j) % 12)) group ∙ ap (λ k. has_bit constructors.0 i && has_bit scalars.0 k) place)
 
-some_combination : {X Y Z : Type 0} (f : X → Y → Z) (xs : List X) (ys : List Y) → flat_map (λ v. map (f v) ys) xs ≡ [] → (xs ≡ []) ⊎ (ys ≡ [])
-some_combination f [] ys e = inl refl
-some_combination f (x ∷ xs) [] e = inr refl
-some_combination f (x ∷ xs) (y ∷ ys) e = cc
+all_set : (k : ℕ) → k < 16 → has_bit 65535 k ≡ true
+all_set k h = all_bits 16 k ∙ lt-ltb k 16 h
 
--- a set is without rules only where one of its parts is empty
-pub empty_from_rules : (arity : ℕ) (conclude : ConclusionRule) (sizes : List ConstructorSize) (scalars : List Scalar) → regular_rules arity conclude sizes scalars ≡ [] → (sizes ≡ []) ⊎ (scalars ≡ [])
-unfolding regular_rules
-empty_from_rules arity conclude sizes scalars e = some_combination (rule_for arity conclude) sizes scalars e
+-- the numbers of all constructors and some scalars
+pub any_group : (mask : Mask) (scalars k : ℕ) → k < 156 → ((i : ℕ) → i < 156 → has_place mask i ≡ (has_bit 65535 (i / 12) && has_bit scalars (i % 12))) → has_place mask k ≡ has_bit scalars (k % 12)
+any_group mask scalars k h pairs = pairs k h ∙ ap (λ b. b && has_bit scalars (k % 12)) (all_set (k / 12) (omega arith))
 
--- `concrete_only`
-concrete_rules_of_many : (types : List «Type») (arity : ℕ) (conclude : ConclusionRule) (sizes : List ConstructorSize) (scalars : List Scalar) → 0 < arity → filter (has_concrete_arguments types) (regular_rules arity conclude sizes scalars) ≡ regular_rules arity conclude sizes (filter is_concrete_scalar scalars)
-unfolding regular_rules
-concrete_rules_of_many types arity conclude sizes scalars h =
-    filter-combinations (rule_for arity conclude) (has_concrete_arguments types) (λ _. true) is_concrete_scalar (concrete_parts types arity conclude h) sizes scalars
-    ∙ ap (λ all. flat_map (λ size. map (rule_for arity conclude size) (filter is_concrete_scalar scalars)) all) (filter_all sizes)
+-- the numbers of all
+pub any_row : (mask : Mask) (k : ℕ) → k < 156 → ((i : ℕ) → i < 156 → has_place mask i ≡ (has_bit 65535 (i / 12) && has_bit 65535 (i % 12))) → has_place mask k ≡ true
+any_row mask k h pairs = any_group mask 65535 k h pairs ∙ all_set (k % 12) (omega arith)
 
--- what a filter of the scalars keeps of the invariant
-pub still_empty : (arity : ℕ) (sizes : List ConstructorSize) (scalars kept : List Scalar) (q : Scalar → Bool) → kept ≡ filter q scalars → (0 < arity) ⊎ ((sizes ≡ []) ⊎ (scalars ≡ [])) → (0 < arity) ⊎ ((sizes ≡ []) ⊎ (kept ≡ []))
-still_empty arity sizes scalars kept q e h = elim h [
-  | inl many ↦ inl many
-  | inr empty ↦ inr (elim empty [ inl none ↦ inl none | inr none ↦ inr (e ∙ ap (filter q) none) ])
-]
+pub regular_within : (table : RegularRows) (mask : Mask) → mask.high < 2 ^ 28 → IsBelow mask (length (all_rules table))
+regular_within table mask h k past = below_from_high mask h k (omega (arith, past, length-all_rules table))
 
-pub concrete_rules : (types : List «Type») (arity : ℕ) (conclude : ConclusionRule) (sizes : List ConstructorSize) (scalars : List Scalar) → (0 < arity) ⊎ ((sizes ≡ []) ⊎ (scalars ≡ [])) → filter (has_concrete_arguments types) (regular_rules arity conclude sizes scalars) ≡ regular_rules arity conclude sizes (filter is_concrete_scalar scalars)
-concrete_rules types arity conclude sizes scalars h = elim h [
-  | inl many ↦ concrete_rules_of_many types arity conclude sizes scalars many
-  | inr empty ↦
-      let kept = elim (still_empty 0 sizes scalars (filter is_concrete_scalar scalars) is_concrete_scalar refl (inr empty)) as (λ _. (sizes ≡ []) ⊎ (filter is_concrete_scalar scalars ≡ [])) [ inl none ↦ absurd (omega arith) | inr left ↦ left ] in
-      ap (filter (has_concrete_arguments types)) (regular_rules-empty arity conclude sizes scalars empty) ∙ sym (regular_rules-empty arity conclude sizes (filter is_concrete_scalar scalars) kept)
-]
+pub regular_high : (table : RegularRows) (mask : Mask) → IsBelow mask (length (all_rules table)) → mask.high < 2 ^ 28
+regular_high table mask within = high_from_below mask (λ k past. within k (omega (arith, past, length-all_rules table)))
 
--- combinations of two lists, neither of which is empty
-first_combination : {X Y Z : Type 0} (f : X → Y → Z) (xs : List X) (ys : List Y) (x : X) (y : Y) → slice_get xs 0 ≡ Some x → slice_get ys 0 ≡ Some y → slice_get (flat_map (λ v. map (f v) ys) xs) 0 ≡ Some (f x y)
-first_combination f [] ys x y d e = cc
-first_combination f (v ∷ xs) [] x y d e = cc
-first_combination f (v ∷ xs) (w ∷ ys) x y d e = cc
+-- ---- results
 
-pub regular_rules-first : (arity : ℕ) (conclude : ConclusionRule) (sizes : List ConstructorSize) (scalars : List Scalar) (size : ConstructorSize) (v : Scalar) → slice_get sizes 0 ≡ Some size → slice_get scalars 0 ≡ Some v → slice_get (regular_rules arity conclude sizes scalars) 0 ≡ Some (rule_for arity conclude size v)
-unfolding regular_rules
-regular_rules-first arity conclude sizes scalars size v d e = first_combination (rule_for arity conclude) sizes scalars size v d e
-
-pub ok_first : {X E : Type 0} (r : Result X E) (x : X) (o : Option X) → o ≡ Some x → IfOk r (λ y. y ≡ x) → IfOk r (λ y. o ≡ Some y)
-ok_first (Ok y) x o e h = e ∙ ap Some (sym h)
-ok_first (Err z) x o e h = h
+pub ok_is : {X E : Type 0} (r : Result X E) (x : X) (o : Option X) → o ≡ Some x → IfOk r (λ y. y ≡ x) → IfOk r (λ y. o ≡ Some y)
+ok_is (Ok y) x o e h = e ∙ ap Some (sym h)
+ok_is (Err z) x o e h = h
 
 pub ok_same : {X E : Type 0} (r : Result X E) (x y : X) → IfOk r (λ z. z ≡ x) → x ≡ y → IfOk r (λ z. z ≡ y)
 ok_same (Ok z) x y h e = h ∙ e
 ok_same (Err z) x y h e = h
-
--- ---- conclusions
-
-list_all-filter : {X : Type 0} (p q : X → Bool) (xs : List X) → list_all p xs ≡ true → list_all p (filter q xs) ≡ true
-list_all-filter p q [] h = refl
-list_all-filter p q (x ∷ xs) h =
-    let parts = and_parts (p x) (list_all p xs) h in
-    elim (q x) as (λ b. list_all p (cond b (x ∷ filter q xs) (filter q xs)) ≡ true) [
-      | true ↦ and_from _ _ parts.0 (list_all-filter p q xs parts.1)
-      | false ↦ list_all-filter p q xs parts.1
-    ]
-
--- fewer constructors still have the conclusion
-pub still_concludes : (conclude : ConclusionRule) (sizes kept : List ConstructorSize) (q : ConstructorSize → Bool) → kept ≡ filter q sizes → list_all (can_conclude conclude) sizes ≡ true → list_all (can_conclude conclude) kept ≡ true
-still_concludes conclude sizes kept q e h = ap (list_all (can_conclude conclude)) e ∙ list_all-filter (can_conclude conclude) q sizes h
-
-pub first_concludes : (conclude : ConclusionRule) (sizes : List ConstructorSize) (size : ConstructorSize) → list_all (can_conclude conclude) sizes ≡ true → slice_get sizes 0 ≡ Some size → can_conclude conclude size ≡ true
-first_concludes conclude [] size all first = cc
-first_concludes conclude (v ∷ sizes) size all first =
-    let e : v ≡ size = cc in
-    ap (can_conclude conclude) (sym e) ∙ (and_parts (can_conclude conclude v) _ all).0
-
--- what holds of all members holds of the first and of the others
-pub concludes_next : (conclude : ConclusionRule) (whole item rest : List ConstructorSize) (size : ConstructorSize) → map (λ x. x ∷ []) whole ≡ item ∷ map (λ x. x ∷ []) rest → item ≡ size ∷ [] → list_all (can_conclude conclude) whole ≡ true → (can_conclude conclude size ≡ true) × (list_all (can_conclude conclude) rest ≡ true)
-concludes_next conclude whole item rest size step sole all =
-    let next = next_member whole item rest step in
-    let same : next.first ≡ size = cc (next.alone) in
-    let parts = and_parts (can_conclude conclude next.first) (list_all (can_conclude conclude) rest) (ap (list_all (can_conclude conclude)) (sym next.is) ∙ all) in
-    (ap (can_conclude conclude) (sym same) ∙ parts.0, parts.1)
 
 -- ---- what the rules ask
 
@@ -212,5 +230,17 @@ pub regular_rules-fit : (types : List «Type») (arity : ℕ) (conclude : Conclu
 unfolding regular_rules
 regular_rules-fit types arity conclude sizes scalars = record { each = rules_of_sizes-fit types arity conclude sizes scalars }
 
-pub no_rules_fit : (types : List «Type») (rules : List Rule) → rules ≡ [] → RulesFit types rules
-no_rules_fit types rules e = subst (RulesFit types) (sym e) (record { each = λ k d h. absurd (omega arith) })
+All_cons : {X : Type 0} (P : X → Type 0) (x : X) (xs : List X) → P x → All P xs → (k : ℕ) (d : X) → k < length (x ∷ xs) → P (get_or (x ∷ xs) k d)
+All_cons P x xs first rest zero d h = first
+All_cons P x xs first rest (suc k) d h = rest k d (omega arith)
+
+All_cons_if : {X : Type 0} (P : X → Type 0) (b : Bool) (x : X) (xs : List X) → P x → All P xs → All P (cons_if b x xs)
+All_cons_if P true x xs first rest = All_cons P x xs first rest
+All_cons_if P false x xs first rest = rest
+
+All-items_where : {X : Type 0} (P : X → Type 0) (p : ℕ → Bool) (xs : List X) → All P xs → All P (items_where p xs)
+All-items_where P p [] all = all
+All-items_where P p (x ∷ xs) all = All_cons_if P (p 0) x (items_where (λ k. p (suc k)) xs) (All-head P x xs all) (All-items_where P (λ k. p (suc k)) xs (All-tail P x xs all))
+
+pub masked_rules-fit : (types : List «Type») (table : RegularRows) (mask : Mask) → RulesFit types (rules_at mask (all_rules table))
+masked_rules-fit types table mask = record { each = All-items_where (RuleFits types) (has_place mask) (all_rules table) (regular_rules-fit types table.arity table.conclude all_constructors named_scalars).each }

@@ -1,5 +1,5 @@
 -- Sets of scalars and of constructors, joined and met.
-use Rattle.std.proofs.Common.{◌≡◌, ℕ, ◌<◌, Bool, true, ◌&&◌, ◌||◌, refl, ◌∙◌, ap, arith, inl, inr, ◌⊎◌, bit_and, nat_eq, min, max}
+use Rattle.std.proofs.Common.{◌≡◌, ℕ, ◌<◌, Bool, true, ◌&&◌, ◌||◌, refl, ◌∙◌, ap, arith, inl, inr, ◌⊎◌, bit_and, nat_eq, min, max, Some, slice_get}
 use Rattle.std.specs.List.{filter}
 use Rattle.std.specs.Int.{bit_at}
 use Rattle.std.specs.Int.RustNames.{bit_or}
@@ -20,7 +20,7 @@ use Rattle.shader_overloads.specs.declared.scalar_set.ScalarSet.{ScalarSet}
 use Rattle.shader_overloads.specs.Bits.{has_bit}
 use Rattle.shader_overloads.specs.ScalarSets.{scalars_in, has_scalar}
 use Rattle.shader_overloads.specs.Constructors.{constructors_in, has_constructor, all_constructors, same_constructor}
-use Rattle.shader_overloads.proofs.ListLemmas.{Places, items_where-and, items_where-filtered, places_from_list, places_of_members, places_of_either, filter_same_places}
+use Rattle.shader_overloads.proofs.ListLemmas.{Places, items_where-and, items_where-filtered, places_from_list, places_of_members, places_of_either, Places-at}
 
 digit_cases : (a : ℕ) → a < 2 → (a ≡ 0) ⊎ (a ≡ 1)
 digit_cases a h = elim (cases_lt a 1) [ inl l ↦ inl (omega arith) | inr l ↦ inr (omega arith) ]
@@ -107,11 +107,10 @@ scalars_of_either a b either e =
     items_where-filtered _ (has_bit either.0) named_scalars
     (places_of_either (has_scalar a) (has_scalar b) (has_bit a.0) (has_bit b.0) (has_bit either.0) named_scalars (scalar_members a) (scalar_members b) (λ k. ap (λ n. has_bit n k) e ∙ has_bit-or a.0 b.0 k))
 
--- what a set keeps of another, where the set has the scalars that pass
-pub scalars_kept : (q : Scalar → Bool) (a b : ScalarSet) → scalars_in b ≡ filter q named_scalars → filter (has_scalar b) (scalars_in a) ≡ filter q (scalars_in a)
+-- whether a set of the scalars that pass has the scalar of a place
+pub scalar_place : (q : Scalar → Bool) (set : ScalarSet) (k : ℕ) (s : Scalar) → scalars_in set ≡ filter q named_scalars → slice_get named_scalars k ≡ Some s → has_bit set.0 k ≡ q s
 unfolding named_scalars
-scalars_kept q a b e =
-    filter_same_places (has_scalar b) q (has_bit b.0) (has_bit a.0) named_scalars (scalar_members b) (places_from_list same_scalar same_scalar_self q (has_bit b.0) named_scalars refl e)
+scalar_place q set k s e at = Places-at (has_bit set.0) q named_scalars k s (places_from_list same_scalar same_scalar_self q (has_bit set.0) named_scalars refl e) at
 
 -- ---- sets of constructors
 
@@ -127,7 +126,6 @@ constructors_of_either a b either e =
     items_where-filtered _ (has_bit either.0) all_constructors
     (places_of_either (has_constructor a) (has_constructor b) (has_bit a.0) (has_bit b.0) (has_bit either.0) all_constructors (constructor_members a) (constructor_members b) (λ k. ap (λ n. has_bit n k) e ∙ has_bit-or a.0 b.0 k))
 
-pub constructors_kept : (q : ConstructorSize → Bool) (a b : ConstructorSet) → constructors_in b ≡ filter q all_constructors → filter (has_constructor b) (constructors_in a) ≡ filter q (constructors_in a)
+pub constructor_place : (q : ConstructorSize → Bool) (set : ConstructorSet) (k : ℕ) (size : ConstructorSize) → constructors_in set ≡ filter q all_constructors → slice_get all_constructors k ≡ Some size → has_bit set.0 k ≡ q size
 unfolding all_constructors
-constructors_kept q a b e =
-    filter_same_places (has_constructor b) q (has_bit b.0) (has_bit a.0) all_constructors (constructor_members b) (places_from_list same_constructor same_constructor_self q (has_bit b.0) all_constructors refl e)
+constructor_place q set k size e at = Places-at (has_bit set.0) q all_constructors k size (places_from_list same_constructor same_constructor_self q (has_bit set.0) all_constructors refl e) at

@@ -9,6 +9,7 @@ pub mod Constructors
 pub mod Counts
 pub mod ListForms
 pub mod ListSet
+pub mod Masks
 pub mod NarrowLaws
 pub mod Rank
 pub mod Regular

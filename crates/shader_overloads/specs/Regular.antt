@@ -1,16 +1,20 @@
 -- What the parts of a regular set mean.
-use Rattle.std.specs.Prelude.{◌≡◌, ◌<◌, ◌⊎◌, List, [], IsTrue}
-use Rattle.std.specs.List.{list_all}
-use Rattle.shader_overloads.specs.declared.rule.Rule.{Rule}
+use Rattle.std.specs.Prelude.{◌<◌, ◌^◌, List}
+use Rattle.shader_ir.specs.Scalars.{named_scalars}
 use Rattle.shader_overloads.specs.declared.regular.Regular.TheInside.{Inside}
-use Rattle.shader_overloads.specs.Constructors.{constructors_in}
-use Rattle.shader_overloads.specs.ScalarSets.{scalars_in}
-use Rattle.shader_overloads.specs.Rules.{regular_rules, can_conclude}
+use Rattle.shader_overloads.specs.declared.regular.RegularRows.{RegularRows}
+use Rattle.shader_overloads.specs.declared.rule.Rule.{Rule}
+use Rattle.shader_overloads.specs.Constructors.{all_constructors}
+use Rattle.shader_overloads.specs.Masks.{rules_at}
+use Rattle.shader_overloads.specs.Rules.{regular_rules}
+
+-- the rules of all constructors and all scalars
+abbrev pub all_rules : RegularRows → List Rule
+all_rules table = regular_rules table.arity table.conclude all_constructors named_scalars
 
 abbrev pub rules_inside : Inside → List Rule
-rules_inside set = regular_rules set.arity set.conclude (constructors_in set.constructors) (scalars_in set.scalars)
+rules_inside it = rules_at it.set.mask (all_rules it.set.table)
 
--- the rules have arguments, or there is none, and each constructor has the conclusion
-pub record IsRegular (set : Inside) : Type 0 where
-  pub takes_arguments : (0 < set.arity) ⊎ ((constructors_in set.constructors ≡ []) ⊎ (scalars_in set.scalars ≡ []))
-  pub concludes : IsTrue (list_all (can_conclude set.conclude) (constructors_in set.constructors))
+-- no number is past the last of the 156
+pub record IsRegular (it : Inside) : Type 0 where
+  pub last : it.set.mask.high < 2 ^ 28

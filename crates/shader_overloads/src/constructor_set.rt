@@ -1,5 +1,5 @@
 //! Sets of type constructors.
-ghost use Rattle.std.specs.Prelude.{⊤, codes, ◌≡◌, ◌==◌, ◌≢◌, ◌↔◌, ◌||◌, [], ◌∷◌, length, filter, map, IsTrue, Some, slice_get};
+ghost use Rattle.std.specs.Prelude.{⊤, codes, ◌≡◌, ◌==◌, ◌≢◌, ◌↔◌, ◌<◌, ◌||◌, [], ◌∷◌, length, filter, map, IsTrue, Some, slice_get};
 ghost use Rattle.std.specs.Iterator.{YieldsFirstBy, item_count};
 ghost use Rattle.shader_overloads.specs.Constructors.{all_constructors, constructors_in, has_constructor, is_made_by, same_constructor, to_inner};
 
@@ -79,6 +79,15 @@ static SIZES_FOR_BITS: [ConstructorSize; 13] = [
         rows: VectorSize::Quad,
     },
 ];
+
+/// What the constructor of a place makes.
+#[tactic(auto, unfolding(crate::specs::Constructors::all_constructors))]
+pub fn size_at(place: usize) -> ConstructorSize
+    requires { place < 13 }
+    ensures { slice_get all_constructors place ≡ Some result }
+{
+    SIZES_FOR_BITS[place]
+}
 
 /// A set of type constructors.
 #[derive(Clone, Copy, Debug, PartialEq)]

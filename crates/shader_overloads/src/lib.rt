@@ -7,6 +7,8 @@ mod constructor_set;
 pub mod laws;
 mod list;
 mod list_forms;
+mod mask;
+mod masked;
 mod mathfunction;
 mod one_bits_iter;
 mod overload_set;

@@ -1,13 +1,15 @@
 //! Overload sets that hold their rules one by one.
-ghost use Rattle.std.specs.Prelude.{◌≡◌, ◌≢◌, ◌↔◌, ◌≤◌, ◌<◌, ◌==◌, ◌||◌, [], ℕ, All, Any, IsTrue, IfOk, Some, ◌&&◌, filter, length, nat_lt, slice_get};
+ghost use Rattle.std.specs.Prelude.{◌≡◌, ◌≢◌, ◌↔◌, ◌≤◌, ◌<◌, [], All, IsTrue, IfOk, Some, length, slice_get};
 ghost use Rattle.std.specs.List.{list_all};
-ghost use Rattle.shader_overloads.specs.declared.rule.Rule.{Rule};
+ghost use Rattle.std.specs.Rc.{rc_slice_items};
 ghost use Rattle.shader_ir.specs.Key.{IsNoStruct, inner_of};
 ghost use Rattle.shader_ir.specs.TypeTree.{IsBackward, PointsBelow};
-ghost use Rattle.shader_overloads.specs.Bits.{IsWithin, has_bit, items_where};
 ghost use Rattle.shader_overloads.specs.Counts.{IsGreatestCount, IsLeastCount};
-ghost use Rattle.shader_overloads.specs.Remaining.{ArgumentFits, MembersFit, RuleFits, RulesFit, has_concrete_arguments, has_no_struct, is_concrete, is_free_struct, list_accepts, some_list_takes};
+ghost use Rattle.shader_overloads.specs.Masks.{IsBelow, rules_at};
+ghost use Rattle.shader_overloads.specs.Remaining.{ArgumentFits, RuleFits, RulesFit, has_concrete_arguments, has_no_struct, is_concrete, is_free_struct, list_accepts, some_list_takes};
 
+use crate::mask::Mask;
+use crate::masked::{Masked, Table};
 use crate::{OverloadSet, Rule};
 use shader_arena::UniqueArena;
 use shader_ir::{GlobalCtx, Type, TypeInner, TypeResolution, mark};
@@ -20,9 +22,7 @@ use std::rc::RcSlice;
 /// Copies share the rules. Each rule must be preferred to all later ones.
 #[derive(Drop)]
 pub struct List {
-    /// A bit for each rule that is left.
-    members: u64,
-    rules: RcSlice<Rule>,
+    set: Masked<ListRows>,
 }
 
 impl Model for List {
@@ -58,9 +58,10 @@ impl List {
         requires no_struct { IsTrue (list_all has_no_struct rules.items) }
         ensures { IfOk result (λ set. set ≡ rules.items) }
     {
-        let members = full_mask(rules.len());
-        let rules = RcSlice::from_vec(rules)?;
-        Ok(List { members, rules })
+        let table = ListRows::new(rules)?;
+        Ok(List {
+            set: Masked::all(table),
+        })
     }
 }
 
@@ -137,23 +138,20 @@ impl OverloadSet for List {
     ghost accepting = { λ _. list_accepts };
 
     fn copy(&self, _alloc: Global) -> Result<List, AllocError> {
-        let rules = self.rules.clone()?;
-        Ok(List {
-            members: self.members,
-            rules,
-        })
+        let set = self.set.copy()?;
+        Ok(List { set })
     }
 
     fn is_empty(&self) -> bool {
-        self.members == 0
+        self.set.is_empty()
     }
 
     fn min_arguments(&self) -> usize {
-        least_count(self.rules.as_slice(), self.members)
+        least_count(self.set.table.rules.as_slice(), self.set.mask)
     }
 
     fn max_arguments(&self) -> usize {
-        greatest_count(self.rules.as_slice(), self.members)
+        greatest_count(self.set.table.rules.as_slice(), self.set.mask)
     }
 
     fn arg(
@@ -163,145 +161,121 @@ impl OverloadSet for List {
         ty: &TypeInner,
         types: &UniqueArena<Type, mark::Type>,
     ) -> Result<List, AllocError> {
-        let members = accepted(self.rules.as_slice(), self.members, i, ty, types);
-        let rules = self.rules.clone()?;
-        Ok(List { members, rules })
+        let set = self.set.arg(i, ty, types)?;
+        Ok(List { set })
     }
 
     fn concrete_only(self, types: &UniqueArena<Type, mark::Type>) -> List {
-        let List { members, rules } = self;
-        let members = concrete(rules.as_slice(), members, types);
-        List { members, rules }
+        let List { set } = self;
+        let set = set.concrete_only(types);
+        List { set }
     }
 
     fn most_preferred(&self, alloc: Global) -> Result<Rule, AllocError> {
-        first_member(self.rules.as_slice(), self.members).copy(alloc)
+        self.set.most_preferred(alloc)
     }
 
     fn overload_list(&self, alloc: Global, _gctx: GlobalCtx<'_>) -> Result<Vec<Rule>, AllocError> {
-        copy_members(alloc, self.rules.as_slice(), self.members)
+        self.set.overload_list(alloc)
     }
 }
 
-/// The least number of arguments of a member.
-fn least_count(rules: &[Rule], members: u64) -> usize
-    requires count { length rules.now ≤ 63 }
-    requires some { items_where (has_bit members) rules.now ≢ [] }
-    ensures { IsLeastCount result (items_where (has_bit members) rules.now) }
+/// The rules of a list, numbered by their places. Copies share them.
+#[derive(Drop)]
+pub struct ListRows {
+    rules: RcSlice<Rule>,
+    ghost few: { length (rc_slice_items rules) ≤ 63 },
+    ghost no_struct: { IsTrue (list_all has_no_struct (rc_slice_items rules)) },
+}
+
+impl ListRows {
+    fn new(rules: Vec<Rule>) -> Result<ListRows, AllocError>
+        requires count { length rules.items ≤ 63 }
+        requires no_struct { IsTrue (list_all has_no_struct rules.items) }
+        ensures { IfOk result (λ table. rc_slice_items table.rules ≡ rules.items) }
+    {
+        let rules = RcSlice::from_vec(rules)?;
+        Ok(ListRows { rules })
+    }
+}
+
+impl Table for ListRows {
+    ghost use Rattle.std.specs.Prelude.{true, false};
+    ghost use Rattle.shader_overloads.specs.Remaining.{list_accepts};
+
+    ghost rows = { λ table. rc_slice_items table.rules };
+
+    ghost accepting = { λ _. list_accepts };
+
+    ghost is_free = { false };
+
+    ghost reads_types = { true };
+
+    fn copy(&self) -> Result<ListRows, AllocError> {
+        let rules = self.rules.clone()?;
+        Ok(ListRows { rules })
+    }
+
+    fn row_count(&self) -> usize {
+        self.rules.len()
+    }
+
+    fn rule(&self, alloc: Global, row: usize) -> Result<Rule, AllocError> {
+        rule_at(self.rules.as_slice(), row).copy(alloc)
+    }
+
+    fn accepts(
+        &self,
+        row: usize,
+        i: usize,
+        ty: &TypeInner,
+        types: &UniqueArena<Type, mark::Type>,
+    ) -> bool {
+        accepts_argument(rule_at(self.rules.as_slice(), row), i, ty, types)
+    }
+
+    fn is_concrete(&self, row: usize, types: &UniqueArena<Type, mark::Type>) -> bool {
+        has_concrete_arguments(rule_at(self.rules.as_slice(), row), types)
+    }
+}
+
+/// The least number of arguments of a rule that is left.
+fn least_count(rules: &[Rule], mask: Mask) -> usize
+    requires within { IsBelow mask (length rules.now) }
+    requires some { rules_at mask rules.now ≢ [] }
+    ensures { IsLeastCount result (rules_at mask rules.now) }
 {
-    let mut least = first_member(rules, members).arguments.len();
-    for place in 0..rules.len() {
-        if has_place(members, place) {
-            least = least.min(rule_at(rules, place).arguments.len());
-        }
+    let mut least = first_member(rules, mask).arguments.len();
+    let mut left = mask;
+    while let Some(row) = left.take_first() {
+        least = least.min(rule_at(rules, row).arguments.len());
     }
     least
 }
 
-/// The greatest number of arguments of a member.
-fn greatest_count(rules: &[Rule], members: u64) -> usize
-    requires count { length rules.now ≤ 63 }
-    requires some { items_where (has_bit members) rules.now ≢ [] }
-    ensures { IsGreatestCount result (items_where (has_bit members) rules.now) }
+/// The greatest number of arguments of a rule that is left.
+fn greatest_count(rules: &[Rule], mask: Mask) -> usize
+    requires within { IsBelow mask (length rules.now) }
+    requires some { rules_at mask rules.now ≢ [] }
+    ensures { IsGreatestCount result (rules_at mask rules.now) }
 {
-    let mut greatest = first_member(rules, members).arguments.len();
-    for place in 0..rules.len() {
-        if has_place(members, place) {
-            greatest = greatest.max(rule_at(rules, place).arguments.len());
-        }
+    let mut greatest = first_member(rules, mask).arguments.len();
+    let mut left = mask;
+    while let Some(row) = left.take_first() {
+        greatest = greatest.max(rule_at(rules, row).arguments.len());
     }
     greatest
 }
 
-fn first_member(rules: &[Rule], members: u64) -> &Rule
-    requires { items_where (has_bit members) rules.now ≢ [] }
-    ensures { slice_get (items_where (has_bit members) rules.now) 0 ≡ Some result.now }
+/// The first rule that is left.
+fn first_member(rules: &[Rule], mask: Mask) -> &Rule
+    requires { rules_at mask rules.now ≢ [] }
+    ensures { slice_get (rules_at mask rules.now) 0 ≡ Some result.now }
 {
-    rule_at(rules, members.trailing_zeros() as usize)
-}
-
-/// The places of the members that take a value of the type as argument `i`.
-fn accepted(
-    rules: &[Rule],
-    members: u64,
-    i: usize,
-    ty: &TypeInner,
-    types: &UniqueArena<Type, mark::Type>,
-) -> u64
-    requires count { length rules.now ≤ 63 }
-    requires backward { IsBackward types.now }
-    requires ty_in { PointsBelow (length types.now) ty.now }
-    requires fits { MembersFit types.now rules.now members }
-    ensures rules { items_where (has_bit result) rules.now ≡ filter (list_accepts types.now i ty.now) (items_where (has_bit members) rules.now) }
-    ensures within { IsWithin result (length rules.now) }
-{
-    let mut kept = 0;
-    for place in 0..rules.len() {
-        if member_accepts(rules, members, place, i, ty, types) {
-            kept = with_place(kept, place);
-        }
+    match mask.first() {
+        Some(row) => rule_at(rules, row),
+        None => unreachable!(),
     }
-    kept
-}
-
-/// The places of the members without abstract arguments.
-fn concrete(rules: &[Rule], members: u64, types: &UniqueArena<Type, mark::Type>) -> u64
-    requires count { length rules.now ≤ 63 }
-    requires backward { IsBackward types.now }
-    requires fits { MembersFit types.now rules.now members }
-    ensures rules { items_where (has_bit result) rules.now ≡ filter (has_concrete_arguments types.now) (items_where (has_bit members) rules.now) }
-    ensures within { IsWithin result (length rules.now) }
-{
-    let mut kept = 0;
-    for place in 0..rules.len() {
-        if member_is_concrete(rules, members, place, types) {
-            kept = with_place(kept, place);
-        }
-    }
-    kept
-}
-
-/// Whether the rule at the place is left and takes a value of the type as argument `i`.
-fn member_accepts(
-    rules: &[Rule],
-    members: u64,
-    place: usize,
-    i: usize,
-    ty: &TypeInner,
-    types: &UniqueArena<Type, mark::Type>,
-) -> bool
-    requires place_in { place < length rules.now }
-    requires count { length rules.now ≤ 63 }
-    requires backward { IsBackward types.now }
-    requires ty_in { PointsBelow (length types.now) ty.now }
-    requires fits { MembersFit types.now rules.now members }
-    ensures { (rule : Rule) → slice_get rules.now place ≡ Some rule → result ≡ (has_bit members place && list_accepts types.now i ty.now rule) }
-{
-    if !has_place(members, place) {
-        return false;
-    }
-    let rule = rule_at(rules, place);
-    accepts_argument(rule, i, ty, types)
-}
-
-/// Whether the rule at the place is left and has no abstract argument.
-fn member_is_concrete(
-    rules: &[Rule],
-    members: u64,
-    place: usize,
-    types: &UniqueArena<Type, mark::Type>,
-) -> bool
-    requires place_in { place < length rules.now }
-    requires count { length rules.now ≤ 63 }
-    requires backward { IsBackward types.now }
-    requires fits { MembersFit types.now rules.now members }
-    ensures { (rule : Rule) → slice_get rules.now place ≡ Some rule → result ≡ (has_bit members place && has_concrete_arguments types.now rule) }
-{
-    if !has_place(members, place) {
-        return false;
-    }
-    let rule = rule_at(rules, place);
-    has_concrete_arguments(rule, types)
 }
 
 fn rule_at(rules: &[Rule], place: usize) -> &Rule
@@ -309,20 +283,6 @@ fn rule_at(rules: &[Rule], place: usize) -> &Rule
     ensures { slice_get rules.now place ≡ Some result.now }
 {
     &rules[place]
-}
-
-/// The members again, in order.
-fn copy_members(alloc: Global, rules: &[Rule], members: u64) -> Result<Vec<Rule>, AllocError>
-    requires { length rules.now ≤ 63 }
-    ensures { IfOk result (λ copies. copies.items ≡ items_where (has_bit members) rules.now) }
-{
-    let mut copies = Vec::new(alloc);
-    for place in 0..rules.len() {
-        if has_place(members, place) {
-            copies.push(rules[place].copy(alloc)?)?;
-        }
-    }
-    Ok(copies)
 }
 
 /// Whether the rule takes a value of the type as argument `i`.
@@ -373,26 +333,4 @@ fn is_concrete_argument(argument: &TypeResolution, types: &UniqueArena<Type, mar
     ensures { result ≡ is_concrete types.now (inner_of types.now argument.now) }
 {
     !argument.inner_with(types).is_abstract(types)
-}
-
-fn has_place(members: u64, place: usize) -> bool
-    requires { place < 64 }
-    ensures { result ≡ has_bit members place }
-{
-    members >> place & 1 == 1
-}
-
-fn with_place(members: u64, place: usize) -> u64
-    requires { place < 64 }
-    ensures { (k : ℕ) → has_bit result k ≡ (k == place || has_bit members k) }
-{
-    members | 1 << place
-}
-
-/// The mask of all places below the count.
-fn full_mask(count: usize) -> u64
-    requires { count ≤ 63 }
-    ensures { (k : ℕ) → has_bit result k ≡ nat_lt k count }
-{
-    (1 << count) - 1
 }

@@ -1,13 +1,18 @@
 //! The rules of the builtins whose overload sets are lists.
 ghost use Rattle.std.specs.Prelude.{◌≡◌, ◌++◌, ◌∷◌, [], IfOk, OnOk};
 ghost use Rattle.std.specs.List.{flat_map};
-ghost use Rattle.shader_overloads.specs.Builtins.{exponent_of, rule, u32};
+ghost use Rattle.shader_ir.specs.declared.proc.type_resolution.TypeResolution.TheVariants as resolutions;
+ghost use Rattle.shader_overloads.specs.declared.rule.Conclusion.TheVariants.{Value};
+ghost use Rattle.shader_overloads.specs.Builtins.{exponent_of, u32};
 ghost use Rattle.shader_overloads.specs.ListForms.{rows};
 
-use crate::utils::{pairs, rule};
-use crate::{ConstructorSize, Rule};
-use shader_ir::{Scalar, ScalarKind, TypeInner};
+use crate::utils::pairs;
+use crate::{Conclusion, ConstructorSize, Rule};
+use shader_ir::{Items, Scalar, ScalarKind, TypeInner, TypeResolution};
 use std::alloc::{AllocError, Global};
+
+/// How many rules the longest list has.
+const MOST_RULES: usize = 36;
 
 /// A builtin whose overload set is a list.
 #[derive(Clone, Copy)]
@@ -30,7 +35,7 @@ pub fn by_scalar(
 ) -> Result<Vec<Rule>, AllocError>
     ensures { IfOk result (λ rules. rules.items ≡ flat_map (λ scalar. flat_map (λ size. rows form size scalar) sizes.now) scalars.now) }
 {
-    let mut rules = Vec::new(alloc);
+    let mut rules = Vec::with_capacity(alloc, MOST_RULES)?;
     for (scalar, size) in pairs(scalars, sizes) {
         push_rows(alloc, &mut rules, form, size, scalar)?;
     }
@@ -46,7 +51,7 @@ pub fn by_size(
 ) -> Result<Vec<Rule>, AllocError>
     ensures { IfOk result (λ rules. rules.items ≡ flat_map (λ size. flat_map (rows form size) scalars.now) sizes.now) }
 {
-    let mut rules = Vec::new(alloc);
+    let mut rules = Vec::with_capacity(alloc, MOST_RULES)?;
     for (size, scalar) in pairs(sizes, scalars) {
         push_rows(alloc, &mut rules, form, size, scalar)?;
     }
@@ -54,6 +59,7 @@ pub fn by_size(
 }
 
 /// Appends the rules of one constructor and one scalar.
+#[inline(always)]
 fn push_rows(
     alloc: Global,
     rules: &mut Vec<Rule>,
@@ -64,27 +70,23 @@ fn push_rows(
     ensures { OnOk result (rules.new.items ≡ rules.old.items ++ rows form size scalar) }
 {
     let ret = size.to_inner(scalar);
-    let first = size.to_inner(scalar);
+    let first = value(size.to_inner(scalar));
     match form {
         ListForm::Ldexp => {
-            let exponent = size.to_inner(exponent_of(scalar));
-            push_rule(alloc, rules, &[first, exponent], ret)
+            let exponent = value(size.to_inner(exponent_of(scalar)));
+            push_rule(alloc, rules, [first, exponent], ret)
         }
         ListForm::Outer => push_outer(alloc, rules, size, scalar),
         ListForm::Refract => {
-            let normal = size.to_inner(scalar);
-            push_rule(
-                alloc,
-                rules,
-                &[first, normal, TypeInner::Scalar(scalar)],
-                ret,
-            )
+            let normal = value(size.to_inner(scalar));
+            let ratio = value(TypeInner::Scalar(scalar));
+            push_rule(alloc, rules, [first, normal, ratio], ret)
         }
         ListForm::Transpose => push_transpose(alloc, rules, size, scalar),
-        ListForm::ExtractBits => { push_rule(alloc, rules, &[first, unsigned(), unsigned()], ret) }
+        ListForm::ExtractBits => { push_rule(alloc, rules, [first, unsigned(), unsigned()], ret) }
         ListForm::InsertBits => {
-            let bits = size.to_inner(scalar);
-            push_rule(alloc, rules, &[first, bits, unsigned(), unsigned()], ret)
+            let bits = value(size.to_inner(scalar));
+            push_rule(alloc, rules, [first, bits, unsigned(), unsigned()], ret)
         }
         ListForm::Mix => push_mix(alloc, rules, size, scalar),
     }
@@ -124,7 +126,7 @@ fn push_outer(
                 rows,
                 scalar,
             };
-            push_rule(alloc, rules, &[left, right], ret)
+            push_rule(alloc, rules, [value(left), value(right)], ret)
         }
         ConstructorSize::Scalar => Ok(()),
         ConstructorSize::Vector(_) => Ok(()),
@@ -151,7 +153,7 @@ fn push_transpose(
                 rows: columns,
                 scalar,
             };
-            push_rule(alloc, rules, &[input], ret)
+            push_rule(alloc, rules, [value(input)], ret)
         }
         ConstructorSize::Scalar => Ok(()),
         ConstructorSize::Vector(_) => Ok(()),
@@ -166,32 +168,46 @@ fn push_mix(
 ) -> Result<(), AllocError>
     ensures { OnOk result (rules.new.items ≡ rules.old.items ++ rows ListForm.Mix size scalar) }
 {
-    let left = size.to_inner(scalar);
-    let right = size.to_inner(scalar);
-    let ratio = size.to_inner(scalar);
+    let left = value(size.to_inner(scalar));
+    let right = value(size.to_inner(scalar));
+    let ratio = value(size.to_inner(scalar));
     let ret = size.to_inner(scalar);
-    push_rule(alloc, rules, &[left, right, ratio], ret)?;
-    let left = size.to_inner(scalar);
-    let right = size.to_inner(scalar);
+    push_rule(alloc, rules, [left, right, ratio], ret)?;
+    let left = value(size.to_inner(scalar));
+    let right = value(size.to_inner(scalar));
+    let ratio = value(TypeInner::Scalar(scalar));
     let ret = size.to_inner(scalar);
-    push_rule(alloc, rules, &[left, right, TypeInner::Scalar(scalar)], ret)
+    push_rule(alloc, rules, [left, right, ratio], ret)
 }
 
-fn unsigned() -> TypeInner
-    ensures { result ≡ TypeInner.Scalar u32 }
+#[inline(always)]
+fn unsigned() -> TypeResolution
+    ensures { result ≡ resolutions.Value (TypeInner.Scalar u32) }
 {
-    TypeInner::Scalar(Scalar::U32)
+    TypeResolution::Value(TypeInner::Scalar(Scalar::U32))
 }
 
+#[inline(always)]
+fn value(inner: TypeInner) -> TypeResolution
+    ensures { result ≡ resolutions.Value inner }
+{
+    TypeResolution::Value(inner)
+}
+
+/// Appends the rule of these arguments, which are moved into it.
+#[inline(always)]
 fn push_rule<const N: usize>(
     alloc: Global,
     rules: &mut Vec<Rule>,
-    args: &[TypeInner; N],
+    arguments: [TypeResolution; N],
     ret: TypeInner,
 ) -> Result<(), AllocError>
-    ensures { OnOk result (rules.new.items ≡ rules.old.items ++ rule args.now ret ∷ []) }
+    ensures { OnOk result (rules.new.items ≡ rules.old.items ++ record { arguments = arguments.entry; conclusion = Value ret } ∷ []) }
 {
-    let made = rule(alloc, args, ret)?;
-    rules.push(made)?;
+    let arguments = Vec::from_array(alloc, arguments)?;
+    rules.push(Rule {
+        arguments: Items::from(arguments),
+        conclusion: Conclusion::Value(ret),
+    })?;
     Ok(())
 }

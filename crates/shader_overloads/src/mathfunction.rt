@@ -18,6 +18,7 @@ mod lists;
 
 /// The rules of scalars and vectors that conclude the type of their arguments.
 #[tactic(auto, unfolding(crate::specs::Constructors::all_constructors))]
+#[inline(always)]
 fn component_wise(arity: usize, scalars: ScalarSet) -> Regular
     requires { 0 < arity }
     ensures { result ≡ regular_rules arity ConclusionRule.ArgumentType scalars_and_vectors (scalars_in scalars) }
@@ -32,6 +33,7 @@ fn component_wise(arity: usize, scalars: ScalarSet) -> Regular
 
 /// The set of a builtin that works on floats component by component.
 #[tactic(auto, unfolding(crate::specs::Constructors::all_constructors, shader_ir::specs::Scalars::named_scalars))]
+#[inline(always)]
 fn float_set(function: MathFunction) -> Option<Regular>
     ensures { result ≡ rules_if (is_among float_functions function) function }
 {
@@ -74,6 +76,7 @@ fn float_set(function: MathFunction) -> Option<Regular>
 
 /// The set of a builtin that works on numbers or on integers component by component.
 #[tactic(auto, unfolding(crate::specs::Constructors::all_constructors, shader_ir::specs::Scalars::named_scalars))]
+#[inline(always)]
 fn number_set(function: MathFunction) -> Option<Regular>
     ensures { result ≡ rules_if (is_among number_functions function) function }
 {
@@ -96,6 +99,7 @@ fn number_set(function: MathFunction) -> Option<Regular>
 
 /// The set of a builtin that packs numbers into a word, or takes a word of packed numbers.
 #[tactic(auto, unfolding(crate::specs::Constructors::all_constructors, shader_ir::specs::Scalars::named_scalars))]
+#[inline(always)]
 fn packing_set(function: MathFunction) -> Option<Regular>
     ensures { result ≡ rules_if (is_among packing_functions function) function }
 {
@@ -127,6 +131,7 @@ fn packing_set(function: MathFunction) -> Option<Regular>
 
 /// The set of a builtin of products, lengths and directions of vectors.
 #[tactic(auto, unfolding(crate::specs::Constructors::all_constructors, shader_ir::specs::Scalars::named_scalars))]
+#[inline(always)]
 fn geometric_set(function: MathFunction) -> Option<Regular>
     ensures { result ≡ rules_if (is_among geometric_functions function) function }
 {
@@ -149,6 +154,7 @@ fn geometric_set(function: MathFunction) -> Option<Regular>
 
 /// The set of a builtin on square matrices.
 #[tactic(auto, unfolding(crate::specs::Constructors::all_constructors, shader_ir::specs::Scalars::named_scalars))]
+#[inline(always)]
 fn matrix_set(function: MathFunction) -> Option<Regular>
     ensures { result ≡ rules_if (is_among matrix_functions function) function }
 {
@@ -166,6 +172,7 @@ fn matrix_set(function: MathFunction) -> Option<Regular>
 
 /// The set of a builtin that splits floats into two parts.
 #[tactic(auto, unfolding(crate::specs::Constructors::all_constructors, shader_ir::specs::Scalars::named_scalars))]
+#[inline(always)]
 fn splitting_set(function: MathFunction) -> Option<Regular>
     ensures { result ≡ rules_if (is_among splitting_functions function) function }
 {
@@ -182,6 +189,7 @@ fn splitting_set(function: MathFunction) -> Option<Regular>
 }
 
 /// The set of a builtin that takes all combinations of some constructors and some scalars.
+#[inline(always)]
 fn regular_set(function: MathFunction) -> Option<Regular>
     ensures { result ≡ rules_if (not (is_listed function)) function }
 {

@@ -1,16 +1,24 @@
 //! Overload sets that hold a rule for each combination of some constructors and some scalars.
-ghost use Rattle.std.specs.Prelude.{◌≡◌, ◌⊎◌, ◌<◌, ◌++◌, [], IsOk, IsTrue, IfOk, OnOk, Some, filter, map, replicate, slice_get};
+ghost use Rattle.std.specs.Prelude.{◌≡◌, ◌⊎◌, ◌<◌, [], IsOk, IsTrue, IfOk, Some, filter, replicate, slice_get};
 ghost use Rattle.std.specs.List.{list_all};
 ghost use Rattle.shader_ir.specs.declared.proc.type_resolution.TypeResolution.TheVariants as resolutions;
 ghost use Rattle.shader_overloads.specs.Constructors.{constructors_in, to_inner};
-ghost use Rattle.shader_overloads.specs.ScalarSets.{scalars_in};
+ghost use Rattle.shader_overloads.specs.Masks.{has_place};
+ghost use Rattle.shader_overloads.specs.Regular.{all_rules};
 ghost use Rattle.shader_overloads.specs.Remaining.{leaf_scalar};
 ghost use Rattle.shader_overloads.specs.Rules.{regular_rules, rule_for, conclusion_of, can_conclude};
+ghost use Rattle.shader_overloads.specs.ScalarSets.{scalars_in};
 
+use crate::constructor_set::size_at;
+use crate::mask::Mask;
+use crate::masked::{Masked, Table};
+use crate::rule::vector_size;
+use crate::scalar_set::scalar_at;
 use crate::{Conclusion, ConstructorSet, ConstructorSize, OverloadSet, Rule, ScalarSet};
+use bitflags::Flags;
 use shader_arena::UniqueArena;
 use shader_ir::{
-    GlobalCtx, Items, MathFunction, Scalar, Type, TypeInner, TypeResolution, VectorSize, mark,
+    GlobalCtx, Items, PredeclaredType, Scalar, Type, TypeInner, TypeResolution, VectorSize, mark,
 };
 use std::alloc::{AllocError, Global};
 use std::marker::Model;
@@ -21,10 +29,7 @@ use std::marker::Model;
 /// constructor, and within each scalar by scalar, in the order of the bits.
 #[derive(Drop)]
 pub struct Regular {
-    arity: usize,
-    constructors: ConstructorSet,
-    scalars: ScalarSet,
-    conclude: ConclusionRule,
+    set: Masked<RegularRows>,
 }
 
 impl Model for Regular {
@@ -43,14 +48,17 @@ impl Model for Regular {
 impl Regular {
     ghost use Rattle.std.specs.Prelude.{List};
     ghost use Rattle.shader_ir.specs.declared.types.«Type».{«Type»};
-    ghost use Rattle.shader_overloads.specs.Remaining.{RulesFit, accepts};
+    ghost use Rattle.shader_overloads.specs.Remaining.{RulesFit};
 
     /// The set without rules.
     pub const EMPTY: Regular = Regular {
-        arity: 0,
-        constructors: ConstructorSet::EMPTY,
-        scalars: ScalarSet::EMPTY,
-        conclude: ConclusionRule::ArgumentType,
+        set: Masked {
+            mask: Mask::EMPTY,
+            table: RegularRows {
+                arity: 0,
+                conclude: ConclusionRule::ArgumentType,
+            },
+        },
     };
 
     /// The rules of `arity` arguments each.
@@ -65,38 +73,10 @@ impl Regular {
         ensures rules { result ≡ regular_rules arity conclude (constructors_in constructors) (scalars_in scalars) }
         ensures fits { (types : List «Type») → RulesFit types result }
     {
-        Self {
-            arity,
-            constructors,
-            scalars,
-            conclude,
-        }
-    }
-
-    /// The set without rules.
-    #[tactic(auto, unfolding(crate::specs::Constructors::all_constructors, shader_ir::specs::Scalars::named_scalars, crate::specs::Rules::regular_rules))]
-    fn empty() -> Regular
-        ensures { result ≡ [] }
-    {
-        Self::EMPTY
-    }
-
-    /// The rules that take a value of the type as argument `i`.
-    fn taking(&self, i: usize, ty: &TypeInner) -> Regular
-        ensures rules { (types : List «Type») → result ≡ filter (accepts types i ty.now) self.now }
-        ensures fits { (types : List «Type») → RulesFit types result }
-    {
-        if i >= self.arity {
-            return Regular::empty();
-        }
-        let Some(scalar) = leaf_scalar(ty) else {
-            return Regular::empty();
-        };
+        let mask = Mask::pairs(constructors.bits(), scalars.bits());
+        let table = RegularRows { arity, conclude };
         Regular {
-            arity: self.arity,
-            constructors: self.constructors & ConstructorSet::singleton(ty),
-            scalars: self.scalars & ScalarSet::convertible_from(scalar),
-            conclude: self.conclude,
+            set: Masked { mask, table },
         }
     }
 }
@@ -118,24 +98,20 @@ impl OverloadSet for Regular {
         ensures rules { IfOk result (λ set. set ≡ self.now) }
         ensures kind { IfOk result (λ _. ◌≡◌ {A = List «Type» → ℕ → TypeInner → Rule → Bool} accepts accepts) }
     {
-        Ok(Regular {
-            arity: self.arity,
-            constructors: self.constructors,
-            scalars: self.scalars,
-            conclude: self.conclude,
-        })
+        let set = self.set.copy()?;
+        Ok(Regular { set })
     }
 
     fn is_empty(&self) -> bool {
-        self.constructors.is_empty() || self.scalars.is_empty()
+        self.set.is_empty()
     }
 
     fn min_arguments(&self) -> usize {
-        self.arity
+        self.set.table.arity
     }
 
     fn max_arguments(&self) -> usize {
-        self.arity
+        self.set.table.arity
     }
 
     /// Takes no memory.
@@ -151,7 +127,8 @@ impl OverloadSet for Regular {
         ensures kind { IfOk result (λ _. ◌≡◌ {A = List «Type» → ℕ → TypeInner → Rule → Bool} accepts accepts) }
         ensures fits { IfOk result (λ set. RulesFit types.now set) }
     {
-        Ok(self.taking(i, ty))
+        let set = self.set.arg(i, ty, types)?;
+        Ok(Regular { set })
     }
 
     fn concrete_only(self, types: &UniqueArena<Type, mark::Type>) -> Regular
@@ -159,34 +136,113 @@ impl OverloadSet for Regular {
         ensures kind { ◌≡◌ {A = List «Type» → ℕ → TypeInner → Rule → Bool} accepts accepts }
         ensures fits { RulesFit types.now result }
     {
-        let Regular {
-            arity,
-            constructors,
-            scalars,
-            conclude,
-        } = self;
-        Regular {
-            arity,
-            constructors,
-            scalars: scalars & ScalarSet::concrete(),
-            conclude,
-        }
+        let Regular { set } = self;
+        let set = set.concrete_only(types);
+        Regular { set }
     }
 
     fn most_preferred(&self, alloc: Global) -> Result<Rule, AllocError> {
-        let size = self.constructors.first_size();
-        let scalar = self.scalars.most_general_scalar();
-        make_rule(alloc, self.arity, size, scalar, self.conclude)
+        self.set.most_preferred(alloc)
     }
 
     fn overload_list(&self, alloc: Global, _gctx: GlobalCtx<'_>) -> Result<Vec<Rule>, AllocError> {
-        list_rules(
-            alloc,
-            self.arity,
-            self.constructors,
-            self.scalars,
-            self.conclude,
-        )
+        self.set.overload_list(alloc)
+    }
+}
+
+/// The rules of all constructors and scalars: that of the constructor of place `i` and the scalar of place `j` has the number `12 * i + j`.
+#[derive(Clone, Copy)]
+pub struct RegularRows {
+    arity: usize,
+    conclude: ConclusionRule,
+}
+
+impl RegularRows {
+    ghost use Rattle.std.specs.Prelude.{List, ℕ};
+    ghost use Rattle.shader_ir.specs.declared.types.«Type».{«Type»};
+    ghost use Rattle.shader_overloads.specs.declared.rule.Rule.{Rule};
+    ghost use Rattle.shader_overloads.specs.Remaining.{accepts, has_concrete_arguments};
+
+    /// The numbers of the rules that take a value of the type as argument `i`.
+    fn accepted_rows(self, i: usize, ty: &TypeInner) -> Mask
+        ensures { (types : List «Type») (row : ℕ) (rule : Rule) → slice_get (all_rules self) row ≡ Some rule → has_place result row ≡ accepts types i ty.now rule }
+    {
+        if i >= self.arity {
+            return Mask::empty();
+        }
+        match leaf_scalar(ty) {
+            Some(scalar) => {
+                let constructor = ConstructorSet::singleton(ty);
+                let scalars = ScalarSet::convertible_from(scalar);
+                Mask::pairs(constructor.bits(), scalars.bits())
+            }
+            None => Mask::empty(),
+        }
+    }
+
+    /// The numbers of the rules without abstract arguments.
+    fn concrete_rows(self) -> Mask
+        ensures { (types : List «Type») (row : ℕ) (rule : Rule) → slice_get (all_rules self) row ≡ Some rule → has_place result row ≡ has_concrete_arguments types rule }
+    {
+        if self.arity == 0 {
+            return Mask::pairs(u16::MAX, u16::MAX);
+        }
+        Mask::pairs(u16::MAX, ScalarSet::concrete().bits())
+    }
+}
+
+impl Table for RegularRows {
+    ghost use Rattle.std.specs.Prelude.{true, false};
+    ghost use Rattle.shader_overloads.specs.Remaining.{accepts};
+
+    ghost rows = { all_rules };
+
+    ghost accepting = { λ _. accepts };
+
+    ghost is_free = { true };
+
+    ghost reads_types = { false };
+
+    fn copy(&self) -> Result<RegularRows, AllocError> {
+        Ok(*self)
+    }
+
+    fn row_count(&self) -> usize {
+        156
+    }
+
+    fn rule(&self, alloc: Global, row: usize) -> Result<Rule, AllocError> {
+        let size = size_at(row / 12);
+        let scalar = scalar_at(row % 12);
+        make_rule(alloc, self.arity, size, scalar, self.conclude)
+    }
+
+    fn accepts(
+        &self,
+        row: usize,
+        i: usize,
+        ty: &TypeInner,
+        _types: &UniqueArena<Type, mark::Type>,
+    ) -> bool {
+        self.accepted_rows(i, ty).has(row)
+    }
+
+    fn is_concrete(&self, row: usize, _types: &UniqueArena<Type, mark::Type>) -> bool {
+        self.concrete_rows().has(row)
+    }
+
+    fn accepted(
+        &self,
+        mask: Mask,
+        i: usize,
+        ty: &TypeInner,
+        _types: &UniqueArena<Type, mark::Type>,
+    ) -> Mask {
+        mask & self.accepted_rows(i, ty)
+    }
+
+    fn concrete(&self, mask: Mask, _types: &UniqueArena<Type, mark::Type>) -> Mask {
+        mask & self.concrete_rows()
     }
 }
 
@@ -202,44 +258,6 @@ fn leaf_scalar(ty: &TypeInner) -> Option<Scalar>
     }
 }
 
-/// The rules of all combinations of the constructors and the scalars.
-fn list_rules(
-    alloc: Global,
-    arity: usize,
-    constructors: ConstructorSet,
-    scalars: ScalarSet,
-    conclude: ConclusionRule,
-) -> Result<Vec<Rule>, AllocError>
-    requires { IsTrue (list_all (can_conclude conclude) (constructors_in constructors)) }
-    ensures { IfOk result (λ rules. rules.items ≡ regular_rules arity conclude (constructors_in constructors) (scalars_in scalars)) }
-{
-    let mut rules = Vec::new(alloc);
-    for constructor in constructors.members() {
-        let size = constructor.size();
-        push_rules(alloc, &mut rules, arity, size, scalars, conclude)?;
-    }
-    Ok(rules)
-}
-
-/// Appends the rules of one constructor.
-fn push_rules(
-    alloc: Global,
-    rules: &mut Vec<Rule>,
-    arity: usize,
-    size: ConstructorSize,
-    scalars: ScalarSet,
-    conclude: ConclusionRule,
-) -> Result<(), AllocError>
-    requires { IsTrue (can_conclude conclude size) }
-    ensures { OnOk result (rules.new.items ≡ rules.old.items ++ map (rule_for arity conclude size) (scalars_in scalars)) }
-{
-    for scalar in scalars.members() {
-        let rule = make_rule(alloc, arity, size, scalar.most_general_scalar(), conclude)?;
-        rules.push(rule)?;
-    }
-    Ok(())
-}
-
 /// The rule of one constructor and one scalar.
 fn make_rule(
     alloc: Global,
@@ -248,7 +266,6 @@ fn make_rule(
     scalar: Scalar,
     conclude: ConclusionRule,
 ) -> Result<Rule, AllocError>
-    requires { IsTrue (can_conclude conclude size) }
     ensures { IfOk result (λ rule. rule ≡ rule_for arity conclude size scalar) }
 {
     let arguments = repeat_argument(alloc, arity, size, scalar)?;
@@ -291,16 +308,21 @@ pub enum ConclusionRule {
 }
 
 impl ConclusionRule {
-    /// The conclusion from an argument of this constructor and scalar.
+    /// The conclusion from an argument of this constructor and scalar. No rule of a matrix that `Frexp` or `Modf` concludes is ever left.
     fn conclude(self, size: ConstructorSize, scalar: Scalar) -> Conclusion
-        requires { IsTrue (can_conclude self size) }
         ensures { result ≡ conclusion_of self size scalar }
     {
         match self {
             ConclusionRule::ArgumentType => Conclusion::Value(size.to_inner(scalar)),
             ConclusionRule::Scalar => Conclusion::Value(TypeInner::Scalar(scalar)),
-            ConclusionRule::Frexp => Conclusion::for_frexp_modf(MathFunction::Frexp, size, scalar),
-            ConclusionRule::Modf => Conclusion::for_frexp_modf(MathFunction::Modf, size, scalar),
+            ConclusionRule::Frexp => Conclusion::Predeclared(PredeclaredType::FrexpResult {
+                size: vector_size(size),
+                scalar,
+            }),
+            ConclusionRule::Modf => Conclusion::Predeclared(PredeclaredType::ModfResult {
+                size: vector_size(size),
+                scalar,
+            }),
             ConclusionRule::U32 => Conclusion::Value(TypeInner::Scalar(Scalar::U32)),
             ConclusionRule::I32 => Conclusion::Value(TypeInner::Scalar(Scalar::I32)),
             ConclusionRule::Vec2F => vector(VectorSize::Bi, Scalar::F32),

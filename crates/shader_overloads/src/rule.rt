@@ -87,15 +87,13 @@ impl Conclusion {
 #[error("Special type is not registered within the module")]
 pub struct MissingSpecialType;
 
-/// The size of a vector, and none of a scalar.
-fn vector_size(size: ConstructorSize) -> Option<VectorSize>
-    requires { IsTrue (is_scalar_or_vector size) }
+/// The size of a vector.
+pub fn vector_size(size: ConstructorSize) -> Option<VectorSize>
     ensures { result ≡ vector_size size }
 {
     match size {
-        ConstructorSize::Scalar => None,
         ConstructorSize::Vector(size) => Some(size),
-        ConstructorSize::Matrix { .. } => unreachable!(),
+        _ => None,
     }
 }
 

@@ -1,5 +1,5 @@
 //! Sets of scalars.
-ghost use Rattle.std.specs.Prelude.{⊤, codes, ◌≡◌, ◌==◌, ◌≢◌, ◌↔◌, ◌||◌, [], ◌∷◌, filter, map, IsTrue, Some, slice_get};
+ghost use Rattle.std.specs.Prelude.{⊤, codes, ◌≡◌, ◌==◌, ◌≢◌, ◌↔◌, ◌<◌, ◌||◌, [], ◌∷◌, filter, map, IsTrue, Some, slice_get};
 ghost use Rattle.std.specs.Iterator.{YieldsFirstBy, item_count};
 ghost use Rattle.shader_ir.specs.Scalars.{is_convertible, named_scalars, same_scalar};
 ghost use Rattle.shader_overloads.specs.ScalarSets.{has_scalar, is_concrete_scalar, scalars_in};
@@ -143,6 +143,15 @@ static SCALARS_FOR_BITS: [Scalar; 12] = [
     Scalar::F64,
     Scalar::BOOL,
 ];
+
+/// The scalar of a place.
+#[tactic(auto, unfolding(shader_ir::specs::Scalars::named_scalars))]
+pub fn scalar_at(place: usize) -> Scalar
+    requires { place < 12 }
+    ensures { slice_get named_scalars place ≡ Some result }
+{
+    SCALARS_FOR_BITS[place]
+}
 
 #[tactic(auto, unfolding(shader_ir::specs::Scalars::named_scalars))]
 impl ScalarSet {

@@ -33,7 +33,7 @@ pub fn rule<const N: usize>(
 fn values(alloc: Global, inners: &[TypeInner]) -> Result<Items<TypeResolution>, AllocError>
     ensures { IfOk result (λ values. values ≡ map resolutions.Value inners.now) }
 {
-    let mut arguments = Vec::new(alloc);
+    let mut arguments = Vec::with_capacity(alloc, inners.len())?;
     for inner in inners {
         arguments.push(TypeResolution::Value(inner.copy(alloc)?))?;
     }

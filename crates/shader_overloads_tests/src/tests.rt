@@ -24,6 +24,11 @@ pub const MAT3X3: ConstructorSize = ConstructorSize::Matrix {
     rows: VectorSize::Tri,
 };
 
+pub const MAT4X4: ConstructorSize = ConstructorSize::Matrix {
+    columns: VectorSize::Quad,
+    rows: VectorSize::Quad,
+};
+
 pub fn is_type(resolution: &TypeResolution, wanted: Made) -> bool {
     match resolution {
         TypeResolution::Handle(_) => false,

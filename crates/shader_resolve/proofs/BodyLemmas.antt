@@ -4,7 +4,7 @@ use Rattle.shader_ir.specs.Body.{Body, End, Then, Step, Leaf, Nested, If, Switch
 use Rattle.shader_ir.specs.Occurs.{statements, statements_within, case_statements}
 use Rattle.shader_resolve.specs.ModuleTests.{Checked, in_body, in_cases, in_list, in_within, then}
 
-then-assoc : (first second third : Checked) → then (then first second) third ≡ then first (then second third)
+pub then-assoc : (first second third : Checked) → then (then first second) third ≡ then first (then second third)
 then-assoc (Ok nothing) second third = refl
 then-assoc (Err fault) second third = refl
 

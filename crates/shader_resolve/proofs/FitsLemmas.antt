@@ -52,7 +52,8 @@ use Rattle.shader_resolve.specs.Outcome.{Refusal, IncompatibleOperands, InvalidA
 use Rattle.shader_resolve.specs.Part.{checked, member_part, indexed_member, part, part_value, part_pointer, part_outcome, pointed_outcome, lifted}
 use Rattle.shader_resolve.specs.Rows.{Row, Plain, One, Two, constant_type, override_type, argument_type, variable_type, global_type, local_type, result_type, call_type, special_type, splat_type, swizzle_type, pointed_type, load_type, matrix_type, tile_type, pointed_scalar, on_shape, binary_row, relational_row, sample_row, query_row, math_row, row}
 use Rattle.shader_resolve.proofs.BuiltinLemmas.{first-fits}
-use Rattle.shader_resolve.proofs.KeyLemmas.{at_place, found_below, inner_fits, member_below}
+use Rattle.shader_ir.proofs.KeyLemmas.{inner_fits}
+use Rattle.shader_resolve.proofs.KeyLemmas.{at_place, found_below, member_below}
 
 -- what holds of each item holds of the one at a place, where there is one
 listed : {T : Type 0} (P : T → Type 0) (xs : List T) (i : ℕ) → All P xs → IfSome (slice_get xs i) P

@@ -1,8 +1,10 @@
 pub mod AskedLemmas
+pub mod BelowLemmas
 pub mod BodyLemmas
 pub mod BuiltinLemmas
 pub mod CongruenceLemmas
 pub mod ContextLemmas
+pub mod FaultyPlaceLemmas
 pub mod FitsLemmas
 pub mod FollowLemmas
 pub mod Joined

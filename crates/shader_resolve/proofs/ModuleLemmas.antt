@@ -1,5 +1,5 @@
 -- What check_module answers decides which faults stand.
-use Rattle.std.proofs.Common.{◌≡◌, ◌↔◌, sym, subst, refl, ℕ, zero, suc, ◌+◌, ◌<◌, ◌≤◌, Bool, true, false, List, [], ◌∷◌, Option, Some, None, IfSome, IsOk, IfErr, Ok, Err, All, length, slice_get, arith}
+use Rattle.std.proofs.Common.{◌≡◌, ◌↔◌, sym, subst, refl, ℕ, zero, suc, ◌+◌, ◌<◌, Bool, true, false, List, [], ◌∷◌, IfSome, IsOk, IfErr, Ok, Err, All, length, arith}
 use Rattle.std.specs.List.{enumerate_from}
 use Rattle.std.proofs.lemmas.Bool.Decides.{not_from_Decides}
 use Rattle.std.proofs.lemmas.List.Elements.{All-nil, All-cons, All-head, All-tail, All-weaker}
@@ -17,8 +17,8 @@ use Rattle.shader_ir.specs.declared.function.LocalVariable.{LocalVariable}
 use Rattle.shader_ir.specs.declared.module.DiagnosticFilterNode.{DiagnosticFilterNode}
 use Rattle.shader_ir.specs.declared.module.Module.{Module}
 use Rattle.shader_ir.specs.declared.types.«Type».{«Type»}
-use Rattle.shader_ir.specs.declared.types.TypeInner.{TypeInner}
 use Rattle.shader_resolve.specs.Context.{context_of, IsInRange}
+use Rattle.shader_resolve.specs.FaultyPlaces.{ExpressionLacks, FilterLacks, StatementLacks, TypeLacks}
 use Rattle.shader_resolve.specs.ModuleTests.{Checked, bounds_of, check_argument, check_data, check_entry_point, check_expression, check_filter, check_function, check_module, check_statement, check_type, global_bounds, guard, in_arena, in_body, in_entries, in_list, passed, then}
 use Rattle.shader_resolve.specs.Statements.{statement_callee}
 use Rattle.shader_resolve.specs.WellFormed.{AtEach, CalleesBelow, CountMatches, EmitsBelow, ExpressionInRange, FunctionInRange, IsEarlier, IsNoPointerArgument, IsType, IsWellFormed, Lacks, OperandsBelow, Stands, StatementInRange, TypeInRange, expression_callee}
@@ -34,20 +34,20 @@ abbrev pub Sound : Checked → (ModuleFault → Type 0) → Type 0
 Sound (Ok nothing) Fact = (fault : ModuleFault) → Fact fault
 Sound (Err fault) Fact = ¬ Fact fault
 
-then-sound : (first rest : Checked) (F G : ModuleFault → Type 0) → Sound first F → Sound rest G → Sound (then first rest) (λ fault. F fault × G fault)
+pub then-sound : (first rest : Checked) (F G : ModuleFault → Type 0) → Sound first F → Sound rest G → Sound (then first rest) (λ fault. F fault × G fault)
 then-sound (Ok nothing) (Ok more) F G f g = λ fault. (f fault, g fault)
 then-sound (Ok nothing) (Err failure) F G f g = λ both. g both.1
 then-sound (Err failure) rest F G f g = λ both. f both.0
 
-along : (answer : Checked) (F G : ModuleFault → Type 0) → ((fault : ModuleFault) → F fault → G fault) → ((fault : ModuleFault) → G fault → F fault) → Sound answer F → Sound answer G
+pub along : (answer : Checked) (F G : ModuleFault → Type 0) → ((fault : ModuleFault) → F fault → G fault) → ((fault : ModuleFault) → G fault → F fault) → Sound answer F → Sound answer G
 along (Ok nothing) F G to from sound = λ fault. to fault (sound fault)
 along (Err failure) F G to from sound = λ g. sound (from failure g)
 
-guarded : (test : Bool) (fault : ModuleFault) (rest : Checked) (F : ModuleFault → Type 0) → (test ≡ true → Sound rest F) → (test ≡ false → ¬ F fault) → Sound (guard test fault rest) F
+pub guarded : (test : Bool) (fault : ModuleFault) (rest : Checked) (F : ModuleFault → Type 0) → (test ≡ true → Sound rest F) → (test ≡ false → ¬ F fault) → Sound (guard test fault rest) F
 guarded true fault rest F passes fails = passes refl
 guarded false fault rest F passes fails = fails refl
 
-in_list-sound : {T : Type 0} (check : T → Checked) (F : T → ModuleFault → Type 0) → ((item : T) → Sound (check item) (F item)) → (items : List T)
+pub in_list-sound : {T : Type 0} (check : T → Checked) (F : T → ModuleFault → Type 0) → ((item : T) → Sound (check item) (F item)) → (items : List T)
     → Sound (in_list check items) (λ fault. All (λ (item : T). F item fault) items)
 in_list-sound {T} check F each [] = λ fault. All-nil (λ (item : T). F item fault)
 in_list-sound {T} check F each (item ∷ items) =
@@ -98,21 +98,19 @@ module _ {T : Type 0} (check : ℕ → T → Checked) (F : ℕ → T → ModuleF
 any-place : {T : Type 0} (items : List T) → AtEach (λ place item. Unit {0}) items
 any-place items place item is = tt
 
-any-item : {T : Type 0} (items : List T) → All (λ (item : T). Unit {0}) items
+pub any-item : {T : Type 0} (items : List T) → All (λ (item : T). Unit {0}) items
 any-item items k d lt = tt
 
 module _ (checked : Module) where
-  abbrev TypeFacts : ℕ → «Type» → ModuleFault → Type 0
-  TypeFacts place type HandleOutOfRange = TypeInRange checked type.inner
-  TypeFacts place type TypeNotEarlier = PointsBelow place type.inner
-  TypeFacts place type _ = Unit {0}
+  abbrev pub TypeFacts : ℕ → «Type» → ModuleFault → Type 0
+  TypeFacts = TypeLacks checked
 
   type-facts : (place : ℕ) (type : «Type») → TypeInRange checked type.inner → PointsBelow place type.inner → (fault : ModuleFault) → TypeFacts place type fault
   type-facts place type range earlier HandleOutOfRange = range
   type-facts place type range earlier TypeNotEarlier = earlier
   type-facts place type range earlier fault = tt
 
-  type-sound : (place : ℕ) (type : «Type») → Sound (check_type checked place type.inner) (TypeFacts place type)
+  pub type-sound : (place : ℕ) (type : «Type») → Sound (check_type checked place type.inner) (TypeFacts place type)
   type-sound place type =
       guarded _ HandleOutOfRange _ (TypeFacts place type)
       (λ range.
@@ -121,10 +119,8 @@ module _ (checked : Module) where
       (λ fails. not_from_Decides _ (handles-decide place (type_handles type.inner)) fails))
       (λ fails. not_from_Decides _ (type-decides checked type.inner) fails)
 
-  abbrev FilterFacts : ℕ → DiagnosticFilterNode → ModuleFault → Type 0
-  FilterFacts place node HandleOutOfRange = IfSome node.parent (λ parent. parent < length checked.diagnostic_filters)
-  FilterFacts place node FilterNotEarlier = IfSome node.parent (λ parent. parent < place)
-  FilterFacts place node _ = Unit {0}
+  abbrev pub FilterFacts : ℕ → DiagnosticFilterNode → ModuleFault → Type 0
+  FilterFacts = FilterLacks checked
 
   filter-facts : (place : ℕ) (node : DiagnosticFilterNode) → IfSome node.parent (λ parent. parent < length checked.diagnostic_filters)
       → IfSome node.parent (λ parent. parent < place) → (fault : ModuleFault) → FilterFacts place node fault
@@ -132,7 +128,7 @@ module _ (checked : Module) where
   filter-facts place node range earlier FilterNotEarlier = earlier
   filter-facts place node range earlier fault = tt
 
-  filter-sound : (place : ℕ) (node : DiagnosticFilterNode) → Sound (check_filter checked place node) (FilterFacts place node)
+  pub filter-sound : (place : ℕ) (node : DiagnosticFilterNode) → Sound (check_filter checked place node) (FilterFacts place node)
   filter-sound place node =
       guarded _ HandleOutOfRange _ (FilterFacts place node)
       (λ range.
@@ -147,11 +143,8 @@ module _ (checked : Module) where
   callee-there locals arguments expression there = tt
 
   module _ (earlier : ℕ) (locals : List LocalVariable) (arguments : List FunctionArgument) (expressions : List Expression) where
-    abbrev ExpressionFacts : ℕ → Expression → ModuleFault → Type 0
-    ExpressionFacts place expression HandleOutOfRange = ExpressionInRange checked (context_of checked locals arguments) expressions expression
-    ExpressionFacts place expression OperandNotEarlier = OperandsBelow place expression
-    ExpressionFacts place expression CalleeNotEarlier = IfSome (expression_callee expression) (IsEarlier checked earlier)
-    ExpressionFacts place expression _ = Unit {0}
+    abbrev pub ExpressionFacts : ℕ → Expression → ModuleFault → Type 0
+    ExpressionFacts = ExpressionLacks checked earlier locals arguments expressions
 
     expression-facts : (place : ℕ) (expression : Expression) → ExpressionInRange checked (context_of checked locals arguments) expressions expression → OperandsBelow place expression
         → IfSome (expression_callee expression) (IsEarlier checked earlier) → (fault : ModuleFault) → ExpressionFacts place expression fault
@@ -160,7 +153,7 @@ module _ (checked : Module) where
     expression-facts place expression range operands callee CalleeNotEarlier = callee
     expression-facts place expression range operands callee fault = tt
 
-    expression-sound : (place : ℕ) (expression : Expression)
+    pub expression-sound : (place : ℕ) (expression : Expression)
         → Sound (check_expression checked (record { earlier = earlier; locals = length locals; expressions = length expressions }) place expression) (ExpressionFacts place expression)
     expression-sound place expression =
         guarded _ HandleOutOfRange _ (ExpressionFacts place expression)
@@ -175,7 +168,7 @@ module _ (checked : Module) where
         (λ fails. not_from_Decides _ (operands-decide place (expression_operands expression)) fails))
         (λ fails. not_from_Decides _ (expression-decides checked locals arguments expressions expression) fails)
 
-  abbrev ArgumentFacts : FunctionArgument → ModuleFault → Type 0
+  abbrev pub ArgumentFacts : FunctionArgument → ModuleFault → Type 0
   ArgumentFacts argument HandleOutOfRange = IsType checked argument.ty
   ArgumentFacts argument ValuePointerArgument = IsNoPointerArgument checked argument
   ArgumentFacts argument _ = Unit {0}
@@ -185,7 +178,7 @@ module _ (checked : Module) where
   argument-facts argument range pointer ValuePointerArgument = pointer
   argument-facts argument range pointer fault = tt
 
-  argument-sound : (argument : FunctionArgument) → Sound (check_argument checked argument) (ArgumentFacts argument)
+  pub argument-sound : (argument : FunctionArgument) → Sound (check_argument checked argument) (ArgumentFacts argument)
   argument-sound argument =
       guarded _ HandleOutOfRange _ (ArgumentFacts argument)
       (λ range.
@@ -195,12 +188,8 @@ module _ (checked : Module) where
       (λ fails. not_from_Decides _ (Decides-ltb argument.ty (length checked.types)) fails)
 
   module _ (earlier : ℕ) (function : Function) where
-    abbrev StatementFacts : Step → ModuleFault → Type 0
-    StatementFacts step HandleOutOfRange = StatementInRange checked function step
-    StatementFacts step CalleeNotEarlier = IfSome (statement_callee step) (IsEarlier checked earlier)
-    StatementFacts step ArgumentCount = CountMatches checked step
-    StatementFacts step EmitRange = EmitsBelow (length function.expressions) step
-    StatementFacts step _ = Unit {0}
+    abbrev pub StatementFacts : Step → ModuleFault → Type 0
+    StatementFacts = StatementLacks checked earlier function
 
     statement-facts : (step : Step) → StatementInRange checked function step → IfSome (statement_callee step) (IsEarlier checked earlier) → CountMatches checked step
         → EmitsBelow (length function.expressions) step → (fault : ModuleFault) → StatementFacts step fault
@@ -279,7 +268,7 @@ module _ (checked : Module) where
     part-facts ValuePointerArgument is = (is, (any-place function.expressions, any-item (statements function.body)))
     part-facts EmitRange is = (any-item function.arguments, (any-place function.expressions, is))
 
-    body-sound : Sound (in_body (check_statement checked (bounds_of earlier function)) function.body) (λ fault. All (λ (step : Step). StatementFacts step fault) (statements function.body))
+    pub body-sound : Sound (in_body (check_statement checked (bounds_of earlier function)) function.body) (λ fault. All (λ (step : Step). StatementFacts step fault) (statements function.body))
     body-sound =
         subst (λ answer. Sound answer (λ fault. All (λ (step : Step). StatementFacts step fault) (statements function.body)))
         (sym (body-list (check_statement checked (bounds_of earlier function)) function.body))

@@ -83,7 +83,7 @@ module _ (checked : Module) where
       like _ (Decides-and _ _ (handles-decide (length checked.types) (type_handles inner)) (optional-decides (length checked.overrides) (sizing_override inner)))
       (λ both. record { named = both.0; sized = both.1 }) (λ is. (is.named, is.sized))
 
-  special-decides : (special : SpecialTypes) → Decides (special_in_range checked special) (SpecialTypesInRange checked special)
+  pub special-decides : (special : SpecialTypes) → Decides (special_in_range checked special) (SpecialTypesInRange checked special)
   special-decides special =
       like _
       (Decides-and _ _ (optional-decides (length checked.types) special.ray_intersection)
@@ -93,17 +93,17 @@ module _ (checked : Module) where
       (λ both. record { ray_intersection = both.0; ray_vertex_return = both.1.0; predeclared = both.1.1 })
       (λ is. (is.ray_intersection, (is.ray_vertex_return, is.predeclared)))
 
-  constant-decides : (constant : Constant) → Decides (constant_in_range checked constant) (ConstantInRange checked constant)
+  pub constant-decides : (constant : Constant) → Decides (constant_in_range checked constant) (ConstantInRange checked constant)
   constant-decides constant =
       like _ (Decides-and _ _ (Decides-ltb constant.ty (length checked.types)) (Decides-ltb constant.init (length checked.global_expressions)))
       (λ both. record { ty = both.0; init = both.1 }) (λ is. (is.ty, is.init))
 
-  override-decides : (override : Override) → Decides (override_in_range checked override) (OverrideInRange checked override)
+  pub override-decides : (override : Override) → Decides (override_in_range checked override) (OverrideInRange checked override)
   override-decides override =
       like _ (Decides-and _ _ (Decides-ltb override.ty (length checked.types)) (optional-decides (length checked.global_expressions) override.init))
       (λ both. record { ty = both.0; init = both.1 }) (λ is. (is.ty, is.init))
 
-  global-decides : (variable : GlobalVariable) → Decides (global_in_range checked variable) (GlobalInRange checked variable)
+  pub global-decides : (variable : GlobalVariable) → Decides (global_in_range checked variable) (GlobalInRange checked variable)
   global-decides variable =
       like _ (Decides-and _ _ (Decides-ltb variable.ty (length checked.types)) (optional-decides (length checked.global_expressions) variable.init))
       (λ both. record { ty = both.0; init = both.1 }) (λ is. (is.ty, is.init))

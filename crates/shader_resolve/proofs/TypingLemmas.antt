@@ -9,7 +9,7 @@ use Rattle.shader_ir.specs.declared.scalar.VectorSize.{VectorSize}
 use Rattle.shader_ir.specs.declared.proc.type_resolution.TypeResolution.{TypeResolution}
 use Rattle.shader_ir.specs.declared.proc.type_resolution.TypeResolution.TheVariants.{Handle, Value}
 use Rattle.shader_ir.specs.Key.{Key, StructKey, InnerKey, pointer_to, pointer_at, canonical, shape_key, found_key, key_of, found_inner, inner_of}
-use Rattle.shader_resolve.proofs.KeyLemmas.{StructKey-told}
+use Rattle.shader_ir.proofs.KeyLemmas.{StructKey-told}
 use Rattle.shader_resolve.specs.Outcome.{Outcome, at_inner, at_shape}
 use Rattle.shader_resolve.specs.Typing.{outcome_key, standing}
 

@@ -1,5 +1,6 @@
 -- What images hold, and how large they are.
 use Rattle.std.specs.Prelude.{ℕ}
+use Rattle.shader_ir.specs.Scalars.{scalar}
 use Rattle.shader_ir.specs.declared.scalar.ScalarKind.{ScalarKind}
 use Rattle.shader_ir.specs.declared.scalar.ScalarKind.TheVariants as kind
 use Rattle.shader_ir.specs.declared.scalar.Scalar.{Scalar}
@@ -14,9 +15,6 @@ use Rattle.shader_ir.specs.declared.types.TypeInner.{TypeInner}
 use Rattle.shader_ir.specs.declared.types.TypeInner.TheVariants as type
 use Rattle.shader_ir.specs.declared.proc.type_resolution.TypeResolution.TheVariants.{Value}
 use Rattle.shader_resolve.specs.Outcome.{InvalidImage, Outcome, Given, Refused}
-
-abbrev pub scalar : ScalarKind → ℕ → Scalar
-scalar kind width = record { kind = kind; width = width }
 
 abbrev pub bool_scalar : Scalar
 bool_scalar = scalar kind.Bool 1

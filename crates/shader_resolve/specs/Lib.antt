@@ -3,12 +3,14 @@ pub mod Builtins
 pub mod CongruenceLaws
 pub mod Context
 pub mod ContextLaws
+pub mod FaultyPlaces
 pub mod Follows
 pub mod Images
 pub mod ModuleTests
 pub mod Operations
 pub mod Outcome
 pub mod Part
+pub mod PlaceTests
 pub mod PointerLaws
 pub mod Rows
 pub mod Statements

@@ -10,7 +10,8 @@ use Rattle.shader_ir.specs.declared.types.TypeInner.{TypeInner}
 use Rattle.shader_ir.specs.declared.types.TypeInner.TheVariants as type
 use Rattle.shader_ir.specs.declared.proc.type_resolution.TypeResolution.{TypeResolution}
 use Rattle.shader_ir.specs.declared.proc.type_resolution.TypeResolution.TheVariants.{Value}
-use Rattle.shader_resolve.specs.Images.{scalar, bool_scalar}
+use Rattle.shader_ir.specs.Scalars.{scalar}
+use Rattle.shader_resolve.specs.Images.{bool_scalar}
 use Rattle.shader_resolve.specs.Outcome.{IncompatibleOperands, Outcome, Given, Refused, at_shape}
 
 -- a test of each component

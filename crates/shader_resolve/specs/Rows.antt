@@ -35,7 +35,9 @@ use Rattle.shader_ir.specs.declared.proc.type_resolution.TypeResolution.TheVaria
 use Rattle.shader_ir.specs.Key.{found_inner}
 use Rattle.shader_resolve.specs.Builtins.{math_of_one, math_of_two}
 use Rattle.shader_resolve.specs.Context.{Context}
-use Rattle.shader_resolve.specs.Images.{scalar, bool_scalar, u32_scalar, i32_scalar, f32_scalar, extent_type, gather_type, sample_type}
+use Rattle.shader_ir.specs.Queries.{scalar_of}
+use Rattle.shader_ir.specs.Scalars.{scalar}
+use Rattle.shader_resolve.specs.Images.{bool_scalar, u32_scalar, i32_scalar, f32_scalar, extent_type, gather_type, sample_type}
 use Rattle.shader_resolve.specs.Operations.{cast_type, left_type, product, test_type}
 use Rattle.shader_resolve.specs.Outcome.{NoSuchHandle, InvalidScalar, InvalidVector, InvalidPointer, FunctionReturnsVoid, FunctionArgumentNotFound, MissingSpecialType, Outcome, Given, Refused, at_shape}
 use Rattle.shader_resolve.specs.Part.{lifted}
@@ -100,16 +102,8 @@ abbrev pub special_type : Option ℕ → Outcome
 special_type (Some ty) = Given (Handle ty)
 special_type None = Refused MissingSpecialType
 
--- the scalar of a type that is made of one kind of scalars
-abbrev pub shape_scalar : TypeInner → Option Scalar
-shape_scalar (type.Scalar scalar) = Some scalar
-shape_scalar (type.Vector size scalar) = Some scalar
-shape_scalar (type.Matrix columns rows scalar) = Some scalar
-shape_scalar (type.CooperativeMatrix columns rows scalar role) = Some scalar
-shape_scalar _ = None
-
 abbrev pub found_scalar : Option TypeInner → Option Scalar
-found_scalar (Some inner) = shape_scalar inner
+found_scalar (Some inner) = scalar_of inner
 found_scalar None = None
 
 -- the scalar of what a pointer points to

@@ -11,6 +11,7 @@ use thiserror::Error;
 /// Why an expression has no type. A handle is printed as its place in brackets.
 #[derive(Debug, PartialEq, Drop, Error)]
 pub enum ResolveError {
+    /// A known index is past the components, members or elements of the base `expr`.
     #[error("Index {index} is out of bounds for expression {expr:?}")]
     OutOfBoundsIndex {
         expr: Handle<mark::Expression>,
@@ -28,31 +29,39 @@ pub enum ResolveError {
         ty: Handle<mark::Type>,
         indexed: bool,
     },
+    /// What is spread by a `Splat` is no scalar.
     #[error("Invalid scalar {0:?}")]
     InvalidScalar(Handle<mark::Expression>),
+    /// What a `Swizzle` takes components of is no vector.
     #[error("Invalid vector {0:?}")]
     InvalidVector(Handle<mark::Expression>),
+    /// What is loaded through is no pointer.
     #[error("Invalid pointer {0:?}")]
     InvalidPointer(Handle<mark::Expression>),
+    /// What is sampled, loaded from or asked is no image of the needed kind.
     #[error("Invalid image {0:?}")]
     InvalidImage(Handle<mark::Expression>),
-    /// For front ends, which look up functions by name; `resolve` never answers it.
+    /// For front ends, which look up functions by name; `resolve` never returns it.
     #[error("Function {name} not defined")]
     FunctionNotDefined {
         name: String,
     },
+    /// The result is named of a function that returns none.
     #[error("Function without return type")]
     FunctionReturnsVoid,
     /// The name of the operator or relational function, or `As`.
     #[error("Incompatible operands: {0}")]
     IncompatibleOperands(String),
+    /// The function has no argument at the index.
     #[error("Function argument {0} doesn't exist")]
     FunctionArgumentNotFound(u32),
+    /// The module hasn't registered the result type of a ray query, of `frexp` or of `modf`.
     #[error("Special type is not registered within the module")]
     MissingSpecialType,
     /// The name of the builtin function.
     #[error("Call to builtin {0} has incorrect or ambiguous arguments")]
     BuiltinArgumentsInvalid(String),
+    /// Memory is refused.
     #[error("OutOfMemory")]
     OutOfMemory,
 }
@@ -79,7 +88,7 @@ impl From<MissingSpecialType> for ResolveError {
     }
 }
 
-/// The same text again.
+/// Copies a text.
 fn copy_text(alloc: Global, text: &str) -> Result<String, AllocError>
     ensures { IfOk result (λ copy. string_bytes copy ≡ text.now) }
 {
@@ -87,7 +96,7 @@ fn copy_text(alloc: Global, text: &str) -> Result<String, AllocError>
 }
 
 impl ResolveError {
-    /// The same error again, with the same words. Only an error that has some takes memory.
+    /// Returns an equal error, with the same words. Only an error that has some takes memory.
     pub fn copy(&self, alloc: Global) -> Result<ResolveError, AllocError>
         ensures refusal { IfOk result (λ copy. refusal_of copy ≡ refusal_of self.now) }
         ensures words { IfOk result (λ copy. words_of copy ≡ words_of self.now) }

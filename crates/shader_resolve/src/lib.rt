@@ -9,4 +9,4 @@ mod well_formed;
 
 pub use context::ResolveContext;
 pub use error::ResolveError;
-pub use well_formed::{ModuleFault, check_module};
+pub use well_formed::{ModuleFault, ModulePlace, check_module, find_fault};

@@ -8,10 +8,9 @@ mod pointers;
 mod values;
 
 use crate::{ResolveContext, ResolveError};
-use access::access;
+use access::{access, splat, swizzle};
 use images::{gather, image_extent, sample};
 use operations::{cast, component_test};
-use pointers::{splat, swizzle};
 use shader_arena::Handle;
 use shader_ir::{
     BinaryOperator, Expression, ImageQuery, MathFunction, RelationalFunction, Scalar, TypeInner,

@@ -6,33 +6,45 @@ ghost use Rattle.shader_resolve.specs.WellFormed.{IsWellFormed, Stands};
 mod data;
 mod expressions;
 mod functions;
+mod operands;
+mod places;
 mod statements;
 
 use data::check_data;
 use expressions::check_expressions;
 use functions::check_function;
+pub use places::{ModulePlace, find_fault};
 use shader_ir::Module;
+use thiserror::Error;
 
 /// Why a module isn't well formed.
-#[derive(Clone, Copy, Debug, PartialEq, Eq)]
+#[derive(Clone, Copy, Debug, PartialEq, Eq, Error)]
 pub enum ModuleFault {
     /// A handle is past the end of its arena. The range of an `Emit` is left to `EmitRange`, and a
     /// global expression has no locals.
+    #[error("A handle is past the end of its arena")]
     HandleOutOfRange,
     /// A type names itself or a later type.
+    #[error("A type names itself or a later type")]
     TypeNotEarlier,
     /// An operand of an expression is that expression or a later one.
+    #[error("An operand is the expression itself or a later one")]
     OperandNotEarlier,
     /// A function calls itself or a later function, or names the result of such a call; or a global
     /// expression names the result of a call. To an entry point all functions are earlier.
+    #[error("A called function isn't an earlier one")]
     CalleeNotEarlier,
     /// A call gives more or fewer arguments than its callee takes.
+    #[error("A call gives more or fewer arguments than its function takes")]
     ArgumentCount,
     /// The parent of a filter is that filter or a later one.
+    #[error("The parent of a diagnostic filter isn't an earlier one")]
     FilterNotEarlier,
     /// A function takes an argument of a `ValuePointer` type.
+    #[error("A function takes an argument of a value pointer type")]
     ValuePointerArgument,
     /// An `Emit` names an expression past the end of its function's.
+    #[error("An emitted range ends past the function's expressions")]
     EmitRange,
 }
 

@@ -267,7 +267,7 @@ fn own_needs(infos: &[FunctionInfo], expression: &Expression) -> UniformityRequi
 ///
 /// # Errors
 ///
-/// Want of memory for a fact an expression.
+/// `AllocError` if memory for one fact per expression is refused.
 pub fn facts_of(
     alloc: Global,
     module: &Module,

@@ -11,7 +11,7 @@ use std::alloc::{AllocError, Global};
 ///
 /// # Errors
 ///
-/// Want of memory for a word a statement.
+/// `AllocError` if memory for one word per statement is refused.
 pub fn statements_of<'a>(alloc: Global, block: &'a Block) -> Result<Vec<&'a Statement>, AllocError>
     ensures { IfOk result (λ all. listed all.items ≡ statements block.now) }
 {

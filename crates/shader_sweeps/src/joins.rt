@@ -146,7 +146,7 @@ pub fn requirements(
 ///
 /// # Errors
 ///
-/// Want of memory for the uses of each global.
+/// `AllocError` if memory for the uses of each global is refused.
 pub fn uses_of_bits(alloc: Global, bits: &[u8]) -> Result<Items<GlobalUse>, AllocError>
     ensures { IfOk result (λ uses. map (λ at. at.0) uses ≡ bits.now) }
 {

@@ -312,7 +312,7 @@ impl Pairs {
     ///
     /// # Errors
     ///
-    /// Want of memory for a pair.
+    /// `AllocError` if memory for a pair is refused.
     pub fn of_function(
         alloc: Global,
         infos: &[FunctionInfo],

@@ -143,7 +143,7 @@ impl Tally {
     ///
     /// # Errors
     ///
-    /// Want of memory for a count an expression and the uses of each global.
+    /// Memory is refused for one count per expression or for the uses of each global.
     pub fn of_function(
         alloc: Global,
         module: &Module,

@@ -14,7 +14,7 @@ use std::alloc::AllocError;
 ///
 /// # Errors
 ///
-/// Want of memory for the base of an array, where the arena does not have it yet. The arena then holds what it held.
+/// Memory is refused for the base of an array that the arena doesn't have yet. The arena then holds what it held.
 pub fn place(
     types: &mut UniqueArena<Type, mark::Type>,
     spelled: SpelledType,

@@ -8,7 +8,9 @@ use shader_ir::VectorSize;
 /// A vector's size, or the columns and rows of a matrix.
 #[derive(Clone, Copy, Debug, PartialEq, Eq)]
 pub enum Shape {
+    /// A vector of this size.
     Vector(VectorSize),
+    /// A matrix of these columns and rows.
     Matrix(VectorSize, VectorSize),
 }
 

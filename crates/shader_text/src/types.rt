@@ -13,11 +13,14 @@ use shader_ir::{Count, Scalar, TypeInner, VectorSize};
 /// A scalar, a vector or a matrix.
 #[derive(Clone, Copy, Debug, PartialEq, Eq)]
 pub enum PlainType {
+    /// A scalar.
     Scalar(Scalar),
+    /// A vector.
     Vector {
         size: VectorSize,
         scalar: Scalar,
     },
+    /// A matrix.
     Matrix {
         columns: VectorSize,
         rows: VectorSize,
@@ -28,7 +31,9 @@ pub enum PlainType {
 /// A plain type, or an array of one with its stride in bytes.
 #[derive(Clone, Copy, Debug, PartialEq, Eq)]
 pub enum SpelledType {
+    /// A type that is no array.
     Plain(PlainType),
+    /// An array of such types, with its stride in bytes.
     Array {
         base: PlainType,
         count: Count,

@@ -11,7 +11,7 @@ use Rattle.shader_resolve.proofs.ContextLemmas.{contexts_of_well_formed}
 use Rattle.shader_resolve.specs.ContextLaws.{EntryPointFits, FunctionFits}
 use Rattle.shader_resolve.specs.WellFormed.{FunctionInRange, IsWellFormed}
 use Rattle.shader_sweeps.specs.InfoOf.{PointsBackwards}
-use Rattle.shader_typing.proofs.PlaceLemmas.{at_place}
+use Rattle.shader_expression_types.proofs.ListLemmas.{at_place}
 use Rattle.shader_typing.specs.Analyzable.{AreHeld, IsAnalyzable}
 use Rattle.shader_typing.specs.Processed.{IsFunctionAt, infos_before}
 use Rattle.shader_typing.specs.Recorded.{Recorded}

@@ -1,8 +1,7 @@
 -- One more function or entry point, where the infos of those before it are exact.
-use Rattle.std.proofs.Common.{◌≡◌, refl, sym, ap, subst, ◌∙◌, ℕ, zero, suc, ◌+◌, ◌<◌, inl, inr, List, [], ◌∷◌, ◌++◌, Some, slice_get, length, get_or, arith, length-append}
-use Rattle.std.proofs.lemmas.Bool.{cases_eq}
+use Rattle.std.proofs.Common.{◌≡◌, refl, sym, ap, subst, ◌∙◌, ℕ, ◌+◌, ◌<◌, List, [], ◌∷◌, ◌++◌, Some, slice_get, length, arith, length-append}
 use Rattle.std.proofs.lemmas.List.{length-map}
-use Rattle.std.proofs.lemmas.Option.{slice_get_within, slice_get-get_or, same_Some}
+use Rattle.std.proofs.lemmas.Option.{slice_get_within, same_Some}
 use Rattle.shader_chains.specs.Derivable.{AreTypes, IsRefused}
 use Rattle.shader_chains.specs.Exact.{IsExact, IsExactModule}
 use Rattle.shader_chains.specs.Faults.{Cause, ComesBefore, IsAccepted, IsFault, IsFirstFault, ModuleFault, OfEntryPoint, OfFunction, OfGlobalExpression, Settings, Site, StepFault, in_entry_point, in_expression, in_function}
@@ -13,6 +12,7 @@ use Rattle.shader_chains.proofs.EarlierLemmas.{point_backwards}
 use Rattle.shader_chains.proofs.FaultLemmas.{faults_agree}
 use Rattle.shader_chains.proofs.HeldLemmas.{entry_is_exact, named_within, next_is_exact}
 use Rattle.shader_chains.proofs.TypeLemmas.{types_are_unique}
+use Rattle.shader_expression_types.proofs.ListLemmas.{one_more, up_to_here}
 use Rattle.shader_info.specs.Fit.{Fits}
 use Rattle.shader_info.specs.declared.error.FunctionError.{FunctionError}
 use Rattle.shader_info.specs.declared.error.FunctionError.TheVariants as error
@@ -26,26 +26,15 @@ use Rattle.shader_resolve.specs.WellFormed.{IsWellFormed}
 use Rattle.shader_steps.specs.Causes.{IsNamed}
 use Rattle.shader_sweeps.proofs.HeldInfoLemmas.{of_held}
 use Rattle.shader_sweeps.specs.InfoOf.{info_of, infos_of}
+use Rattle.shader_typing.proofs.PlaceLemmas.{found_at}
 use Rattle.shader_typing.specs.Analyzed.{EntryPointsFound, FunctionsFound}
 
 infos_of-push : (held : List FunctionInfo) (info : FunctionInfo) → infos_of (held ++ info ∷ []) ≡ infos_of held ++ info_of info ∷ []
 infos_of-push [] info = refl
 infos_of-push (x ∷ xs) info = ap (λ v. info_of x ∷ v) (infos_of-push xs info)
 
--- what is at a place after one more is added
-pushed : {A P : Type 0} (xs : List A) (y : A) (i : ℕ) (x : A) → slice_get (xs ++ y ∷ []) i ≡ Some x → (slice_get xs i ≡ Some x → P) → (i ≡ length xs → y ≡ x → P) → P
-pushed [] y zero x e old new = new refl (same_Some y x e)
-pushed [] y (suc i) x e old new = absurd (cc)
-pushed (z ∷ xs) y zero x e old new = old e
-pushed (z ∷ xs) y (suc i) x e old new = pushed xs y i x e old (λ same is. new (ap suc same) is)
-
 longer : (held : List FunctionInfo) (info : FunctionInfo) → length (held ++ info ∷ []) ≡ length held + 1
 longer held info = length-append held (info ∷ [])
-
--- what is at a place within
-found_at : {A : Type 0} (xs : List A) (e : ℕ) → e < length xs → (x : A) × (slice_get xs e ≡ Some x)
-found_at [] e lt = absurd (omega (arith, lt))
-found_at (x ∷ xs) e lt = (get_or (x ∷ xs) e x, slice_get-get_or (x ∷ xs) e x lt)
 
 -- a refusal that names one of some causes names one of more
 pub named_more : (P Q : Cause → Type 0) → ((cause : Cause) → P cause → Q cause) → (failure : FunctionError) → IsNamed P failure → IsNamed Q failure
@@ -95,18 +84,14 @@ module _ (m : Module) (settings : Settings) (well : IsWellFormed m) (types : Lis
         record {
           held = record {
             there = omega (arith, longer held info, slice_get_within m.functions (length held) f is_f);
-            fit = λ c r i is_r is_i. pushed held info c i is_i (λ old. before.held.fit c r i is_r old)
-                (λ last same.
-                let same_f : f ≡ r = same_Some f r (sym is_f ∙ (ap (slice_get m.functions) (sym last) ∙ is_r)) in
-                subst (λ x. Fits m x i) same_f (subst (λ x. Fits m f x) same fits));
+            fit = λ c r i is_r is_i. one_more (λ e x. (g : Function) → slice_get m.functions e ≡ Some g → Fits m g x) held info
+                (λ e x is_x g is_g. before.held.fit e g x is_g is_x) (λ g is_g. subst (λ x. Fits m x info) (same_Some f g (sym is_f ∙ is_g)) fits) c i is_i r is_r;
           };
           exact = subst P (sym (infos_of-push held info)) done;
-          clean = λ i g cause lt is_g. elim (cases_eq i (length held)) [
-            | inl last ↦
-                let same_f : f ≡ g = same_Some f g (sym is_f ∙ (ap (slice_get m.functions) (sym last) ∙ is_g)) in
-                subst (λ x. IsFault m x settings cause → ⊥) same_f (no_fault m settings well held before f ordered none cause)
-            | inr early ↦ before.clean i g cause (omega (arith, lt, early, longer held info)) is_g
-          ];
+          clean = λ i g cause lt is_g. up_to_here (λ e. (g : Function) (cause : Cause) → slice_get m.functions e ≡ Some g → IsFault m g settings cause → ⊥) (length held)
+              (λ e early g cause is_g. before.clean e g cause early is_g)
+              (λ g cause is_g. subst (λ x. IsFault m x settings cause → ⊥) (same_Some f g (sym is_f ∙ is_g)) (no_fault m settings well held before f ordered none cause))
+              i (omega (arith, lt, longer held info)) g cause is_g;
         }
 
     -- a fault of the next function is the first
@@ -133,16 +118,15 @@ module _ (m : Module) (settings : Settings) (well : IsWellFormed m) (types : Lis
         ((point_backwards m well).entry_points (length done) entry is_entry) before.exact steps in
         record {
           there = omega (arith, longer done info, slice_get_within m.entry_points (length done) entry is_entry);
-          exact = λ i other at is_other is_at. pushed done info i at is_at (λ old. entries.exact i other at is_other old)
-              (λ last same.
-              let same_entry : entry ≡ other = same_Some entry other (sym is_entry ∙ (ap (slice_get m.entry_points) (sym last) ∙ is_other)) in
-              subst (λ (x : EntryPoint). IsExact m x.function (info_of at)) same_entry (subst (λ x. IsExact m entry.function (info_of x)) same exact));
-          clean = λ i other cause lt is_other. elim (cases_eq i (length done)) [
-            | inl last ↦
-                let same_entry : entry ≡ other = same_Some entry other (sym is_entry ∙ (ap (slice_get m.entry_points) (sym last) ∙ is_other)) in
-                subst (λ (x : EntryPoint). IsFault m x.function settings cause → ⊥) same_entry (no_fault m settings well held before entry.function names_functions none cause)
-            | inr early ↦ entries.clean i other cause (omega (arith, lt, early, longer done info)) is_other
-          ];
+          exact = λ i other at is_other is_at. one_more (λ e x. (other : EntryPoint) → slice_get m.entry_points e ≡ Some other → IsExact m other.function (info_of x)) done info
+              (λ e x is_x other is_o. entries.exact e other x is_o is_x)
+              (λ other is_o. subst (λ (x : EntryPoint). IsExact m x.function (info_of info)) (same_Some entry other (sym is_entry ∙ is_o)) exact) i at is_at other is_other;
+          clean = λ i other cause lt is_other. up_to_here
+              (λ e. (other : EntryPoint) (cause : Cause) → slice_get m.entry_points e ≡ Some other → IsFault m other.function settings cause → ⊥) (length done)
+              (λ e early other cause is_o. entries.clean e other cause early is_o)
+              (λ other cause is_o. subst (λ (x : EntryPoint). IsFault m x.function settings cause → ⊥) (same_Some entry other (sym is_entry ∙ is_o))
+              (no_fault m settings well held before entry.function names_functions none cause))
+              i (omega (arith, lt, longer done info)) other cause is_other;
         }
 
     pub first_in_entry_point : (cause : Cause) → StepFault m (infos_of held) entry.function settings cause → IsFirstFault m settings (OfEntryPoint (length done)) cause

@@ -1,19 +1,18 @@
 -- An info of what the walks find meets the step equations, fits its function, and leaves no fault.
-use Rattle.std.proofs.Common.{◌≡◌, ◌↔◌, [], ◌∷◌, refl, sym, ap, subst, ◌∙◌, ℕ, ◌<◌, ◌≤◌, ◌^◌, All, List, Option, Some, None, IsTrue, Bool, map, slice_get, slice_index, length, get_or, arith}
+use Rattle.std.proofs.Common.{◌≡◌, ◌↔◌, sym, ap, subst, ◌∙◌, ℕ, ◌<◌, ◌^◌, All, List, Option, Some, IsTrue, Bool, map, slice_get, slice_index, length, arith}
 use Rattle.std.proofs.lemmas.List.{length-map, get_or-map}
 use Rattle.std.proofs.lemmas.List.Elements.{All-contains}
-use Rattle.std.proofs.lemmas.Option.{slice_get_within, slice_get-get_or, get_or_from_slice_get}
+use Rattle.std.proofs.lemmas.Option.{slice_get_within, get_or_from_slice_get}
 use Rattle.std.specs.Int.{IsBitSet}
 use Rattle.shader_chains.proofs.EarlierLemmas.{is_item}
 use Rattle.shader_chains.specs.Counts.{count_of}
 use Rattle.shader_chains.specs.Derivable.{AreTypes, function_context}
-use Rattle.shader_chains.specs.Faults.{BindingArrayElement, Cause, CountFull, Disruptor, HasFault, MissingCapability, NoPlace, NonUniformControlFlow, Settings, StepFault, Untyped, untyped, no_capability, bad_element, no_image_place, no_sampler_place, no_image_passed, no_sampler_passed, misplaced, count_full}
-use Rattle.shader_chains.specs.Infos.{HasTables, Info, Picks, Place}
-use Rattle.shader_chains.specs.Needs.{Need, bit_of_need}
-use Rattle.shader_chains.specs.Program.{Function, Module, Stands}
-use Rattle.shader_chains.specs.Steps.{MeetsSteps, StepExpressionNeed, StepKill, StepNeed, StepOrigin, StepResult}
+use Rattle.shader_chains.specs.Faults.{BindingArrayElement, Cause, CountFull, Disruptor, MissingCapability, NoPlace, NonUniformControlFlow, Settings, StepFault, Untyped}
+use Rattle.shader_chains.specs.Infos.{Info, Picks}
+use Rattle.shader_chains.specs.Needs.{bit_of_need}
+use Rattle.shader_chains.specs.Program.{Function, Module}
+use Rattle.shader_chains.specs.Steps.{MeetsSteps, StepExpressionNeed, StepKill, StepNeed, StepResult}
 use Rattle.shader_fault_laws.proofs.Arguments.{typed_functions_have_arguments}
-use Rattle.shader_fault_laws.proofs.Counts.{full_counts_are_faults}
 use Rattle.shader_fault_laws.proofs.Pairs.{collected_pairs_fit}
 use Rattle.shader_fault_laws.specs.PairsFit.{FitHeld}
 use Rattle.shader_fault_laws.specs.Refused.{CountsFit}
@@ -21,15 +20,15 @@ use Rattle.shader_info.specs.Fit.{Fits}
 use Rattle.shader_info.specs.declared.info.ExpressionInfo.{ExpressionInfo}
 use Rattle.shader_info.specs.declared.info.FunctionInfo.{FunctionInfo}
 use Rattle.shader_ir.specs.Key.{FitsTypes}
-use Rattle.shader_ir.specs.declared.proc.type_resolution.TypeResolution.{TypeResolution}
 use Rattle.shader_resolve.specs.Context.{context_of}
 use Rattle.shader_resolve.specs.WellFormed.{ExpressionInRange, FunctionInRange}
 use Rattle.shader_steps.proofs.FoundLemmas.{expression_needs_of_the_step, kills_of_the_step, needs_of_the_step, origins_of_the_step, pairs_of_the_step, results_of_the_step}
 use Rattle.shader_steps.specs.Conditions.{EachFits, GlobalsWithin}
 use Rattle.shader_steps.specs.Found.{expression_needs_found, kill_found, needs_found, origins_found, pairs_found, result_found}
 use Rattle.shader_steps.specs.OfTheStep.{HasUses}
-use Rattle.shader_sweeps.specs.InfoOf.{PointsBackwards, info_of, infos_of}
+use Rattle.shader_sweeps.specs.InfoOf.{info_of, infos_of}
 use Rattle.shader_sweeps.specs.Paired.{SameMembers, info_pairs}
+use Rattle.shader_typing.proofs.PlaceLemmas.{found_at}
 use Rattle.shader_typing.proofs.FewNeeds.{few_expression_needs, few_needs}
 use Rattle.shader_typing.specs.Analyzable.{AreHeld, IsAnalyzable}
 
@@ -50,10 +49,6 @@ pub record IsFound (m : Module) (infos : List FunctionInfo) (f : Function) (info
 pub globals_within : (m : Module) (f : Function) → FunctionInRange m f → GlobalsWithin m f
 globals_within m f within e g stands =
     (All-contains (ExpressionInRange m (context_of m f.local_variables f.arguments) f.expressions) f.expressions _ within.expressions (is_item f.expressions e _ stands)).names
-
-found_at : {A : Type 0} (xs : List A) (e : ℕ) → e < length xs → (x : A) × (slice_get xs e ≡ Some x)
-found_at [] e lt = absurd (omega (arith, lt))
-found_at (x ∷ xs) e lt = (get_or (x ∷ xs) e x, slice_get-get_or (x ∷ xs) e x lt)
 
 pub fit_held : (m : Module) (infos : List FunctionInfo) → AreHeld m infos → FitHeld m infos
 fit_held m infos held = record {

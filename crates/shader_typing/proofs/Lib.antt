@@ -1,4 +1,5 @@
 pub mod AnalyzableLemmas
+pub mod DivergenceLemmas
 pub mod FewNeeds
 pub mod FoundLemmas
 pub mod InfoLemmas

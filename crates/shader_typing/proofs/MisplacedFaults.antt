@@ -1,6 +1,6 @@
 -- Where nothing is misplaced, or nothing is asked of the flow, no fault of control flow stands.
 use Rattle.std.proofs.Common.{◌≡◌, ℕ, List, None, IsTrue}
-use Rattle.shader_chains.specs.Faults.{Disruptor, HasFault, NonUniformControlFlow, Settings, StepFault, misplaced}
+use Rattle.shader_chains.specs.Faults.{Disruptor, NonUniformControlFlow, Settings, StepFault, misplaced}
 use Rattle.shader_chains.specs.Filters.{Governs}
 use Rattle.shader_chains.specs.Program.{Function, Module}
 use Rattle.shader_ir.specs.declared.module.Severity.TheVariants as severity

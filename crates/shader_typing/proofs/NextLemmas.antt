@@ -1,7 +1,6 @@
 -- The next function or entry point is analysed over the infos recorded before it.
-use Rattle.std.proofs.Common.{◌≡◌, refl, sym, ap, subst, ◌∙◌, ℕ, ◌<◌, List, [], ◌∷◌, ◌++◌, Some, Result, Ok, Err, IfErr, slice_get, length, take, arith}
+use Rattle.std.proofs.Common.{◌≡◌, refl, sym, ap, subst, ◌∙◌, ℕ, ◌<◌, List, [], ◌∷◌, ◌++◌, Some, slice_get, length, take, arith}
 use Rattle.std.proofs.Math.Seq.{take-length}
-use Rattle.std.specs.Result.{IsErrAnd}
 use Rattle.shader_chains.specs.Derivable.{AreTypes}
 use Rattle.shader_chains.specs.Faults.{Cause, IsAccepted, IsFirstFault, OfEntryPoint, OfFunction, Settings, StepFault}
 use Rattle.shader_chains.specs.Exact.{IsExactModule}
@@ -147,8 +146,3 @@ all_found m settings well typed with_functions last are is_next all found is_las
       exact_module m settings well last.global_expressions now last.functions held long last.entry_points entries all_entries,
       accepted m settings well last.global_expressions now last.functions held long last.entry_points entries all_entries,
     )
-
--- what is told of an error holds of the same error passed on
-pub passed_on : {A E : Type 0} (P : E → Type 0) {e : E} (r : Result A E) → IsErrAnd r (λ v. v ≡ e) → P e → IfErr r P
-passed_on P (Err v) is told = subst P (sym is) told
-passed_on P (Ok a) is told = absurd is

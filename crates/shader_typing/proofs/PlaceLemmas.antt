@@ -1,57 +1,19 @@
--- What is left of the items of a list with their places, and what holds along a list that grows.
-use Rattle.std.proofs.Common.{◌≡◌, refl, ap, sym, subst, ◌∙◌, ◌⊎◌, inl, inr, ℕ, ◌+◌, ◌<◌, ◌≤◌, List, [], ◌∷◌, ◌++◌, Some, slice_get, length, get_or, length-append, All, arith}
-use Rattle.std.specs.List.{enumerate_from}
-use Rattle.std.proofs.lemmas.Bool.{cases_lt}
-use Rattle.std.proofs.lemmas.Option.{get_or_from_slice_get, same_Some, slice_get-get_or, slice_get_within}
-use Rattle.shader_sweeps.proofs.FactLemmas.{get_left, get_seam}
-
--- some items with their places, of which the first has place n, up to a length
-pub record IsLeft {X : Type 0} (n total : ℕ) (items : List (ℕ × X)) : Type 0 where
-  pub left : List X
-  pub are : items ≡ enumerate_from n left
-  pub long : n + length left ≡ total
-
-pub all_left : {X : Type 0} (xs : List X) → IsLeft 0 (length xs) (enumerate_from 0 xs)
-all_left xs = record { left = xs; are = refl; long = omega arith }
-
-pub none_left : {X : Type 0} (n total : ℕ) → IsLeft {X = X} n total [] → n ≡ total
-none_left {X} n total is = at is.left is.are is.long where
-  at : (left : List X) → [] ≡ enumerate_from n left → n + length left ≡ total → n ≡ total
-  at [] are long = omega (arith, long)
-  at (x ∷ xs) are long = absurd (cc)
-
-heads : {X : Type 0} (x y : X) (xs ys : List X) → x ∷ xs ≡ y ∷ ys → (x ≡ y) × (xs ≡ ys)
-heads x y xs ys is = (cc, cc)
-
-pub next_left : {X : Type 0} (n total : ℕ) (place : ℕ) (x : X) (items : List (ℕ × X)) → IsLeft n total ((place, x) ∷ items) →
-    (place ≡ n) × (n < total) × IsLeft (n + 1) total items
-next_left {X} n total place x items is = at is.left is.are is.long where
-  at : (left : List X) → (place, x) ∷ items ≡ enumerate_from n left → n + length left ≡ total → (place ≡ n) × (n < total) × IsLeft (n + 1) total items
-  at [] are long = absurd (cc)
-  at (y ∷ ys) are long =
-      let parts = heads (place, x) (n, y) items (enumerate_from (n + 1) ys) are in
-      (ap (λ v. v.0) parts.0, omega (arith, long), record { left = ys; are = parts.1; long = omega (arith, long) })
-
--- what holds at each place of a list, and of one more item, holds at each place of both
-pub one_more : {X : Type 0} (P : ℕ → X → Type 0) (xs : List X) (x : X) → ((e : ℕ) (y : X) → slice_get xs e ≡ Some y → P e y) → P (length xs) x →
-    (e : ℕ) (y : X) → slice_get (xs ++ x ∷ []) e ≡ Some y → P e y
-one_more P xs x each last e y is = at (cases_lt e (length xs)) where
-  at : (e < length xs) ⊎ (length xs ≤ e) → P e y
-  at (inl lt) = each e y (sym (get_left xs (x ∷ []) e lt) ∙ is)
-  at (inr le) =
-      let lt : e < length (xs ++ x ∷ []) = slice_get_within (xs ++ x ∷ []) e y is in
-      let here : length xs ≡ e = omega (arith, le, lt, length-append xs (x ∷ [])) in
-      let same : x ≡ y = same_Some x y (sym (get_seam xs x [] e here) ∙ is) in
-      subst (P e) same (subst (λ v. P v x) here last)
-
-pub at_place : {X : Type 0} (P : X → Type 0) (xs : List X) (e : ℕ) (x : X) → All P xs → slice_get xs e ≡ Some x → P x
-at_place P xs e x all is = subst P (get_or_from_slice_get xs e x x is) (all e x (slice_get_within xs e x is))
-
-pub all_one_more : {X : Type 0} (P : X → Type 0) (xs : List X) (x : X) → All P xs → P x → All P (xs ++ x ∷ [])
-all_one_more P xs x all last = λ i d lt.
-    one_more (λ e y. P y) xs x (λ e y is. at_place P xs e y all is) last i (get_or (xs ++ x ∷ []) i d) (slice_get-get_or (xs ++ x ∷ []) i d lt)
+-- What stands at a place of a list, and an error that is passed on.
+use Rattle.std.proofs.Common.{◌≡◌, sym, subst, ℕ, ◌<◌, List, [], ◌∷◌, Some, slice_get, length, get_or, Result, Ok, Err, IfErr, IfOk, arith}
+use Rattle.std.proofs.lemmas.Option.{slice_get-get_or}
+use Rattle.std.specs.Result.{IsErrAnd}
 
 -- what is at a place within
 pub found_at : {X : Type 0} (xs : List X) (e : ℕ) → e < length xs → (x : X) × (slice_get xs e ≡ Some x)
 found_at [] e lt = absurd (omega (arith, lt))
 found_at (x ∷ xs) e lt = (get_or (x ∷ xs) e x, slice_get-get_or (x ∷ xs) e x lt)
+
+-- what is told of an error holds of the same error passed on
+pub passed_on : {A E : Type 0} (P : E → Type 0) {e : E} (r : Result A E) → IsErrAnd r (λ v. v ≡ e) → P e → IfErr r P
+passed_on P (Err v) is told = subst P (sym is) told
+passed_on P (Ok a) is told = absurd is
+
+-- what follows from a result is told of it
+pub ok_more : {A E : Type 0} {P Q : A → Type 0} (r : Result A E) → IfOk r P → ((a : A) → P a → Q a) → IfOk r Q
+ok_more (Ok a) h k = k a h
+ok_more (Err e) h k = tt

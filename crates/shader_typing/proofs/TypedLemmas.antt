@@ -15,7 +15,8 @@ use Rattle.shader_resolve.specs.WellFormed.{IsWellFormed}
 use Rattle.shader_resolve.specs.declared.error.ResolveError.{ResolveError}
 use Rattle.shader_resolve.specs.declared.error.ResolveError.TheVariants as resolve
 use Rattle.shader_steps.specs.Causes.{IsNamed}
-use Rattle.shader_typing.proofs.PlaceLemmas.{all_one_more, at_place, found_at, one_more}
+use Rattle.shader_expression_types.proofs.ListLemmas.{all_one_more, at_place, one_more}
+use Rattle.shader_typing.proofs.PlaceLemmas.{found_at}
 use Rattle.shader_typing.specs.AddedTypes.{AddsType, CanType, IsNextType, IsTypeRefusal}
 use Rattle.shader_typing.specs.Analyzed.{TypesFound}
 use Rattle.shader_typing.specs.Recorded.{Recorded}

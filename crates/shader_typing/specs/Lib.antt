@@ -1,5 +1,6 @@
 pub mod AddedTypes
 pub mod Analyzable
 pub mod Analyzed
+pub mod Divergence
 pub mod Processed
 pub mod Recorded

@@ -5,4 +5,6 @@ mod Laying
 mod LineSteps
 mod PlacedTrees
 mod RequestSpellings
+mod SampleFaults
 mod Supplied
+mod UniqueAnswers

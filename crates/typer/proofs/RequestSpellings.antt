@@ -8,11 +8,15 @@ use Rattle.shader_ir.specs.declared.operators.MathFunction.{MathFunction}
 use Rattle.typer.specs.declared.request.Kind.{Kind}
 use Rattle.typer.specs.declared.request.Kind.TheVariants as kinds
 use Rattle.typer.specs.declared.request.Request.{Request}
-use Rattle.typer.specs.declared.request.Request.TheVariants.{Call, Rules, Layout, Convert}
+use Rattle.typer.specs.declared.request.Request.TheVariants.{Call, Rules, Layout, Convert, Module}
+use Rattle.shader_samples.specs.Names.{name_text, sample_named, samples}
+use Rattle.shader_samples.specs.declared.sample.Sample.{Sample}
+use Rattle.shader_samples.specs.declared.sample.Sample.TheVariants as s
+use Rattle.shader_samples.proofs.NameFacts.{named_back}
 use Rattle.shader_text.specs.declared.types.SpelledType.{SpelledType}
 use Rattle.shader_text.specs.Builtins.{builtin_of, builtin_text}
 use Rattle.typer.specs.Laws.{RequestsAreSpelled}
-use Rattle.typer.specs.Requests.{AreWritableTypes, IsWritableRequest, all_kinds, call_from, call_with, convert_from, kind_of, kind_text, layout_from, named_from, request_from, request_of, request_text, request_with, request_words, rules_from, types_of}
+use Rattle.typer.specs.Requests.{AreWritableTypes, IsWritableRequest, all_kinds, call_from, call_with, convert_from, kind_of, kind_text, layout_from, module_from, named_from, request_from, request_of, request_text, request_with, request_words, rules_from, types_of}
 use Rattle.shader_text.specs.Types.{type_of, type_text}
 use Rattle.shader_text.proofs.BuiltinFacts.{builtin_facts, name_is}
 use Rattle.shader_text.proofs.Found.{found_is, mapped}
@@ -64,6 +68,14 @@ convert_is (from ∷ to ∷ []) request e =
     ∙ ap (λ (x : List ℕ). kind_text kinds.Convert ∷ from ∷ x ∷ []) (sym k.0) in
     subst (AreWordsOf kinds.Convert (from ∷ to ∷ [])) m.2 (spelled, (h.1, k.1)))
 convert_is (from ∷ to ∷ other ∷ words) request e = cc
+
+module_is : (words : List (List ℕ)) (request : Request) → module_from words ≡ Some request → AreWordsOf kinds.Module words request
+module_is [] request e = cc
+module_is (name ∷ []) request e =
+    let m = mapped Module (sample_named name) request e in
+    let named : name ≡ name_text m.0 = found_is name_text samples name m.0 m.1 in
+    subst (AreWordsOf kinds.Module (name ∷ [])) m.2 (ap (λ (x : List ℕ). kind_text kinds.Module ∷ x ∷ []) (sym named), tt)
+module_is (name ∷ other ∷ words) request e = cc
 
 -- types whose texts are the words
 abbrev AreTypesOf : List (List ℕ) → List SpelledType → Type 0
@@ -120,6 +132,7 @@ with_is kinds.Call words request e = call_is words request e
 with_is kinds.Rules words request e = rules_are words request e
 with_is kinds.Layout words request e = layout_is words request e
 with_is kinds.Convert words request e = convert_is words request e
+with_is kinds.Module words request e = module_is words request e
 
 words_are : (words : List (List ℕ)) (request : Request) → request_from words ≡ Some request → (words ≡ request_words request) × IsWritableRequest request
 words_are [] request e = cc
@@ -141,11 +154,24 @@ types_unbroken : (types : List SpelledType) → AreWritableTypes types → AreUn
 types_unbroken [] writable = tt
 types_unbroken (t ∷ types) writable = (type_quiet t writable.0, types_unbroken types writable.1)
 
+name_unbroken : (sample : Sample) → list_any is_break (name_text sample) ≡ false
+name_unbroken s.Named = refl
+name_unbroken s.Stored = refl
+name_unbroken s.Sampling = refl
+name_unbroken s.Exit = refl
+name_unbroken s.NoFall = refl
+name_unbroken s.ExitOff = refl
+name_unbroken s.Counts = refl
+name_unbroken s.DerivativeUniform = refl
+name_unbroken s.Derivative = refl
+name_unbroken s.DerivativeOff = refl
+
 request_unbroken : (request : Request) → IsWritableRequest request → AreUnbroken (request_words request)
 request_unbroken (Call function types) writable = (refl, ((builtin_facts function).1, types_unbroken types writable.0))
 request_unbroken (Rules function types) writable = (refl, ((builtin_facts function).1, types_unbroken types writable))
 request_unbroken (Layout t) writable = (refl, (type_quiet t writable, tt))
 request_unbroken (Convert from to) writable = (refl, (type_quiet from writable.0, (type_quiet to writable.1, tt)))
+request_unbroken (Module sample) writable = (refl, (name_unbroken sample, tt))
 
 -- the text of a request has no end of line
 pub request_line : (request : Request) → IsWritableRequest request → list_any is_end (request_text request) ≡ false
@@ -162,6 +188,7 @@ words_named (Call function (t ∷ types)) writable =
 words_named (Rules function types) writable = rw ((builtin_facts function).0, types_named types writable) refl
 words_named (Layout t) writable = rw (type_named t writable) refl
 words_named (Convert from to) writable = rw (type_named from writable.0, type_named to writable.1) refl
+words_named (Module sample) writable = rw (named_back sample) refl
 
 words_cut : (request : Request) → IsWritableRequest request → slice_split is_space (request_text request) ≡ request_words request
 words_cut (Call function types) writable =
@@ -176,6 +203,9 @@ words_cut (Layout t) writable =
 words_cut (Convert from to) writable =
     split_joined 32 (kind_text kinds.Convert) (type_text from ∷ type_text to ∷ []) refl
     (unbroken_solid (request_words (Convert from to)) (request_unbroken (Convert from to) writable))
+words_cut (Module sample) writable =
+    split_joined 32 (kind_text kinds.Module) (name_text sample ∷ []) refl
+    (unbroken_solid (request_words (Module sample)) (request_unbroken (Module sample) writable))
 
 pub request_named : (request : Request) → IsWritableRequest request → request_of (request_text request) ≡ Some request
 request_named request writable = ap request_from (words_cut request writable) ∙ words_named request writable

@@ -1,6 +1,5 @@
 -- What is said to each line, and to a whole input.
-use Rattle.std.specs.Prelude.{◌+◌, ℕ, List, [], ◌∷◌, ◌++◌, Option, Some, None, codes}
-use Rattle.std.specs.Option.{option_map}
+use Rattle.std.specs.Prelude.{◌≡◌, ◌+◌, ℕ, List, [], ◌∷◌, ◌++◌, Option, Some, None, codes}
 use Rattle.std.specs.List.{join_by}
 use Rattle.std.specs.Fmt.{decimal}
 use Rattle.std.specs.Int.{next_multiple_of}
@@ -13,12 +12,15 @@ use Rattle.typer.specs.declared.answer.Outcome.TheVariants.{Done, BadLine}
 use Rattle.typer.specs.declared.reply.Reply.{Reply}
 use Rattle.typer.specs.declared.reply.Reply.TheVariants as replies
 use Rattle.typer.specs.declared.request.Request.{Request}
-use Rattle.typer.specs.declared.request.Request.TheVariants.{Call, Rules, Layout, Convert}
+use Rattle.typer.specs.declared.request.Request.TheVariants.{Call, Rules, Layout, Convert, Module}
 use Rattle.typer.specs.Calls.{conclusion_of, rules_left}
 use Rattle.typer.specs.Conversions.{conversion_of}
 use Rattle.typer.specs.Layouts.{layout_of_spelled}
 use Rattle.typer.specs.Lines.{lines_of}
 use Rattle.typer.specs.Requests.{request_of}
+use Rattle.typer.specs.Samples.{IsSampleReport}
+use Rattle.shader_reports.specs.Texts.{report_text}
+use Rattle.shader_reports.specs.declared.report.ModuleReport.{ModuleReport}
 use Rattle.shader_text.specs.Scalars.{scalar_text}
 use Rattle.shader_text.specs.Texts.{conclusion_text, rule_text}
 
@@ -28,6 +30,7 @@ reply_text (replies.Rules rules) = join_by rule_text (codes "; ") rules
 reply_text (replies.Layout size alignment stride) =
     codes "size " ++ decimal size ++ codes " align " ++ decimal alignment ++ codes " stride " ++ decimal stride
 reply_text (replies.Conversion from to) = scalar_text from ++ codes " to " ++ scalar_text to
+reply_text (replies.Module report) = report_text report
 reply_text replies.Refused = codes "refused"
 
 abbrev pub converted : Option (Scalar × Scalar) → Reply
@@ -47,26 +50,33 @@ abbrev pub listed : List Rule → Reply
 listed [] = replies.Refused
 listed (rule ∷ rules) = replies.Rules (rule ∷ rules)
 
--- the reply to a request
-abbrev pub reply_of : Request → Reply
-reply_of (Call function arguments) = concluded (conclusion_of function arguments)
-reply_of (Rules function arguments) = listed (rules_left function arguments)
-reply_of (Layout t) = laid_out (layout_of_spelled t)
-reply_of (Convert from to) = converted (conversion_of from to)
+-- the reply to a request; that to a sample is what is told of its module, over all chains of calls
+abbrev pub IsReply : Request → Reply → Type 0
+IsReply (Call function arguments) reply = reply ≡ concluded (conclusion_of function arguments)
+IsReply (Rules function arguments) reply = reply ≡ listed (rules_left function arguments)
+IsReply (Layout t) reply = reply ≡ laid_out (layout_of_spelled t)
+IsReply (Convert from to) reply = reply ≡ converted (conversion_of from to)
+IsReply (Module sample) reply = (report : ModuleReport) × IsSampleReport sample report × (reply ≡ replies.Module report)
 
 -- the reply to a line, if it asks for something
-abbrev pub reply_to : List ℕ → Option Reply
-reply_to line = option_map reply_of (request_of line)
+abbrev pub IsReplyTo : List ℕ → Option Reply → Type 0
+IsReplyTo line None = request_of line ≡ None
+IsReplyTo line (Some reply) = (request : Request) × (request_of line ≡ Some request) × IsReply request reply
+
+abbrev pub bad_line : ℕ → List ℕ
+bad_line number = codes "bad line " ++ decimal number ++ codes "\n"
 
 -- a reply and what comes after it, or the end at a bad line
-abbrev pub reply_then : ℕ → Option Reply → List ℕ × Outcome → List ℕ × Outcome
-reply_then number None later = (codes "bad line " ++ decimal number ++ codes "\n", BadLine)
-reply_then number (Some reply) later = (reply_text reply ++ codes "\n" ++ later.0, later.1)
+abbrev pub IsLineAnswer : ℕ → Option Request → (List ℕ → Outcome → Type 0) → List ℕ → Outcome → Type 0
+IsLineAnswer number None IsLater text outcome = (text ≡ bad_line number) × (outcome ≡ BadLine)
+IsLineAnswer number (Some request) IsLater text outcome =
+    (reply : Reply) × (later : List ℕ) × IsReply request reply × IsLater later outcome × (text ≡ reply_text reply ++ codes "\n" ++ later)
 
 -- the answer to lines of which the first has this number
-abbrev pub answer_from : ℕ → List (List ℕ) → List ℕ × Outcome
-answer_from number [] = ([], Done)
-answer_from number (line ∷ lines) = reply_then number (reply_to line) (answer_from (number + 1) lines)
+abbrev pub IsAnswerFrom : ℕ → List (List ℕ) → List ℕ → Outcome → Type 0
+IsAnswerFrom number [] text outcome = (text ≡ []) × (outcome ≡ Done)
+IsAnswerFrom number (line ∷ lines) text outcome = IsLineAnswer number (request_of line) (IsAnswerFrom (number + 1) lines) text outcome
 
-abbrev pub answer_of : List ℕ → List ℕ × Outcome
-answer_of input = answer_from 1 (lines_of input)
+-- the answer to all bytes of an input
+abbrev pub IsAnswer : List ℕ → List ℕ → Outcome → Type 0
+IsAnswer input text outcome = IsAnswerFrom 1 (lines_of input) text outcome

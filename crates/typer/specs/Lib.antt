@@ -6,3 +6,4 @@ pub mod Layouts
 pub mod Lines
 pub mod Requests
 pub mod Runs
+pub mod Samples

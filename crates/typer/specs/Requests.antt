@@ -7,7 +7,8 @@ use Rattle.shader_ir.specs.declared.operators.MathFunction.{MathFunction}
 use Rattle.typer.specs.declared.request.Kind.{Kind}
 use Rattle.typer.specs.declared.request.Kind.TheVariants as kinds
 use Rattle.typer.specs.declared.request.Request.{Request}
-use Rattle.typer.specs.declared.request.Request.TheVariants.{Call, Rules, Layout, Convert}
+use Rattle.typer.specs.declared.request.Request.TheVariants.{Call, Rules, Layout, Convert, Module}
+use Rattle.shader_samples.specs.Names.{name_text, sample_named}
 use Rattle.shader_text.specs.declared.types.SpelledType.{SpelledType}
 use Rattle.shader_text.specs.Builtins.{builtin_of, builtin_text}
 use Rattle.shader_text.specs.Types.{type_text, type_of, IsWritable}
@@ -19,12 +20,14 @@ kind_text kinds.Call = codes "call"
 kind_text kinds.Rules = codes "rules"
 kind_text kinds.Layout = codes "layout"
 kind_text kinds.Convert = codes "convert"
+kind_text kinds.Module = codes "module"
 
 abbrev pub request_words : Request → List (List ℕ)
 request_words (Call function arguments) = kind_text kinds.Call ∷ builtin_text function ∷ map type_text arguments
 request_words (Rules function arguments) = kind_text kinds.Rules ∷ builtin_text function ∷ map type_text arguments
 request_words (Layout t) = kind_text kinds.Layout ∷ type_text t ∷ []
 request_words (Convert from to) = kind_text kinds.Convert ∷ type_text from ∷ type_text to ∷ []
+request_words (Module sample) = kind_text kinds.Module ∷ name_text sample ∷ []
 
 -- the words, with one space between each two
 abbrev pub request_text : Request → List ℕ
@@ -40,11 +43,12 @@ IsWritableRequest (Call function arguments) = AreWritableTypes arguments × (0 <
 IsWritableRequest (Rules function arguments) = AreWritableTypes arguments
 IsWritableRequest (Layout t) = IsWritable t
 IsWritableRequest (Convert from to) = IsWritable from × IsWritable to
+IsWritableRequest (Module sample) = Unit {0}
 
 -- ---- what a line asks for
 
 abbrev pub all_kinds : List Kind
-all_kinds = kinds.Call ∷ kinds.Rules ∷ kinds.Layout ∷ kinds.Convert ∷ []
+all_kinds = kinds.Call ∷ kinds.Rules ∷ kinds.Layout ∷ kinds.Convert ∷ kinds.Module ∷ []
 
 abbrev pub kind_of : List ℕ → Option Kind
 kind_of word = find (λ kind. bytes_eq (kind_text kind) word) all_kinds
@@ -56,6 +60,10 @@ layout_from _ = None
 abbrev pub convert_from : List (List ℕ) → Option Request
 convert_from (from ∷ to ∷ []) = option_and_then (λ t. option_map (Convert t) (type_of to)) (type_of from)
 convert_from _ = None
+
+abbrev pub module_from : List (List ℕ) → Option Request
+module_from (name ∷ []) = option_map Module (sample_named name)
+module_from _ = None
 
 -- the types that the words spell, if each spells one
 abbrev pub types_of : List (List ℕ) → Option (List SpelledType)
@@ -84,6 +92,7 @@ request_with kinds.Call words = call_from words
 request_with kinds.Rules words = rules_from words
 request_with kinds.Layout words = layout_from words
 request_with kinds.Convert words = convert_from words
+request_with kinds.Module words = module_from words
 
 abbrev pub request_from : List (List ℕ) → Option Request
 request_from [] = None

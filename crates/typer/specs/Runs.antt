@@ -1,8 +1,8 @@
 -- How a run ends.
-use Rattle.std.specs.Prelude.{ℕ, List}
+use Rattle.std.specs.Prelude.{◌≡◌, ℕ, List}
 use Rattle.typer.specs.declared.answer.Outcome.{Outcome}
 use Rattle.typer.specs.declared.answer.Outcome.TheVariants as outcomes
-use Rattle.typer.specs.Answers.{answer_of}
+use Rattle.typer.specs.Answers.{IsAnswer}
 use Rattle.typer.specs.declared.reading.InputError.{InputError}
 use Rattle.typer.specs.declared.reading.InputError.TheVariants as inputs
 use Rattle.typer.specs.declared.status.Status.{Status}
@@ -29,9 +29,9 @@ abbrev pub outcome_status : Outcome → Status
 outcome_status outcomes.Done = Done
 outcome_status outcomes.BadLine = BadLine
 
--- the text and the status for all bytes of an input
-abbrev pub answer : List ℕ → List ℕ × Status
-answer input = ((answer_of input).0, outcome_status (answer_of input).1)
+-- the text and the status are the answer to all bytes of an input
+abbrev pub AreAnswer : List ℕ → List ℕ → Status → Type 0
+AreAnswer input text status = (outcome : Outcome) × IsAnswer input text outcome × (status ≡ outcome_status outcome)
 
 -- what a run claims of statuses 0 and 2
 abbrev pub OnAnswered : Status → Type 0 → Type 0

@@ -19,13 +19,13 @@ pub struct Answer {
 }
 
 impl Answer {
-    ghost use Rattle.std.specs.Prelude.{◌≡◌, ◌<◌, ◌^◌, length, IfOk, string_bytes};
-    ghost use Rattle.typer.specs.Answers.{answer_of};
+    ghost use Rattle.std.specs.Prelude.{◌<◌, ◌^◌, length, IfOk, string_bytes};
+    ghost use Rattle.typer.specs.Answers.{IsAnswer};
 
     /// The answer to all lines of the input.
     pub fn to(alloc: Global, input: &[u8]) -> Result<Answer, AllocError>
         requires { length input.now < 2 ^ 32 }
-        ensures { IfOk result (λ a. (string_bytes a.text, a.outcome) ≡ answer_of input.now) }
+        ensures { IfOk result (λ a. IsAnswer input.now (string_bytes a.text) a.outcome) }
     {
         let mut text = String::new(alloc);
         let mut number: u64 = 0;

@@ -13,6 +13,7 @@ mod reading;
 mod reply;
 mod request;
 mod running;
+mod samples;
 mod sink;
 mod source;
 mod status;

@@ -4,8 +4,10 @@ use crate::call::{conclusion, remaining_rules};
 use crate::conversion::conversion;
 use crate::layout::layout;
 use crate::request::{Request, parse_request};
+use crate::samples::sample_report;
 use shader_ir::{Alignment, Items, Scalar, TypeLayout};
 use shader_overloads::{Conclusion, Rule};
+use shader_reports::ModuleReport;
 use shader_text::{ConclusionText, RulesText, ScalarText};
 use std::alloc::{AllocError, Global};
 use std::fmt;
@@ -25,6 +27,8 @@ pub enum Reply {
     },
     /// The leaf scalars of a conversion, from and to.
     Conversion(Scalar, Scalar),
+    /// What is found of a module, or where it has a fault.
+    Module(ModuleReport),
     Refused,
 }
 
@@ -46,6 +50,7 @@ impl fmt::Display for Reply {
             Reply::Conversion(from, to) => {
                 write!(f, "{} to {}", ScalarText(*from), ScalarText(*to))
             }
+            Reply::Module(report) => write!(f, "{report}"),
             Reply::Refused => f.write_str("refused"),
         }
     }
@@ -54,7 +59,7 @@ impl fmt::Display for Reply {
 impl Reply {
     ghost use Rattle.std.specs.Prelude.{◌≡◌, IfOk, IfSome};
     ghost use Rattle.shader_ir.specs.Layout.{HasStride};
-    ghost use Rattle.typer.specs.Answers.{concluded, converted, laid_out, listed, reply_of, reply_to};
+    ghost use Rattle.typer.specs.Answers.{IsReply, IsReplyTo, concluded, converted, laid_out, listed};
 
     fn from_conversion(scalars: Option<(Scalar, Scalar)>) -> Reply
         ensures { result ≡ converted scalars }
@@ -99,7 +104,7 @@ impl Reply {
 
     /// The reply to a request.
     fn to_request(alloc: Global, request: Request) -> Result<Reply, AllocError>
-        ensures { IfOk result (λ reply. reply ≡ reply_of request) }
+        ensures { IfOk result (IsReply request) }
     {
         match request {
             Request::Call(function, arguments) => {
@@ -115,12 +120,13 @@ impl Reply {
                 let scalars = conversion(alloc, from, to)?;
                 Ok(Reply::from_conversion(scalars))
             }
+            Request::Module(sample) => Ok(Reply::Module(sample_report(alloc, sample)?)),
         }
     }
 
     /// The reply to a line, if it asks for something.
     pub fn to(alloc: Global, line: &[u8]) -> Result<Option<Reply>, AllocError>
-        ensures { IfOk result (λ reply. reply ≡ reply_to line.now) }
+        ensures { IfOk result (IsReplyTo line.now) }
     {
         let Some(request) = parse_request(alloc, line)? else {
             return Ok(None);

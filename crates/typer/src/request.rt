@@ -2,9 +2,10 @@
 
 ghost use Rattle.std.specs.Prelude.{◌≡◌, IfOk};
 ghost use Rattle.std.specs.Option.{option_map};
-ghost use Rattle.typer.specs.Requests.{call_from, convert_from, kind_of, layout_from, named_from, request_of, rules_from, types_of};
+ghost use Rattle.typer.specs.Requests.{call_from, convert_from, kind_of, layout_from, module_from, named_from, request_of, rules_from, types_of};
 
 use shader_ir::{Items, MathFunction};
+use shader_samples::Sample;
 use shader_text::{Pieces, SpelledType, builtin_from_word};
 use std::alloc::{AllocError, Global};
 
@@ -15,6 +16,7 @@ pub enum Kind {
     Rules,
     Layout,
     Convert,
+    Module,
 }
 
 /// A line that asks for something.
@@ -28,12 +30,20 @@ pub enum Request {
     Layout(SpelledType),
     /// The scalars by which a value of the first type becomes one of the second.
     Convert(SpelledType, SpelledType),
+    /// What the analysis finds of a sample module.
+    Module(Sample),
 }
 
 impl Kind {
     ghost use Rattle.typer.specs.Requests.{kind_text};
 
-    const ALL: [Kind; 4] = [Kind::Call, Kind::Rules, Kind::Layout, Kind::Convert];
+    const ALL: [Kind; 5] = [
+        Kind::Call,
+        Kind::Rules,
+        Kind::Layout,
+        Kind::Convert,
+        Kind::Module,
+    ];
 
     fn word(self) -> &'static str
         ensures { result.now ≡ kind_text self }
@@ -43,6 +53,7 @@ impl Kind {
             Kind::Rules => "rules",
             Kind::Layout => "layout",
             Kind::Convert => "convert",
+            Kind::Module => "module",
         }
     }
 
@@ -80,6 +91,17 @@ fn parse_convert(mut words: Pieces<'_>) -> Option<Request>
     let from = SpelledType::from_word(from)?;
     let to = SpelledType::from_word(to)?;
     Some(Request::Convert(from, to))
+}
+
+/// The request for what is found of a sample, if the words are the name of one.
+fn parse_module(mut words: Pieces<'_>) -> Option<Request>
+    ensures { result ≡ module_from words.entry }
+{
+    let name = words.next()?;
+    if words.next().is_some() {
+        return None;
+    }
+    Sample::from_name(name).map(Request::Module)
 }
 
 /// The types that the words spell, if each spells one.
@@ -148,5 +170,6 @@ pub fn parse_request(alloc: Global, line: &[u8]) -> Result<Option<Request>, Allo
         Kind::Rules => parse_rules(alloc, words),
         Kind::Layout => Ok(parse_layout(words)),
         Kind::Convert => Ok(parse_convert(words)),
+        Kind::Module => Ok(parse_module(words)),
     }
 }

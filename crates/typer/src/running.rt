@@ -2,7 +2,7 @@
 
 ghost use Rattle.std.specs.Prelude.{◌≡◌, ◌<◌, ◌↔◌, ℕ, List, false, take, length, IsTrue, IfSome};
 ghost use Rattle.std.specs.Io.KnownBytes.{Appends, Consumes, IsAtEnd, Keeps};
-ghost use Rattle.typer.specs.Runs.{OnAnswered, OnUnanswered, answer, most_bytes};
+ghost use Rattle.typer.specs.Runs.{AreAnswer, OnAnswered, OnUnanswered, most_bytes};
 
 use crate::answer::Answer;
 use crate::reading::read_input;
@@ -19,14 +19,14 @@ pub fn run<R: Source, W: Sink>(alloc: Global, reader: &mut R, writer: &mut W) ->
 
     // With status 0 or 2 all was read, and the answer to it was written.
     ensures end { OnAnswered result (IsAtEnd (R.remaining reader.new)) }
-    ensures status { OnAnswered result (IfSome (R.remaining reader.old) (λ input. result ≡ (answer input).1)) }
-    ensures text { OnAnswered result (IfSome (R.remaining reader.old) (λ input.
-        Appends (W.contents writer.old) (W.contents writer.new) (answer input).0)) }
+    ensures answer { OnAnswered result (IfSome (R.remaining reader.old) (λ input.
+        (text : List ℕ) × AreAnswer input text result × Appends (W.contents writer.old) (W.contents writer.new) text)) }
 
     // With 3, 5 and 6 nothing was written, with 4 a beginning of the answer.
     ensures nothing { OnUnanswered result (Keeps (W.contents writer.old) (W.contents writer.new)) }
     ensures beginning { result ≡ Status.WriteFailed → IfSome (R.remaining reader.old) (λ input.
-        (n : ℕ) × Appends (W.contents writer.old) (W.contents writer.new) (take n (answer input).0)) }
+        (text : List ℕ) × (status : Status) × (n : ℕ) × AreAnswer input text status
+        × Appends (W.contents writer.old) (W.contents writer.new) (take n text)) }
 
     // When the statuses 3, 4 and 6 come.
     ensures read_failed { (result ≡ Status.ReadFailed) ↔ IsTrue (R.has_failed reader.new) }

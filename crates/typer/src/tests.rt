@@ -41,6 +41,15 @@ fn stops_at_a_bad_line(rt: HostRuntime) {
 }
 
 #[test]
+fn answers_what_samples_are(rt: HostRuntime) {
+    let input = b"module stored\nmodule exit\nmodule nothing\n";
+    let (status, sink) = run_in_memory(rt.alloc(), input, None, ROOM);
+    assert!(rt; status == Status::BadLine);
+    let wanted = b"fn 0 uses 2 pairs - counts 1,1 result uniform\nrefused fn 0 A2\nbad line 3\n";
+    assert!(rt; sink.bytes() == wanted.as_slice());
+}
+
+#[test]
 fn stops_at_a_failed_read(rt: HostRuntime) {
     for calls in 0..14 {
         let (status, sink) = run_in_memory(rt.alloc(), INPUT, Some(calls), ROOM);

@@ -6,11 +6,11 @@ use crate::{Expression, TryCopy};
 use std::alloc::{AllocError, Global};
 
 impl Expression {
-    /// The same expression again.
+    /// Returns an equal expression.
     ///
     /// # Errors
     ///
-    /// Want of memory for the components of a Compose.
+    /// `AllocError` if memory for the components of a Compose is refused.
     pub fn copy(&self, alloc: Global) -> Result<Expression, AllocError>
         ensures copy { IfOk result (λ copy. copy ≡ self.now) }
         ensures ok { HoldsNoList self.now → IsOk result }
@@ -48,7 +48,7 @@ impl Expression {
         }
     }
 
-    /// The same expression again, which is a literal or names what is declared.
+    /// Copies an expression that is a literal or names what is declared.
     fn copy_of_declared(&self) -> Expression
         requires { NamesDeclared self.now }
         ensures { result ≡ self.now }
@@ -65,7 +65,7 @@ impl Expression {
         }
     }
 
-    /// The same expression again, which takes or spreads parts of a value.
+    /// Copies an expression that takes or spreads parts of a value.
     fn copy_of_part(&self) -> Expression
         requires { TakesPart self.now }
         ensures { result ≡ self.now }
@@ -98,7 +98,7 @@ impl Expression {
         }
     }
 
-    /// The same expression again, which samples an image.
+    /// Copies an expression that samples an image.
     fn copy_of_sample(&self) -> Expression
         requires { SamplesImage self.now }
         ensures { result ≡ self.now }
@@ -129,7 +129,7 @@ impl Expression {
         }
     }
 
-    /// The same expression again, which reads an image without a sampler.
+    /// Copies an expression that reads an image without a sampler.
     fn copy_of_read(&self) -> Expression
         requires { ReadsImage self.now }
         ensures { result ≡ self.now }
@@ -156,7 +156,7 @@ impl Expression {
         }
     }
 
-    /// The same expression again, which applies an operator.
+    /// Copies an expression that applies an operator.
     fn copy_of_operation(&self) -> Expression
         requires { AppliesOperator self.now }
         ensures { result ≡ self.now }
@@ -193,7 +193,7 @@ impl Expression {
         }
     }
 
-    /// The same expression again, which selects or calls a builtin function.
+    /// Copies an expression that selects or calls a builtin function.
     fn copy_of_choice(&self) -> Expression
         requires { SelectsOrCalls self.now }
         ensures { result ≡ self.now }
@@ -225,7 +225,7 @@ impl Expression {
         }
     }
 
-    /// The same expression again, which stands for what a statement answers or a ray query holds.
+    /// Copies an expression that stands for what a statement gives or a ray query holds.
     fn copy_of_result(&self) -> Expression
         requires { IsResult self.now }
         ensures { result ≡ self.now }
@@ -257,7 +257,7 @@ impl Expression {
         }
     }
 
-    /// The same expression again, which is a cooperative matrix.
+    /// Copies an expression that is a cooperative matrix.
     fn copy_of_cooperative(&self) -> Expression
         requires { IsCooperative self.now }
         ensures { result ≡ self.now }

@@ -9,11 +9,11 @@ use shader_arena::Arena;
 use std::alloc::{AllocError, Global};
 
 impl LocalVariable {
-    /// The same variable again.
+    /// Returns an equal variable.
     ///
     /// # Errors
     ///
-    /// Want of memory for the name.
+    /// `AllocError` if memory for the name is refused.
     pub fn copy(&self, alloc: Global) -> Result<LocalVariable, AllocError>
         ensures { IfOk result (λ copy. copy ≡ self.now) }
     {
@@ -32,11 +32,11 @@ impl TryCopy for LocalVariable {
 }
 
 impl FunctionArgument {
-    /// The same argument again.
+    /// Returns an equal argument.
     ///
     /// # Errors
     ///
-    /// Want of memory for the name.
+    /// `AllocError` if memory for the name is refused.
     pub fn copy(&self, alloc: Global) -> Result<FunctionArgument, AllocError>
         ensures { IfOk result (λ copy. copy ≡ self.now) }
     {
@@ -55,11 +55,11 @@ impl TryCopy for FunctionArgument {
 }
 
 impl Function {
-    /// The same function again.
+    /// Returns an equal function.
     ///
     /// # Errors
     ///
-    /// Want of memory.
+    /// `AllocError` if memory is refused.
     pub fn copy(&self, alloc: Global) -> Result<Function, AllocError>
         ensures { IfOk result (λ copy. copy ≡ self.now) }
     {
@@ -115,11 +115,11 @@ impl TryCopy for Function {
 }
 
 impl EntryPoint {
-    /// The same entry point again.
+    /// Returns an equal entry point.
     ///
     /// # Errors
     ///
-    /// Want of memory.
+    /// `AllocError` if memory is refused.
     pub fn copy(&self, alloc: Global) -> Result<EntryPoint, AllocError>
         ensures { IfOk result (λ copy. copy ≡ self.now) }
     {

@@ -26,11 +26,11 @@ impl TryCopy for DiagnosticFilterNode {
 }
 
 impl Constant {
-    /// The same constant again.
+    /// Returns an equal constant.
     ///
     /// # Errors
     ///
-    /// Want of memory for the name.
+    /// `AllocError` if memory for the name is refused.
     pub fn copy(&self, alloc: Global) -> Result<Constant, AllocError>
         ensures { IfOk result (λ copy. copy ≡ self.now) }
     {
@@ -49,11 +49,11 @@ impl TryCopy for Constant {
 }
 
 impl Override {
-    /// The same override again.
+    /// Returns an equal override.
     ///
     /// # Errors
     ///
-    /// Want of memory for the name.
+    /// `AllocError` if memory for the name is refused.
     pub fn copy(&self, alloc: Global) -> Result<Override, AllocError>
         ensures { IfOk result (λ copy. copy ≡ self.now) }
     {
@@ -72,11 +72,11 @@ impl TryCopy for Override {
 }
 
 impl GlobalVariable {
-    /// The same variable again.
+    /// Returns an equal variable.
     ///
     /// # Errors
     ///
-    /// Want of memory for the name.
+    /// `AllocError` if memory for the name is refused.
     pub fn copy(&self, alloc: Global) -> Result<GlobalVariable, AllocError>
         ensures { IfOk result (λ copy. copy ≡ self.now) }
     {
@@ -96,11 +96,11 @@ impl TryCopy for GlobalVariable {
 }
 
 impl SpecialTypes {
-    /// The same types again.
+    /// Returns equal special types.
     ///
     /// # Errors
     ///
-    /// Want of memory for the map.
+    /// `AllocError` if memory for the map is refused.
     pub fn copy(&self, alloc: Global) -> Result<SpecialTypes, AllocError>
         ensures { IfOk result (λ copy. copy ≡ self.now) }
     {
@@ -113,11 +113,11 @@ impl SpecialTypes {
 }
 
 impl Module {
-    /// The same module again.
+    /// Returns an equal module.
     ///
     /// # Errors
     ///
-    /// Want of memory.
+    /// `AllocError` if memory is refused.
     pub fn copy(&self, alloc: Global) -> Result<Module, AllocError>
         ensures { IfOk result (λ copy. copy ≡ self.now) }
     {

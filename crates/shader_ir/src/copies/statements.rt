@@ -8,11 +8,11 @@ use crate::{Block, Statement, SwitchCase};
 use std::alloc::{AllocError, Global};
 
 impl Block {
-    /// The same block again.
+    /// Returns an equal block.
     ///
     /// # Errors
     ///
-    /// Want of memory.
+    /// `AllocError` if memory is refused.
     #[cycle(copy)]
     pub fn copy(&self, alloc: Global) -> Result<Block, AllocError>
         ensures { IfOk result (λ copy. copy ≡ self.now) }
@@ -26,11 +26,11 @@ impl Block {
 }
 
 impl SwitchCase {
-    /// The same case again.
+    /// Returns an equal case.
     ///
     /// # Errors
     ///
-    /// Want of memory for the body.
+    /// `AllocError` if memory for the body is refused.
     #[cycle(copy)]
     pub fn copy(&self, alloc: Global) -> Result<SwitchCase, AllocError>
         ensures { IfOk result (λ copy. copy ≡ self.now) }
@@ -44,11 +44,11 @@ impl SwitchCase {
 }
 
 impl Statement {
-    /// The same statement again.
+    /// Returns an equal statement: the same step of the tree that contracts see in a block.
     ///
     /// # Errors
     ///
-    /// Want of memory for blocks, cases or the arguments of a call.
+    /// `AllocError` if memory for blocks, cases or the arguments of a call is refused.
     #[cycle(copy)]
     pub fn copy(&self, alloc: Global) -> Result<Statement, AllocError>
         ensures copy { IfOk result (λ copy. step_of copy ≡ step_of self.now) }
@@ -88,7 +88,7 @@ impl Statement {
         }
     }
 
-    /// The same statement again, which holds no block.
+    /// Copies a statement that holds no block.
     fn copy_of_leaf(&self, alloc: Global) -> Result<Statement, AllocError>
         requires { HoldsNoBlock (step_of self.now) }
         ensures copy { IfOk result (λ copy. step_of copy ≡ step_of self.now) }
@@ -127,7 +127,7 @@ impl Statement {
         }
     }
 
-    /// The same statement again, which steers the flow or emits expressions.
+    /// Copies a statement that steers the flow or emits expressions.
     fn copy_of_flow(&self) -> Statement
         requires { SteersFlow (step_of self.now) }
         ensures { step_of result ≡ step_of self.now }
@@ -144,7 +144,7 @@ impl Statement {
         }
     }
 
-    /// The same statement again, which reads or writes memory or works on a ray.
+    /// Copies a statement that reads or writes memory or works on a ray.
     fn copy_of_access(&self) -> Statement
         requires { AccessesMemory (step_of self.now) }
         ensures { step_of result ≡ step_of self.now }
@@ -182,7 +182,7 @@ impl Statement {
         }
     }
 
-    /// The same statement again, which writes a texel.
+    /// Copies a statement that writes a texel.
     fn copy_of_texel(&self) -> Statement
         requires { WritesTexel (step_of self.now) }
         ensures { step_of result ≡ step_of self.now }
@@ -216,7 +216,7 @@ impl Statement {
         }
     }
 
-    /// The same statement again, in which a subgroup shares values.
+    /// Copies a statement in which a subgroup shares values.
     fn copy_of_subgroup(&self) -> Statement
         requires { SharesInSubgroup (step_of self.now) }
         ensures { step_of result ≡ step_of self.now }

@@ -8,6 +8,7 @@ use shader_arena::UniqueArena;
 
 impl Scalar {
     /// The two scalars, where the first converts to the second.
+    #[inline(always)]
     fn pair_with(self, goal: Scalar) -> Option<(Scalar, Scalar)>
         ensures { result ≡ scalar_conversion (Some self) (Some goal) }
     {
@@ -25,6 +26,7 @@ impl Scalar {
 
 impl ArraySize {
     /// Whether both are the same number, the same override's, or unknown.
+    #[inline]
     fn is_same(self, other: ArraySize) -> bool
         ensures { result ≡ same_array_size self other }
     {
@@ -68,6 +70,7 @@ impl TypeInner {
     }
 
     /// The same, where neither type is an array.
+    #[inline(always)]
     fn leaf_converts_to(&self, goal: &TypeInner) -> Option<(Scalar, Scalar)>
         ensures { result ≡ conversion (Node self.now NoTree) (Node goal.now NoTree) }
     {

@@ -132,7 +132,7 @@ impl TypeInner {
 
 impl VectorSize {
     /// How many components a vector of this size has.
-    pub(crate) fn components(self) -> u32
+    pub fn components(self) -> u32
         ensures { result ≡ vector_count self }
     {
         self as u32

@@ -1,9 +1,12 @@
 //! Regular sets, narrowed by arguments in turn.
 
-use crate::tests::{Arenas, MAT3X3, Made, SCALAR, VEC2, VEC3, concludes, inner, is_rule};
+use crate::tests::{
+    Arenas, MAT3X3, MAT4X4, Made, SCALAR, VEC2, VEC3, concludes, inner, is_rule, is_type,
+};
+use bitflags::Flags;
 use shader_arena::UniqueArena;
 use shader_ir::Scalar;
-use shader_overloads::{ConclusionRule, ConstructorSet, OverloadSet, Regular, ScalarSet};
+use shader_overloads::{ConclusionRule, ConstructorSet, OverloadSet, Regular, Rule, ScalarSet};
 use std::alloc::{AllocError, Global};
 use std::test::Fail;
 
@@ -172,6 +175,37 @@ fn rules_are_listed_by_constructors(rt: HostRuntime) -> Result<(), Fail> {
     for (rule, made) in rules.iter().zip(LISTED.iter()) {
         assert!(rt; is_rule(rule, *made, *made, *made));
     }
+    Ok(())
+}
+
+/// All thirteen constructors and all twelve scalars.
+fn of_all() -> Regular {
+    Regular::new(
+        1,
+        ConstructorSet::from_bits_retain(0x1fff),
+        ScalarSet::from_bits_retain(0xfff),
+        ConclusionRule::ArgumentType,
+    )
+}
+
+/// Whether the rule takes one argument of the type and gives it.
+fn keeps(rule: Option<&Rule>, made: Made) -> bool {
+    let Some(rule) = rule else {
+        return false;
+    };
+    match rule.arguments.as_slice() {
+        [only] => is_type(only, made) && concludes(rule, made),
+        _ => false,
+    }
+}
+
+#[test]
+fn all_rules_are_listed(rt: HostRuntime) -> Result<(), Fail> {
+    let arenas = Arenas::new(rt.alloc());
+    let rules = of_all().overload_list(rt.alloc(), arenas.ctx())?;
+    assert_eq!(rt; rules.len(), 156);
+    assert!(rt; keeps(rules.first(), (SCALAR, Scalar::ABSTRACT_INT)));
+    assert!(rt; keeps(rules.last(), (MAT4X4, Scalar::BOOL)));
     Ok(())
 }
 

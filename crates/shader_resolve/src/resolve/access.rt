@@ -1,10 +1,12 @@
-//! Parts of types, and accesses to them.
+//! Parts of types, and accesses to them; vectors of a scalar or of components.
 ghost use Rattle.std.specs.Prelude.{◌≡◌, ◌<◌, false, length};
-ghost use Rattle.shader_ir.specs.Alignments.{vector_count};
 ghost use Rattle.shader_ir.specs.TypeTree.{PointsBelow};
 ghost use Rattle.shader_resolve.specs.Outcome.{Meets};
 ghost use Rattle.shader_resolve.specs.Part.{checked, indexed_member, lifted, part};
+ghost use Rattle.shader_resolve.specs.Rows.{splat_type, swizzle_type};
 
+use super::Resolved;
+use super::values::vector_type;
 use crate::ResolveError;
 use shader_arena::{Handle, UniqueArena};
 use shader_ir::{
@@ -62,17 +64,6 @@ impl Part {
     }
 }
 
-/// The number of components.
-fn count(size: VectorSize) -> u32
-    ensures { result ≡ vector_count size }
-{
-    match size {
-        VectorSize::Bi => 2,
-        VectorSize::Tri => 3,
-        VectorSize::Quad => 4,
-    }
-}
-
 /// The part, where the index is below the count.
 fn check_index(index: Option<u32>, count: u32, part: Part) -> Result<Part, NoPart>
     ensures { result ≡ checked index count part }
@@ -89,7 +80,7 @@ pub fn find_part(inner: &TypeInner, index: Option<u32>) -> Result<Part, NoPart>
 {
     match inner {
         TypeInner::Vector { size, scalar } => {
-            check_index(index, count(*size), Part::Scalar(*scalar))
+            check_index(index, size.components(), Part::Scalar(*scalar))
         }
         TypeInner::Matrix {
             columns,
@@ -100,7 +91,7 @@ pub fn find_part(inner: &TypeInner, index: Option<u32>) -> Result<Part, NoPart>
                 size: *rows,
                 scalar: *scalar,
             };
-            check_index(index, count(*columns), column)
+            check_index(index, columns.components(), column)
         }
         TypeInner::Array { base, .. } | TypeInner::BindingArray { base, .. } => {
             Ok(Part::Type(*base))
@@ -144,7 +135,7 @@ pub fn access(
             size: Some(size),
             scalar,
             space,
-        } => match check_index(index, count(*size), Part::Scalar(*scalar)) {
+        } => match check_index(index, size.components(), Part::Scalar(*scalar)) {
             Ok(part) => Ok(TypeResolution::Value(part.into_pointer(*space))),
             Err(no_part) => Err(no_part.into_error(base, indexed)),
         },
@@ -168,5 +159,25 @@ impl NoPart {
             NoPart::PastEnd(index) => ResolveError::OutOfBoundsIndex { expr, index },
             NoPart::NotIndexable => ResolveError::InvalidAccess { expr, indexed },
         }
+    }
+}
+
+/// A vector of so many copies of a scalar.
+pub fn splat(size: VectorSize, value: Handle<mark::Expression>, inner: &TypeInner) -> Resolved
+    ensures { Meets false result (splat_type value size inner.now) }
+{
+    match inner {
+        TypeInner::Scalar(scalar) => Ok(vector_type(size, *scalar)),
+        _ => Err(ResolveError::InvalidScalar(value)),
+    }
+}
+
+/// A vector of so many components of a vector.
+pub fn swizzle(size: VectorSize, vector: Handle<mark::Expression>, inner: &TypeInner) -> Resolved
+    ensures { Meets false result (swizzle_type vector size inner.now) }
+{
+    match inner {
+        TypeInner::Vector { scalar, .. } => Ok(vector_type(size, *scalar)),
+        _ => Err(ResolveError::InvalidVector(vector)),
     }
 }

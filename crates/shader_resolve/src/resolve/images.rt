@@ -4,7 +4,7 @@ ghost use Rattle.shader_resolve.specs.Images.{extent_type, format_scalar, gather
 ghost use Rattle.shader_resolve.specs.Outcome.{Meets};
 
 use super::Resolved;
-use super::values::{scalar_of, scalar_type, vector_type};
+use super::values::{scalar_type, vector_type};
 use crate::ResolveError;
 use shader_arena::Handle;
 use shader_ir::{
@@ -22,7 +22,7 @@ pub fn gather(image: Handle<mark::Expression>, inner: &TypeInner) -> Resolved
         ImageClass::Sampled { kind, .. } => *kind,
         _ => ScalarKind::Float,
     };
-    Ok(vector_type(VectorSize::Quad, scalar_of(kind, 4)))
+    Ok(vector_type(VectorSize::Quad, Scalar { kind, width: 4 }))
 }
 
 /// The scalar of a format's texels.
@@ -63,7 +63,13 @@ pub fn sample(image: Handle<mark::Expression>, inner: &TypeInner) -> Resolved
     };
     Ok(match class {
         ImageClass::Depth { .. } => scalar_type(Scalar::F32),
-        ImageClass::Sampled { kind, .. } => vector_type(VectorSize::Quad, scalar_of(*kind, 4)),
+        ImageClass::Sampled { kind, .. } => vector_type(
+            VectorSize::Quad,
+            Scalar {
+                kind: *kind,
+                width: 4,
+            },
+        ),
         ImageClass::Storage { format, .. } => {
             vector_type(VectorSize::Quad, scalar_of_format(*format))
         }

@@ -4,7 +4,7 @@ ghost use Rattle.shader_resolve.specs.Operations.{cast_type, logical_type, produ
 ghost use Rattle.shader_resolve.specs.Outcome.{IncompatibleOperands, IsRefusal, Meets};
 
 use super::Resolved;
-use super::values::{cooperative_type, matrix_type, scalar_of, scalar_type, vector_type};
+use super::values::{cooperative_type, matrix_type, scalar_type, vector_type};
 use crate::{ResolveContext, ResolveError};
 use shader_ir::{BinaryOperator, Scalar, ScalarKind, TypeInner, TypeResolution};
 use std::alloc::{AllocError, Global};
@@ -94,17 +94,23 @@ pub fn cast(alloc: Global, kind: ScalarKind, convert: Option<u8>, inner: &TypeIn
     ensures { Meets true result (cast_type kind convert inner.now) }
 {
     match inner {
-        TypeInner::Scalar(old) => { Ok(scalar_type(scalar_of(kind, convert.unwrap_or(old.width)))) }
+        TypeInner::Scalar(old) => {
+            let width = convert.unwrap_or(old.width);
+            Ok(scalar_type(Scalar { kind, width }))
+        }
         TypeInner::Vector { size, scalar: old } => {
-            let scalar = scalar_of(kind, convert.unwrap_or(old.width));
-            Ok(vector_type(*size, scalar))
+            let width = convert.unwrap_or(old.width);
+            Ok(vector_type(*size, Scalar { kind, width }))
         }
         TypeInner::Matrix {
             columns,
             rows,
             scalar: old,
         } => {
-            let scalar = scalar_of(old.kind, convert.unwrap_or(old.width));
+            let scalar = Scalar {
+                kind: old.kind,
+                width: convert.unwrap_or(old.width),
+            };
             Ok(matrix_type(*columns, *rows, scalar))
         }
         _ => Err(incompatible("As".to_string(alloc))),

@@ -1,46 +1,10 @@
-//! What pointers point to, and the components of vectors.
-ghost use Rattle.std.specs.Prelude.{◌≡◌, false};
-ghost use Rattle.shader_resolve.specs.Outcome.{Meets};
-ghost use Rattle.shader_resolve.specs.Rows.{shape_scalar, splat_type, swizzle_type};
+//! What pointers point to.
 
 use super::Resolved;
 use super::values::{cooperative_type, scalar_type, vector_type};
 use crate::{ResolveContext, ResolveError};
 use shader_arena::Handle;
-use shader_ir::{
-    CooperativeRole, CooperativeSize, Scalar, TypeInner, TypeResolution, VectorSize, mark,
-};
-
-pub fn splat(size: VectorSize, value: Handle<mark::Expression>, inner: &TypeInner) -> Resolved
-    ensures { Meets false result (splat_type value size inner.now) }
-{
-    match inner {
-        TypeInner::Scalar(scalar) => Ok(vector_type(size, *scalar)),
-        _ => Err(ResolveError::InvalidScalar(value)),
-    }
-}
-
-pub fn swizzle(size: VectorSize, vector: Handle<mark::Expression>, inner: &TypeInner) -> Resolved
-    ensures { Meets false result (swizzle_type vector size inner.now) }
-{
-    match inner {
-        TypeInner::Vector { scalar, .. } => Ok(vector_type(size, *scalar)),
-        _ => Err(ResolveError::InvalidVector(vector)),
-    }
-}
-
-/// The scalar of a type that is made of one kind of scalars.
-fn shape_scalar(inner: &TypeInner) -> Option<Scalar>
-    ensures { result ≡ shape_scalar inner.now }
-{
-    match inner {
-        TypeInner::Scalar(scalar)
-        | TypeInner::Vector { scalar, .. }
-        | TypeInner::Matrix { scalar, .. }
-        | TypeInner::CooperativeMatrix { scalar, .. } => Some(*scalar),
-        _ => None,
-    }
-}
+use shader_ir::{CooperativeRole, CooperativeSize, Scalar, TypeInner, TypeResolution, mark};
 
 impl<'a> ResolveContext<'a> {
     ghost use Rattle.std.specs.Prelude.{◌≡◌, false, length};
@@ -74,7 +38,7 @@ impl<'a> ResolveContext<'a> {
         ensures { result ≡ pointed_scalar self.now.types inner.now }
     {
         match inner {
-            TypeInner::Pointer { base, .. } => shape_scalar(&self.types[*base].inner),
+            TypeInner::Pointer { base, .. } => self.types[*base].inner.scalar(),
             TypeInner::ValuePointer { scalar, .. } => Some(*scalar),
             _ => None,
         }

@@ -1,10 +1,7 @@
 //! Free-standing types.
 ghost use Rattle.std.specs.Prelude.{◌≡◌};
-ghost use Rattle.shader_resolve.specs.Images.{scalar};
 
-use shader_ir::{
-    CooperativeRole, CooperativeSize, Scalar, ScalarKind, TypeInner, TypeResolution, VectorSize,
-};
+use shader_ir::{CooperativeRole, CooperativeSize, Scalar, TypeInner, TypeResolution, VectorSize};
 
 pub fn scalar_type(scalar: Scalar) -> TypeResolution
     ensures { result ≡ TypeResolution.Value (TypeInner.Scalar scalar) }
@@ -26,12 +23,6 @@ pub fn matrix_type(columns: VectorSize, rows: VectorSize, scalar: Scalar) -> Typ
         rows,
         scalar,
     })
-}
-
-pub fn scalar_of(kind: ScalarKind, width: u8) -> Scalar
-    ensures { result ≡ scalar kind width }
-{
-    Scalar { kind, width }
 }
 
 pub fn cooperative_type(

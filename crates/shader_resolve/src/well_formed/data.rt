@@ -32,7 +32,7 @@ fn check_types(module: &Module) -> Result<(), ModuleFault>
     Ok(())
 }
 
-fn check_type(module: &Module, place: usize, inner: &TypeInner) -> Result<(), ModuleFault>
+pub fn check_type(module: &Module, place: usize, inner: &TypeInner) -> Result<(), ModuleFault>
     ensures { result ≡ check_type «module».now place inner.now }
 {
     if !bases_below(inner, module.types.len())
@@ -95,7 +95,7 @@ fn variables_in_range(module: &Module) -> bool
         && globals_in_range(module)
 }
 
-fn special_in_range(module: &Module, special: &SpecialTypes) -> bool
+pub fn special_in_range(module: &Module, special: &SpecialTypes) -> bool
     ensures { result ≡ special_in_range «module».now special.now }
 {
     is_optional_below(special.ray_intersection, module.types.len())
@@ -162,7 +162,7 @@ fn check_filters(module: &Module) -> Result<(), ModuleFault>
     Ok(())
 }
 
-fn check_filter(
+pub fn check_filter(
     module: &Module,
     place: usize,
     node: &DiagnosticFilterNode,

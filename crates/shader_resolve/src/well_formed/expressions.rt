@@ -3,11 +3,13 @@ ghost use Rattle.std.specs.Prelude.{◌≡◌, nat_lt};
 ghost use Rattle.shader_resolve.specs.ModuleTests.{check_expression, in_arena, is_below, names_in_range, operands_below};
 ghost use Rattle.shader_resolve.specs.WellFormed.{expression_callee};
 
+use super::operands::expression_operands_below;
 use super::{Bounds, ModuleFault};
 use shader_arena::{Arena, Handle};
-use shader_ir::{Expression, Module, Operands, expression_operands, mark};
+use shader_ir::{Expression, Module, Operands, mark};
 
 /// Whether a handle is below a bound.
+#[inline(always)]
 pub fn is_below<T>(handle: Handle<T>, bound: usize) -> bool
     ensures { result ≡ nat_lt handle bound }
 {
@@ -15,6 +17,7 @@ pub fn is_below<T>(handle: Handle<T>, bound: usize) -> bool
 }
 
 /// Whether a handle, where there is one, is below a bound.
+#[inline(always)]
 pub fn is_optional_below<T>(handle: Option<Handle<T>>, bound: usize) -> bool
     ensures { result ≡ is_below bound handle }
 {
@@ -88,7 +91,9 @@ fn expression_callee(expression: &Expression) -> Option<Handle<mark::Function>>
     }
 }
 
-fn check_expression(
+/// The first fault of an expression. Its operands are looked at once where they are earlier, as they mostly are.
+#[tactic(auto, using(crate::proofs::BelowLemmas::both_bounds))]
+pub fn check_expression(
     module: &Module,
     bounds: Bounds,
     place: usize,
@@ -96,12 +101,14 @@ fn check_expression(
 ) -> Result<(), ModuleFault>
     ensures { result ≡ check_expression «module».now bounds place expression.now }
 {
-    if !operands_below(expression_operands(expression), bounds.expressions)
-        || !names_in_range(module, bounds.locals, expression)
-    {
+    let is_earlier = expression_operands_below(expression, place.min(bounds.expressions));
+    if !is_earlier && !expression_operands_below(expression, bounds.expressions) {
         return Err(ModuleFault::HandleOutOfRange);
     }
-    if !operands_below(expression_operands(expression), place) {
+    if !names_in_range(module, bounds.locals, expression) {
+        return Err(ModuleFault::HandleOutOfRange);
+    }
+    if !is_earlier {
         return Err(ModuleFault::OperandNotEarlier);
     }
     if !is_optional_below(expression_callee(expression), bounds.earlier) {

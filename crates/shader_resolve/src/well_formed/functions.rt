@@ -31,7 +31,7 @@ pub fn check_function(
 }
 
 /// Whether the handles of a function are in range, those of its arguments, expressions and statements aside.
-fn function_in_range(module: &Module, function: &Function) -> bool
+pub fn function_in_range(module: &Module, function: &Function) -> bool
     ensures { result ≡ function_in_range «module».now function.now }
 {
     result_in_range(module, function.result)
@@ -43,7 +43,7 @@ fn function_in_range(module: &Module, function: &Function) -> bool
         )
 }
 
-fn check_arguments(module: &Module, arguments: &[FunctionArgument]) -> Result<(), ModuleFault>
+pub fn check_arguments(module: &Module, arguments: &[FunctionArgument]) -> Result<(), ModuleFault>
     ensures { result ≡ in_list (check_argument «module».now) arguments.now }
 {
     for argument in arguments {

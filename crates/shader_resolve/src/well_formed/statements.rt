@@ -5,10 +5,11 @@ ghost use Rattle.shader_ir.specs.BodyOf.{step_of};
 ghost use Rattle.shader_resolve.specs.ModuleTests.{all_below, check_statement, counts_match, in_body, in_within, is_emitted, statement_in_range, takes};
 ghost use Rattle.shader_resolve.specs.Statements.{proceed_result, statement_callee, statement_result};
 
-use super::expressions::{is_below, is_optional_below, operands_below};
+use super::expressions::{is_below, is_optional_below};
+use super::operands::statement_operands_below;
 use super::{Bounds, ModuleFault};
 use shader_arena::{Handle, Range};
-use shader_ir::{Block, Module, RayQueryFunction, Statement, mark, statement_operands};
+use shader_ir::{Block, Module, RayQueryFunction, Statement, mark};
 
 /// The first fault of a block's statements, each before those in its blocks.
 #[cycle(blocks)]
@@ -78,7 +79,7 @@ fn check_statement(
 fn statement_in_range(module: &Module, expressions: usize, statement: &Statement) -> bool
     ensures { result ≡ statement_in_range «module».now expressions (step_of statement.now) }
 {
-    operands_below(statement_operands(statement), expressions)
+    statement_operands_below(statement, expressions)
         && is_optional_below(statement_result(statement), expressions)
         && is_optional_below(statement_callee(statement), module.functions.len())
 }

@@ -98,13 +98,9 @@ fn untold_arguments(rt: HostRuntime) {
     );
 }
 
-/// The module in which the result of frexp of a pair is registered.
-fn with_frexp_result(rt: &impl Abort, alloc: Global) -> Module {
+/// The module in which this result is registered.
+fn with_result(rt: &impl Abort, alloc: Global, predeclared: PredeclaredType) -> Module {
     let mut module = module(rt, alloc);
-    let predeclared = PredeclaredType::FrexpResult {
-        size: Some(BI),
-        scalar: F32,
-    };
     module
         .special_types
         .predeclared_types
@@ -112,37 +108,32 @@ fn with_frexp_result(rt: &impl Abort, alloc: Global) -> Module {
         .expect(rt, WANT);
     module
 }
+
+const FREXP_OF_PAIRS: PredeclaredType = PredeclaredType::FrexpResult {
+    size: Some(BI),
+    scalar: F32,
+};
+
+const MODF_OF_F32: PredeclaredType = PredeclaredType::ModfResult {
+    size: None,
+    scalar: F32,
+};
 
 #[test]
 fn registered_results(rt: HostRuntime) {
     let rows = Rows::new(&rt, rt.alloc());
     rows.expects_of(
-        with_frexp_result(&rt, rt.alloc()),
+        with_result(&rt, rt.alloc(), FREXP_OF_PAIRS),
         [of(1)],
         of_one(MathFunction::Frexp),
         Ok(of(5)),
     );
     rows.expects_of(
-        with_frexp_result(&rt, rt.alloc()),
+        with_result(&rt, rt.alloc(), FREXP_OF_PAIRS),
         [of(0)],
         of_one(MathFunction::Frexp),
         Err(ResolveError::MissingSpecialType),
     );
-}
-
-/// The module in which the result of modf of f32 is registered.
-fn with_modf_result(rt: &impl Abort, alloc: Global) -> Module {
-    let mut module = module(rt, alloc);
-    let predeclared = PredeclaredType::ModfResult {
-        size: None,
-        scalar: F32,
-    };
-    module
-        .special_types
-        .predeclared_types
-        .insert(predeclared, Handle::from_index(5))
-        .expect(rt, WANT);
-    module
 }
 
 /// An abstract float has a result of its own, and doesn't take that for f32.
@@ -150,13 +141,13 @@ fn with_modf_result(rt: &impl Abort, alloc: Global) -> Module {
 fn unregistered_abstract_result(rt: HostRuntime) {
     let rows = Rows::new(&rt, rt.alloc());
     rows.expects_of(
-        with_modf_result(&rt, rt.alloc()),
+        with_result(&rt, rt.alloc(), MODF_OF_F32),
         [scalar(F32)],
         of_one(MathFunction::Modf),
         Ok(of(5)),
     );
     rows.expects_of(
-        with_modf_result(&rt, rt.alloc()),
+        with_result(&rt, rt.alloc(), MODF_OF_F32),
         [scalar(Scalar::ABSTRACT_FLOAT)],
         of_one(MathFunction::Modf),
         Err(ResolveError::MissingSpecialType),

@@ -7,7 +7,7 @@ use shader_ir::{
     ShaderStage, SpecialTypes, Statement, SwitchCase, SwitchValue, Type, TypeInner, UnaryOperator,
     mark,
 };
-use shader_resolve::{ModuleFault, check_module};
+use shader_resolve::{ModuleFault, ModulePlace, check_module, find_fault};
 use std::alloc::Global;
 use std::process::Abort;
 
@@ -55,9 +55,21 @@ fn with_expression(rt: &impl Abort, alloc: Global, expression: Expression) -> Mo
     made
 }
 
-/// Asserts what `check_module` says of a module.
-fn expects(rt: &impl Abort, module: Module, wanted: Result<(), ModuleFault>) {
-    assert!(rt; check_module(&module) == wanted);
+/// Asserts that a module is well formed.
+fn accepts(rt: &impl Abort, module: Module) {
+    assert!(rt; check_module(&module) == Ok(()));
+    assert!(rt; find_fault(&module).is_none());
+}
+
+/// Asserts which fault a module has, and where.
+fn expects(rt: &impl Abort, module: Module, place: ModulePlace, fault: ModuleFault) {
+    assert!(rt; check_module(&module) == Err(fault));
+    assert!(rt; find_fault(&module) == Some((place, fault)));
+}
+
+/// The first function, or the second.
+fn callee(place: u32) -> Handle<mark::Function> {
+    Handle::from_index(place)
 }
 
 fn call(alloc: Global) -> Statement {
@@ -105,14 +117,19 @@ fn one_statement(rt: &impl Abort, alloc: Global, statement: Statement) -> Vec<St
 
 #[test]
 fn accepts_the_empty_module(rt: HostRuntime) {
-    expects(&rt, empty_module(rt.alloc()), Ok(()));
+    accepts(&rt, empty_module(rt.alloc()));
 }
 
 #[test]
 fn names_a_global_that_is_not_there(rt: HostRuntime) {
     let expression = Expression::GlobalVariable(Handle::from_index(0));
     let module = with_expression(&rt, rt.alloc(), expression);
-    expects(&rt, module, Err(ModuleFault::HandleOutOfRange));
+    expects(
+        &rt,
+        module,
+        ModulePlace::FunctionExpression(callee(0), at(0)),
+        ModuleFault::HandleOutOfRange,
+    );
 }
 
 #[test]
@@ -128,7 +145,12 @@ fn names_an_array_of_itself(rt: HostRuntime) {
             stride: 4,
         },
     );
-    expects(&rt, module, Err(ModuleFault::TypeNotEarlier));
+    expects(
+        &rt,
+        module,
+        ModulePlace::Type(Handle::from_index(0)),
+        ModuleFault::TypeNotEarlier,
+    );
 }
 
 #[test]
@@ -138,7 +160,12 @@ fn names_an_operand_of_itself(rt: HostRuntime) {
         expr: at(0),
     };
     let module = with_expression(&rt, rt.alloc(), expression);
-    expects(&rt, module, Err(ModuleFault::OperandNotEarlier));
+    expects(
+        &rt,
+        module,
+        ModulePlace::FunctionExpression(callee(0), at(0)),
+        ModuleFault::OperandNotEarlier,
+    );
 }
 
 #[test]
@@ -147,7 +174,12 @@ fn names_a_function_that_calls_itself(rt: HostRuntime) {
     let mut module = empty_module(alloc);
     let body = one_statement(&rt, alloc, call(alloc));
     add_function(&rt, &mut module, function(alloc, Vec::new(alloc), body));
-    expects(&rt, module, Err(ModuleFault::CalleeNotEarlier));
+    expects(
+        &rt,
+        module,
+        ModulePlace::FunctionBody(callee(0)),
+        ModuleFault::CalleeNotEarlier,
+    );
 }
 
 /// A switch whose one case calls the first function.
@@ -196,7 +228,12 @@ fn of_blocks(rt: &impl Abort, alloc: Global) -> Function {
 fn names_a_call_inside_blocks(rt: HostRuntime) {
     let mut module = empty_module(rt.alloc());
     add_function(&rt, &mut module, of_blocks(&rt, rt.alloc()));
-    expects(&rt, module, Err(ModuleFault::CalleeNotEarlier));
+    expects(
+        &rt,
+        module,
+        ModulePlace::FunctionBody(callee(0)),
+        ModuleFault::CalleeNotEarlier,
+    );
 }
 
 /// A call of function 0 without arguments, where it takes one.
@@ -209,7 +246,12 @@ fn names_a_call_with_too_few_arguments(rt: HostRuntime) {
     assert!(rt; check_module(&module) == Ok(()));
     let body = one_statement(&rt, alloc, call(alloc));
     add_function(&rt, &mut module, function(alloc, Vec::new(alloc), body));
-    expects(&rt, module, Err(ModuleFault::ArgumentCount));
+    expects(
+        &rt,
+        module,
+        ModulePlace::FunctionBody(callee(1)),
+        ModuleFault::ArgumentCount,
+    );
 }
 
 #[test]
@@ -224,7 +266,12 @@ fn names_a_filter_that_is_its_parent(rt: HostRuntime) {
             parent: Some(Handle::from_index(0)),
         })
         .expect(&rt, WANT);
-    expects(&rt, module, Err(ModuleFault::FilterNotEarlier));
+    expects(
+        &rt,
+        module,
+        ModulePlace::DiagnosticFilter(Handle::from_index(0)),
+        ModuleFault::FilterNotEarlier,
+    );
 }
 
 #[test]
@@ -242,7 +289,12 @@ fn names_an_argument_of_a_value_pointer(rt: HostRuntime) {
     );
     assert!(rt; check_module(&module) == Ok(()));
     add_function(&rt, &mut module, of_one_argument(&rt, alloc));
-    expects(&rt, module, Err(ModuleFault::ValuePointerArgument));
+    expects(
+        &rt,
+        module,
+        ModulePlace::Function(callee(0)),
+        ModuleFault::ValuePointerArgument,
+    );
 }
 
 #[test]
@@ -251,7 +303,12 @@ fn names_an_emit_past_the_expressions(rt: HostRuntime) {
     let mut module = empty_module(alloc);
     let body = one_statement(&rt, alloc, Statement::Emit(Range::new(at(0), at(1))));
     add_function(&rt, &mut module, function(alloc, Vec::new(alloc), body));
-    expects(&rt, module, Err(ModuleFault::EmitRange));
+    expects(
+        &rt,
+        module,
+        ModulePlace::FunctionBody(callee(0)),
+        ModuleFault::EmitRange,
+    );
 }
 
 /// To an entry point all functions are earlier, and a backward range emits nothing.
@@ -262,7 +319,7 @@ fn accepts_an_entry_point_that_calls(rt: HostRuntime) {
     let nothing = one_statement(&rt, alloc, Statement::Emit(Range::new(at(7), at(0))));
     add_function(&rt, &mut module, function(alloc, Vec::new(alloc), nothing));
     add_entry_point(&rt, alloc, &mut module);
-    expects(&rt, module, Ok(()));
+    accepts(&rt, module);
 }
 
 fn add_global_expression(rt: &impl Abort, module: &mut Module, expression: Expression) {
@@ -280,12 +337,14 @@ fn names_faults_of_global_expressions(rt: HostRuntime) {
     expects(
         &rt,
         with_global_local(&rt, alloc),
-        Err(ModuleFault::HandleOutOfRange),
+        ModulePlace::GlobalExpression(at(0)),
+        ModuleFault::HandleOutOfRange,
     );
     expects(
         &rt,
         with_global_call(&rt, alloc),
-        Err(ModuleFault::CalleeNotEarlier),
+        ModulePlace::GlobalExpression(at(0)),
+        ModuleFault::CalleeNotEarlier,
     );
 }
 
@@ -311,5 +370,10 @@ fn names_a_callee_that_is_not_there(rt: HostRuntime) {
     let alloc = rt.alloc();
     let mut module = empty_module(alloc);
     add_entry_point(&rt, alloc, &mut module);
-    expects(&rt, module, Err(ModuleFault::HandleOutOfRange));
+    expects(
+        &rt,
+        module,
+        ModulePlace::EntryPointBody(0),
+        ModuleFault::HandleOutOfRange,
+    );
 }

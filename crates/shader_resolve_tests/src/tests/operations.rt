@@ -166,8 +166,23 @@ fn copies(rt: HostRuntime) {
         reject: at(0),
     };
     rows.expects([of(1), of(2)], select, Ok(of(2)));
-    rows.expects([of(4)], binary(BinaryOperator::Add), Ok(of(4)));
+    for op in &TYPED_BY_THE_FIRST {
+        rows.expects([of(4)], binary(*op), Ok(of(4)));
+    }
 }
+
+/// Operators that give their first operand's type.
+const TYPED_BY_THE_FIRST: [BinaryOperator; 9] = [
+    BinaryOperator::Add,
+    BinaryOperator::Subtract,
+    BinaryOperator::Divide,
+    BinaryOperator::Modulo,
+    BinaryOperator::And,
+    BinaryOperator::ExclusiveOr,
+    BinaryOperator::InclusiveOr,
+    BinaryOperator::ShiftLeft,
+    BinaryOperator::ShiftRight,
+];
 
 fn multiply_add() -> Expression {
     Expression::CooperativeMultiplyAdd {

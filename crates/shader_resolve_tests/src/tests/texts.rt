@@ -2,7 +2,7 @@
 use crate::tests::rows::WANT;
 use shader_arena::Handle;
 use shader_overloads::MissingSpecialType;
-use shader_resolve::ResolveError;
+use shader_resolve::{ModuleFault, ResolveError};
 use std::alloc::Global;
 use std::process::Abort;
 
@@ -45,6 +45,14 @@ fn texts_of_accesses(rt: HostRuntime) {
         sub_access,
         "Invalid sub-access into type [4], indexed: false",
     );
+}
+
+#[test]
+fn texts_of_faults(rt: HostRuntime) {
+    let fault = ModuleFault::EmitRange
+        .to_string(rt.alloc())
+        .expect(&rt, WANT);
+    assert!(rt; fault.as_str() == "An emitted range ends past the function's expressions");
 }
 
 #[test]

@@ -15,26 +15,13 @@ ghost use Rattle.shader_typing.specs.Processed.{site_of};
 
 use crate::valid::ModuleInfo;
 use shader_arena::{Arena, Handle};
+use shader_expression_types::untyped;
 use shader_info::{
-    AnalysisError, AnalysisPlace, Capabilities, ExpressionError, FunctionError, FunctionInfo,
-    ValidationFlags,
+    AnalysisError, AnalysisPlace, Capabilities, FunctionError, FunctionInfo, ValidationFlags,
 };
 use shader_ir::{GlobalCtx, LocalVariable, Module, mark};
 use shader_resolve::{ResolveContext, ResolveError};
 use std::alloc::Global;
-
-/// What is told of a global expression without a type.
-fn untyped(handle: Handle<mark::Expression>, failure: ResolveError) -> FunctionError
-    ensures { result ≡ untyped_error handle failure }
-{
-    match failure {
-        ResolveError::OutOfMemory => FunctionError::OutOfMemory,
-        failure => FunctionError::Expression {
-            handle,
-            source: ExpressionError::Resolve(failure),
-        },
-    }
-}
 
 /// Why a global expression has no type.
 fn type_error(handle: Handle<mark::Expression>, failure: ResolveError) -> AnalysisError

@@ -1,208 +1,117 @@
 //! How a use of an expression is one of the global that it points into.
-use crate::tests::analysis::first_use;
-use crate::tests::infos::WANT;
-use crate::tests::made::{
-    ELEMENTS, NUMBER, NUMBERS, TEXELS, beginning, nothing, one, one_global, plain, with_function,
-};
-use shader_arena::Handle;
-use shader_ir::{
-    AtomicFunction, CooperativeData, CooperativeRole, CooperativeSize, Expression, Function,
-    GlobalVariable, ImageQuery, Statement,
-};
-use shader_samples::parts::{at, global, number, resource, storage, store};
+use crate::tests::asked::{Part, Question, asks, between, decimal};
 use shader_typing::valid::GlobalUse;
-use std::alloc::Global;
 use std::process::Abort;
 
 const NO_USE: GlobalUse = GlobalUse(0);
 
-fn used(rt: &impl Abort, alloc: Global, variable: GlobalVariable, function: Function) -> GlobalUse {
-    let globals = one_global(rt, alloc, variable);
-    first_use(rt, alloc, with_function(rt, alloc, globals, function), 0)
+/// Asserts how the first function uses the one global.
+fn first_uses(rt: &(impl Abort + AllocGlobal), text: &str, wanted: GlobalUse) {
+    let bits = decimal(rt, wanted.0);
+    asks(rt, text, Question::Of(0, Part::Uses), bits.as_str());
 }
 
-/// How the statement uses the global, which is expression 0, where expressions 1 and 2 are numbers.
-fn used_by(
-    rt: &impl Abort,
-    alloc: Global,
-    variable: GlobalVariable,
-    statement: Statement,
-) -> GlobalUse {
-    let expressions = vec![in alloc; global(0), number(1), number(2)].expect(rt, WANT);
-    let function = plain(rt, alloc, expressions, one(rt, alloc, statement));
-    used(rt, alloc, variable, function)
+/// Asserts how the statement uses the global, which is expression 0, where expressions 1 and 2 are numbers.
+fn used_by(rt: &(impl Abort + AllocGlobal), global: &str, statement: &str, wanted: GlobalUse) {
+    let text = between(
+        rt,
+        global,
+        "; GlobalVariable 0 Literal 1 Literal 2",
+        statement,
+    );
+    first_uses(rt, text.as_str(), wanted);
 }
 
-/// How the expression uses the global, which is expression 0, where expression 1 is three numbers.
-fn used_in(
-    rt: &impl Abort,
-    alloc: Global,
-    variable: GlobalVariable,
-    expression: Expression,
-) -> GlobalUse {
-    let numbers = Expression::ZeroValue(Handle::from_index(NUMBERS));
-    let expressions = vec![in alloc; global(0), numbers, expression].expect(rt, WANT);
-    let function = plain(rt, alloc, expressions, nothing(alloc));
-    used(rt, alloc, variable, function)
+/// Asserts how the expression uses the global, which is expression 0, where expression 1 is three numbers.
+fn used_in(rt: &(impl Abort + AllocGlobal), global: &str, expression: &str, wanted: GlobalUse) {
+    let text = between(
+        rt,
+        global,
+        "; GlobalVariable 0 ZeroValue vec3<u32>",
+        expression,
+    );
+    first_uses(rt, text.as_str(), wanted);
 }
 
-fn load(pointer: u32) -> Expression {
-    Expression::Load {
-        pointer: at(pointer),
-    }
-}
+const NUMBER: &str = "Storage u32";
 
-fn element(base: u32, index: u32) -> Expression {
-    Expression::Access {
-        base: at(base),
-        index: at(index),
-    }
-}
+const NUMBERS: &str = "Storage array<u32>";
+
+const TEXELS: &str = "Handle texture_storage_2d<r32uint,atomic>";
 
 #[test]
 fn loads_read(rt: HostRuntime) {
-    let alloc = rt.alloc();
-    assert!(rt; used_in(&rt, alloc, storage(NUMBER), load(0)) == GlobalUse::READ);
+    used_in(&rt, NUMBER, "Load 0", GlobalUse::READ);
 }
 
 #[test]
 fn a_part_is_no_use_of_the_whole(rt: HostRuntime) {
-    let alloc = rt.alloc();
-    assert!(rt; used_in(&rt, alloc, storage(ELEMENTS), element(0, 1)) == NO_USE);
-    let (base, index) = (at(0), 0);
-    let first = Expression::AccessIndex { base, index };
-    assert!(rt; used_in(&rt, alloc, storage(ELEMENTS), first) == NO_USE);
+    used_in(&rt, NUMBERS, "Access 0 1", NO_USE);
+    used_in(&rt, NUMBERS, "AccessIndex 0 0", NO_USE);
 }
 
 #[test]
 fn an_index_is_read(rt: HostRuntime) {
-    let alloc = rt.alloc();
-    assert!(rt; used_in(&rt, alloc, storage(NUMBER), element(1, 0)) == GlobalUse::READ);
+    used_in(&rt, NUMBER, "Access 1 0", GlobalUse::READ);
 }
 
-/// A function that loads an element and stores through it.
-fn changing_an_element(rt: &impl Abort, alloc: Global) -> Function {
-    let expressions = vec![in alloc; global(0), number(1), element(0, 1), load(2)];
-    let statements = one(rt, alloc, store(2, 1));
-    plain(rt, alloc, expressions.expect(rt, WANT), statements)
-}
-
+/// The function loads an element and stores through it.
 #[test]
 fn a_use_of_a_part_is_one_of_the_whole(rt: HostRuntime) {
-    let alloc = rt.alloc();
-    let function = changing_an_element(&rt, alloc);
-    let both = GlobalUse::READ | GlobalUse::WRITE;
-    assert!(rt; used(&rt, alloc, storage(ELEMENTS), function) == both);
+    let text = "Storage array<u32> ; GlobalVariable 0 Literal 1 Access 0 1 Load 2 Store 2 1";
+    first_uses(&rt, text, GlobalUse::READ | GlobalUse::WRITE);
 }
 
 #[test]
 fn lengths_and_sizes_are_queried(rt: HostRuntime) {
-    let alloc = rt.alloc();
-    let length = Expression::ArrayLength(at(0));
-    assert!(rt; used_in(&rt, alloc, storage(ELEMENTS), length) == GlobalUse::QUERY);
-    let size = Expression::ImageQuery {
-        image: at(0),
-        query: ImageQuery::Size { level: None },
-    };
-    assert!(rt; used_in(&rt, alloc, resource(TEXELS), size) == GlobalUse::QUERY);
+    used_in(&rt, NUMBERS, "ArrayLength 0", GlobalUse::QUERY);
+    used_in(&rt, TEXELS, "ImageSize 0", GlobalUse::QUERY);
 }
 
 #[test]
 fn stores_write_their_pointers_and_read_their_values(rt: HostRuntime) {
-    let alloc = rt.alloc();
-    assert!(rt; used_by(&rt, alloc, storage(NUMBER), store(0, 1)) == GlobalUse::WRITE);
-    assert!(rt; used_by(&rt, alloc, storage(NUMBER), store(1, 0)) == GlobalUse::READ);
-    let both = GlobalUse::READ | GlobalUse::WRITE;
-    assert!(rt; used_by(&rt, alloc, storage(NUMBER), store(0, 0)) == both);
+    used_by(&rt, NUMBER, "Store 0 1", GlobalUse::WRITE);
+    used_by(&rt, NUMBER, "Store 1 0", GlobalUse::READ);
+    used_by(&rt, NUMBER, "Store 0 0", GlobalUse::READ | GlobalUse::WRITE);
 }
 
-fn atomic(pointer: u32, compare: u32) -> Statement {
-    let compare = Some(at(compare));
-    Statement::Atomic {
-        pointer: at(pointer),
-        fun: AtomicFunction::Exchange { compare },
-        value: at(1),
-        result: at(2),
-    }
-}
-
+/// The value is expression 1, and what is compared stands last.
 #[test]
 fn atomics_read_and_write(rt: HostRuntime) {
-    let alloc = rt.alloc();
-    let both = GlobalUse::READ | GlobalUse::WRITE;
-    assert!(rt; used_by(&rt, alloc, storage(NUMBER), atomic(0, 1)) == both);
-    assert!(rt; used_by(&rt, alloc, storage(NUMBER), atomic(1, 0)) == GlobalUse::READ);
+    used_by(
+        &rt,
+        NUMBER,
+        "AtomicExchange 0 1 2 1",
+        GlobalUse::READ | GlobalUse::WRITE,
+    );
+    used_by(&rt, NUMBER, "AtomicExchange 1 1 2 0", GlobalUse::READ);
 }
 
 #[test]
 fn images_are_written_and_changed_atomically(rt: HostRuntime) {
-    let alloc = rt.alloc();
-    let write = Statement::ImageStore {
-        image: at(0),
-        coordinate: at(1),
-        array_index: None,
-        value: at(2),
-    };
-    assert!(rt; used_by(&rt, alloc, resource(TEXELS), write) == GlobalUse::WRITE);
-    let change = Statement::ImageAtomic {
-        image: at(0),
-        coordinate: at(1),
-        array_index: None,
-        fun: AtomicFunction::Add,
-        value: at(2),
-    };
-    assert!(rt; used_by(&rt, alloc, resource(TEXELS), change) == GlobalUse::ATOMIC);
-}
-
-fn store_matrix(target: u32, pointer: u32) -> Statement {
-    Statement::CooperativeStore {
-        target: at(target),
-        tile: CooperativeData {
-            pointer: at(pointer),
-            stride: at(1),
-            row_major: false,
-        },
-    }
+    used_by(&rt, TEXELS, "ImageStore 0 1 2", GlobalUse::WRITE);
+    used_by(&rt, TEXELS, "ImageAtomicAdd 0 1 2", GlobalUse::ATOMIC);
 }
 
 #[test]
 fn matrices_are_written_through_their_pointers(rt: HostRuntime) {
-    let alloc = rt.alloc();
-    assert!(rt; used_by(&rt, alloc, storage(NUMBER), store_matrix(1, 0)) == GlobalUse::WRITE);
-    assert!(rt; used_by(&rt, alloc, storage(NUMBER), store_matrix(0, 1)) == GlobalUse::READ);
-    let read = Expression::CooperativeLoad {
-        columns: CooperativeSize::Eight,
-        rows: CooperativeSize::Eight,
-        role: CooperativeRole::A,
-        tile: CooperativeData {
-            pointer: at(0),
-            stride: at(1),
-            row_major: true,
-        },
-    };
-    assert!(rt; used_in(&rt, alloc, storage(NUMBER), read) == GlobalUse::READ);
+    used_by(&rt, NUMBER, "CooperativeStore 1 0 1", GlobalUse::WRITE);
+    used_by(&rt, NUMBER, "CooperativeStore 0 1 1", GlobalUse::READ);
+    used_in(&rt, NUMBER, "CooperativeLoad 0 1", GlobalUse::READ);
 }
 
 #[test]
 fn uniform_loads_read(rt: HostRuntime) {
-    let alloc = rt.alloc();
-    let load = Statement::WorkGroupUniformLoad {
-        pointer: at(0),
-        result: at(1),
-    };
-    assert!(rt; used_by(&rt, alloc, storage(NUMBER), load) == GlobalUse::READ);
+    used_by(&rt, NUMBER, "WorkGroupUniformLoad 0 1", GlobalUse::READ);
 }
 
 #[test]
 fn what_a_local_begins_as_is_read(rt: HostRuntime) {
-    let alloc = rt.alloc();
-    let expressions = vec![in alloc; global(0)].expect(&rt, WANT);
-    let function = beginning(&rt, alloc, expressions);
-    assert!(rt; used(&rt, alloc, storage(NUMBER), function) == GlobalUse::READ);
+    let text = "Storage u32 ; Local u32 0 GlobalVariable 0";
+    first_uses(&rt, text, GlobalUse::READ);
 }
 
 #[test]
 fn what_nothing_uses_is_not_used(rt: HostRuntime) {
-    let alloc = rt.alloc();
-    assert!(rt; used_by(&rt, alloc, storage(NUMBER), Statement::Kill) == NO_USE);
+    used_by(&rt, NUMBER, "Kill", NO_USE);
 }

@@ -2,7 +2,8 @@
 //!
 //! With ample memory nothing is refused. Where the allocator refuses the Nth request of a test's process, the test passes
 //! still, and prints a line with `was refused`. The first N at which no test prints one is past all requests.
-use crate::tests::analysis::{CHECKED, PLAIN, analyzed, processed};
+use crate::tests::asked::{CHECKED, PLAIN, Part, Question, add_told, processed};
+use crate::tests::infos::WANT;
 use shader_ir::Module;
 use shader_samples::Sample;
 use shader_typing::valid::{
@@ -11,107 +12,127 @@ use shader_typing::valid::{
 use std::alloc::Global;
 use std::io::Print;
 use std::process::Abort;
-use std::test::Fail;
 
-fn is_want<T>(answer: &Result<T, AnalysisError>) -> bool {
-    match answer {
-        Ok(_) => false,
-        Err(error) => matches!(&error.cause, FunctionError::OutOfMemory),
-    }
+fn say(rt: &(impl Abort + Print), what: &str) {
+    println!(rt; "{what} was refused").expect(rt, "output");
 }
 
 /// The module, made again where memory was refused.
-fn made<R: Abort + Print>(rt: &R, alloc: Global, sample: Sample) -> Result<Module, Fail> {
+fn made(rt: &(impl Abort + Print), alloc: Global, sample: Sample) -> Module {
     match sample.build(alloc) {
-        Ok(module) => Ok(module),
+        Ok(module) => module,
         Err(_) => {
-            println!(rt; "a sample was refused")?;
-            Ok(sample.build(alloc)?)
+            say(rt, "a sample");
+            sample.build(alloc).expect(rt, WANT)
         }
     }
 }
 
-/// The answer for a module, asked again where memory was refused.
-fn answer<R: Abort + Print>(
-    rt: &R,
+/// Adds what is told of the module, asked again where memory was refused.
+fn add_again(
+    rt: &(impl Abort + Print),
     alloc: Global,
+    text: &mut String,
     module: &Module,
-) -> Result<Result<ModuleInfo, AnalysisError>, Fail> {
-    let first = analyzed(rt, alloc, module);
-    if !is_want(&first) {
-        return Ok(first);
+    question: &Question,
+) {
+    let first = add_told(rt, alloc, text, module, *question);
+    if first.is_err() || text.as_str().ends_with(WANT) {
+        say(rt, "an answer");
+        text.clear();
+        add_told(rt, alloc, text, module, *question).expect(rt, WANT);
     }
-    println!(rt; "an analysis was refused")?;
-    Ok(analyzed(rt, alloc, module))
 }
 
-/// The info of the first function, asked again where memory was refused.
-fn first_info<R: Abort + Print>(
-    rt: &R,
-    alloc: Global,
-    module: &Module,
-) -> Result<Result<FunctionInfo, AnalysisError>, Fail> {
-    let first = processed(rt, alloc, module, CHECKED, PLAIN);
-    if !is_want(&first) {
-        return Ok(first);
-    }
-    println!(rt; "a function was refused")?;
-    Ok(processed(rt, alloc, module, CHECKED, PLAIN))
-}
-
-fn is_misplaced<T>(answer: &Result<T, AnalysisError>) -> bool {
-    match answer {
-        Ok(_) => false,
-        Err(error) => matches!(&error.cause, FunctionError::NonUniformControlFlow(..)),
-    }
+/// Asserts what is told of the sample.
+fn tells_again(
+    rt: &(impl Abort + AllocGlobal + Print),
+    sample: Sample,
+    question: Question,
+    wanted: &str,
+) {
+    let mut text = String::new(rt.alloc());
+    let module = made(rt, rt.alloc(), sample);
+    add_again(rt, rt.alloc(), &mut text, &module, &question);
+    assert!(rt; text.as_str() == wanted, "{text}");
 }
 
 #[test]
-fn of_modules(rt: HostRuntime) -> Result<(), Fail> {
-    let alloc = rt.alloc();
-    let module = made(&rt, alloc, Sample::Sampling)?;
-    assert!(rt; answer(&rt, alloc, &module)?.is_ok());
-    let module = made(&rt, alloc, Sample::Exit)?;
-    assert!(rt; is_misplaced(&answer(&rt, alloc, &module)?));
-    Ok(())
+fn of_modules(rt: HostRuntime) {
+    tells_again(
+        &rt,
+        Sample::Sampling,
+        Question::Module,
+        "fn 0 uses 0,0 pairs - counts 1,1,1,1 result non-uniform; \
+         fn 1 uses 0,1 pairs - counts 1,1 result non-uniform; \
+         fn 2 uses 1,1 pairs 0/1 counts 2 result non-uniform",
+    );
+    tells_again(
+        &rt,
+        Sample::Exit,
+        Question::Module,
+        "fn 0 A2 at 4 needs 8: There is a Return earlier in the control flow of the function",
+    );
 }
 
 #[test]
-fn of_functions(rt: HostRuntime) -> Result<(), Fail> {
-    let alloc = rt.alloc();
-    let module = made(&rt, alloc, Sample::Sampling)?;
-    match first_info(&rt, alloc, &module)? {
-        Ok(info) => {
-            let (image, sampler) = (GlobalOrArgument::Argument(0), GlobalOrArgument::Argument(1));
-            assert!(rt; info.has_sampling(image, sampler) && info.expression_count() == 4);
+fn of_functions(rt: HostRuntime) {
+    let (image, sampler) = (GlobalOrArgument::Argument(0), GlobalOrArgument::Argument(1));
+    let sampled = Question::OfFirst(Part::Samples(image, sampler));
+    tells_again(&rt, Sample::Sampling, sampled, "true");
+    let counts = Question::OfFirst(Part::Counts);
+    tells_again(&rt, Sample::Sampling, counts, "1,1,1,1");
+    tells_again(
+        &rt,
+        Sample::Exit,
+        Question::First(CHECKED, PLAIN),
+        "fn 0 A2 at 4 needs 8: There is a Return earlier in the control flow of the function",
+    );
+}
+
+fn is_want(error: &AnalysisError) -> bool {
+    matches!(&error.cause, FunctionError::OutOfMemory)
+}
+
+/// What is recorded of the first function of the module, asked again where memory was refused.
+fn first_info(rt: &(impl Abort + Print), alloc: Global, module: &Module) -> FunctionInfo {
+    match processed(rt, alloc, module, CHECKED, PLAIN) {
+        Ok(info) => info,
+        Err(error) => {
+            assert!(rt; is_want(&error));
+            say(rt, "a function");
+            match processed(rt, alloc, module, CHECKED, PLAIN) {
+                Ok(info) => info,
+                Err(_) => panic!(rt; "refused twice"),
+            }
         }
-        Err(_) => panic!(rt; "refused"),
     }
-    let module = made(&rt, alloc, Sample::Exit)?;
-    assert!(rt; is_misplaced(&first_info(&rt, alloc, &module)?));
-    Ok(())
 }
 
-/// Adds an info to those of functions, again where memory was refused.
-fn added<R: Abort + Print>(rt: &R, infos: &mut ModuleInfo, info: FunctionInfo) -> Result<(), Fail> {
+/// What is recorded of the first function of the sample.
+fn sample_info(rt: &(impl Abort + Print), alloc: Global, sample: Sample) -> FunctionInfo {
+    let module = made(rt, alloc, sample);
+    first_info(rt, alloc, &module)
+}
+
+/// Adds an info to no others, again where memory was refused: it has three expressions, and comes back.
+fn adds_again(rt: &(impl Abort + Print), infos: &mut ModuleInfo, info: FunctionInfo) {
     match infos.add_function(info) {
-        Ok(()) => Ok(()),
+        Ok(()) => {}
         Err(failed) => {
-            println!(rt; "an info was refused")?;
+            say(rt, "an info");
             assert!(rt; failed.value.expression_count() == 3);
             assert!(rt; infos.add_function(failed.value).is_ok());
-            Ok(())
         }
     }
 }
 
 #[test]
-fn of_infos(rt: HostRuntime) -> Result<(), Fail> {
-    let alloc = rt.alloc();
-    let module = made(&rt, alloc, Sample::Counts)?;
-    let mut infos = ModuleInfo::new(alloc);
-    match first_info(&rt, alloc, &module)? {
-        Ok(info) => added(&rt, &mut infos, info),
-        Err(_) => panic!(rt; "refused"),
-    }
+fn of_infos(rt: HostRuntime) {
+    let mut infos = ModuleInfo::new(rt.alloc());
+    adds_again(
+        &rt,
+        &mut infos,
+        sample_info(&rt, rt.alloc(), Sample::Counts),
+    );
 }

@@ -1,16 +1,6 @@
 //! The operands of each form of statement, as they are counted, and what it asks of the flow.
-use crate::tests::analysis::{expects_counts, info_at, info_of};
-use crate::tests::infos::WANT;
-use crate::tests::made::{NUMBER, nothing, one, plain, two, with_function, with_functions};
-use shader_ir::{
-    AtomicFunction, Barrier, Block, CollectiveOperation, CooperativeData, Direction, GatherMode,
-    Items, Module, RayPipelineFunction, RayQueryFunction, Statement, SubgroupOperation,
-    SwitchValue,
-};
-use shader_samples::parts;
-use shader_samples::parts::{at, branch, call, case, emit, number, store};
-use shader_typing::valid::{FunctionInfo, UniformityRequirements};
-use std::alloc::Global;
+use crate::tests::asked::{Part, Question, asks, between, decimal};
+use shader_typing::valid::UniformityRequirements;
 use std::process::Abort;
 
 const NOTHING: UniformityRequirements = UniformityRequirements(0);
@@ -19,339 +9,150 @@ const WAITS: UniformityRequirements = UniformityRequirements::WORK_GROUP_BARRIER
 
 const MATRIX: UniformityRequirements = UniformityRequirements::COOP_OPS;
 
-/// The info of a function of the statement, over five numbers.
-fn info(rt: &impl Abort, alloc: Global, statement: Statement) -> FunctionInfo {
-    let expressions = vec![in alloc; number(0), number(1), number(2), number(3), number(4)];
-    let statements = one(rt, alloc, statement);
-    let function = plain(rt, alloc, expressions.expect(rt, WANT), statements);
-    info_of(
-        rt,
-        alloc,
-        with_function(rt, alloc, Vec::new(alloc), function),
-    )
-}
-
-/// Asserts how often the statement names each of five expressions, and what it asks of the flow.
-fn counts(
-    rt: &impl Abort,
-    alloc: Global,
-    statement: Statement,
-    asked: UniformityRequirements,
+/// Asserts how often the statement names each of five numbers, and what it asks of the flow.
+fn demands(
+    rt: &(impl Abort + AllocGlobal),
+    statement: &str,
+    needed: UniformityRequirements,
     wanted: &str,
 ) {
-    let info = info(rt, alloc, statement);
-    assert!(rt; info.uniformity.requirements == asked);
-    expects_counts(rt, alloc, info, wanted);
+    let numbers = "; Literal 0 Literal 1 Literal 2 Literal 3 Literal 4";
+    let text = between(rt, numbers, statement, "");
+    let bits = decimal(rt, needed.0);
+    asks(
+        rt,
+        text.as_str(),
+        Question::OfFirst(Part::Needs),
+        bits.as_str(),
+    );
+    asks(rt, text.as_str(), Question::OfFirst(Part::Counts), wanted);
+}
+
+/// Asserts how often the statement names each of five expressions, and that it asks nothing of the flow.
+fn counts(rt: &(impl Abort + AllocGlobal), statement: &str, wanted: &str) {
+    demands(rt, statement, NOTHING, wanted);
 }
 
 #[test]
 fn of_statements_without_operands(rt: HostRuntime) {
-    let alloc = rt.alloc();
-    counts(&rt, alloc, emit(0, 5), NOTHING, "0,0,0,0,0");
-    counts(&rt, alloc, Statement::Break, NOTHING, "0,0,0,0,0");
-    counts(&rt, alloc, Statement::Continue, NOTHING, "0,0,0,0,0");
-    counts(&rt, alloc, Statement::Kill, NOTHING, "0,0,0,0,0");
+    counts(&rt, "Emit 0 5", "0,0,0,0,0");
+    counts(&rt, "Break", "0,0,0,0,0");
+    counts(&rt, "Continue", "0,0,0,0,0");
+    counts(&rt, "Kill", "0,0,0,0,0");
 }
 
 #[test]
 fn of_barriers(rt: HostRuntime) {
-    let alloc = rt.alloc();
-    let barrier = Barrier::STORAGE;
-    counts(
-        &rt,
-        alloc,
-        Statement::ControlBarrier(barrier),
-        WAITS,
-        "0,0,0,0,0",
-    );
-    counts(
-        &rt,
-        alloc,
-        Statement::MemoryBarrier(barrier),
-        WAITS,
-        "0,0,0,0,0",
-    );
+    demands(&rt, "ControlBarrier", WAITS, "0,0,0,0,0");
+    demands(&rt, "MemoryBarrier", WAITS, "0,0,0,0,0");
 }
 
 #[test]
 fn of_blocks_and_branches(rt: HostRuntime) {
-    let alloc = rt.alloc();
-    let statements = one(&rt, alloc, store(0, 1));
-    let block = Statement::Block(Block { statements });
-    counts(&rt, alloc, block, NOTHING, "1,1,0,0,0");
-    let accept = one(&rt, alloc, store(1, 2));
-    let choice = branch(0, accept, one(&rt, alloc, store(3, 3)));
-    counts(&rt, alloc, choice, NOTHING, "1,1,1,2,0");
+    counts(&rt, "Block { Store 0 1 }", "1,1,0,0,0");
+    counts(&rt, "If 0 { Store 1 2 } Else { Store 3 3 }", "1,1,1,2,0");
 }
 
 #[test]
 fn of_switches(rt: HostRuntime) {
-    let alloc = rt.alloc();
-    let first = case(SwitchValue::U32(7), one(&rt, alloc, store(1, 2)), true);
-    let second = case(SwitchValue::Default, one(&rt, alloc, store(3, 3)), false);
-    let switch = Statement::Switch {
-        selector: at(0),
-        cases: vec![in alloc; first, second].expect(&rt, WANT),
-    };
-    counts(&rt, alloc, switch, NOTHING, "1,1,1,2,0");
+    counts(
+        &rt,
+        "Switch 0 { FallingCase 7 { Store 1 2 } Default { Store 3 3 } }",
+        "1,1,1,2,0",
+    );
 }
 
 #[test]
 fn of_loops(rt: HostRuntime) {
-    let alloc = rt.alloc();
-    let around = Statement::Loop {
-        body: Block {
-            statements: one(&rt, alloc, store(0, 0)),
-        },
-        continuing: Block {
-            statements: one(&rt, alloc, store(1, 2)),
-        },
-        break_if: Some(at(3)),
-    };
-    counts(&rt, alloc, around, NOTHING, "2,1,1,1,0");
+    counts(
+        &rt,
+        "Loop { Store 0 0 } Continuing 3 { Store 1 2 }",
+        "2,1,1,1,0",
+    );
 }
 
 #[test]
 fn of_returns_and_stores(rt: HostRuntime) {
-    let alloc = rt.alloc();
-    let value = Some(at(2));
-    counts(
-        &rt,
-        alloc,
-        Statement::Return { value },
-        NOTHING,
-        "0,0,1,0,0",
-    );
-    let value = None;
-    counts(
-        &rt,
-        alloc,
-        Statement::Return { value },
-        NOTHING,
-        "0,0,0,0,0",
-    );
-    counts(&rt, alloc, store(0, 1), NOTHING, "1,1,0,0,0");
+    counts(&rt, "Return 2", "0,0,1,0,0");
+    counts(&rt, "Return", "0,0,0,0,0");
+    counts(&rt, "Store 0 1", "1,1,0,0,0");
 }
 
+/// An image, a coordinate, a value and an index.
 #[test]
 fn of_image_stores(rt: HostRuntime) {
-    let alloc = rt.alloc();
-    let write = Statement::ImageStore {
-        image: at(0),
-        coordinate: at(1),
-        array_index: Some(at(2)),
-        value: at(3),
-    };
-    counts(&rt, alloc, write, NOTHING, "1,1,1,1,0");
+    counts(&rt, "ImageStore 0 1 3 2", "1,1,1,1,0");
 }
 
+/// A pointer, a value, a result, and what is compared.
 #[test]
 fn of_atomics(rt: HostRuntime) {
-    let alloc = rt.alloc();
-    let compare = Some(at(2));
-    let exchange = Statement::Atomic {
-        pointer: at(0),
-        fun: AtomicFunction::Exchange { compare },
-        value: at(1),
-        result: at(3),
-    };
-    counts(&rt, alloc, exchange, NOTHING, "1,1,1,0,0");
-    let add = Statement::Atomic {
-        pointer: at(0),
-        fun: AtomicFunction::Add,
-        value: at(1),
-        result: at(3),
-    };
-    counts(&rt, alloc, add, NOTHING, "1,1,0,0,0");
+    counts(&rt, "AtomicExchange 0 1 3 2", "1,1,1,0,0");
+    counts(&rt, "AtomicAdd 0 1 3", "1,1,0,0,0");
 }
 
+/// An image, a coordinate, a value, an index, and what is compared.
 #[test]
 fn of_image_atomics(rt: HostRuntime) {
-    let alloc = rt.alloc();
-    let compare = Some(at(4));
-    let exchange = Statement::ImageAtomic {
-        image: at(0),
-        coordinate: at(1),
-        array_index: Some(at(2)),
-        fun: AtomicFunction::Exchange { compare },
-        value: at(3),
-    };
-    counts(&rt, alloc, exchange, NOTHING, "1,1,1,1,1");
+    counts(&rt, "ImageAtomicExchange 0 1 3 2 4", "1,1,1,1,1");
 }
 
 #[test]
 fn of_uniform_loads(rt: HostRuntime) {
-    let alloc = rt.alloc();
-    let load = Statement::WorkGroupUniformLoad {
-        pointer: at(0),
-        result: at(1),
-    };
-    counts(&rt, alloc, load, WAITS, "1,0,0,0,0");
-}
-
-fn query(fun: RayQueryFunction) -> Statement {
-    let query = at(0);
-    Statement::RayQuery { query, fun }
+    demands(&rt, "WorkGroupUniformLoad 0 1", WAITS, "1,0,0,0,0");
 }
 
 #[test]
 fn of_ray_queries(rt: HostRuntime) {
-    let alloc = rt.alloc();
-    let begin = RayQueryFunction::Initialize {
-        acceleration_structure: at(1),
-        descriptor: at(2),
-    };
-    counts(&rt, alloc, query(begin), NOTHING, "1,1,1,0,0");
-    let proceed = RayQueryFunction::Proceed { result: at(1) };
-    counts(&rt, alloc, query(proceed), NOTHING, "1,0,0,0,0");
-    let hit = RayQueryFunction::GenerateIntersection { hit_t: at(1) };
-    counts(&rt, alloc, query(hit), NOTHING, "1,1,0,0,0");
-    let confirm = RayQueryFunction::ConfirmIntersection;
-    counts(&rt, alloc, query(confirm), NOTHING, "1,0,0,0,0");
-    counts(
-        &rt,
-        alloc,
-        query(RayQueryFunction::Terminate),
-        NOTHING,
-        "1,0,0,0,0",
-    );
+    counts(&rt, "Initialize 0 1 2", "1,1,1,0,0");
+    counts(&rt, "Proceed 0 1", "1,0,0,0,0");
+    counts(&rt, "GenerateIntersection 0 1", "1,1,0,0,0");
+    counts(&rt, "ConfirmIntersection 0", "1,0,0,0,0");
+    counts(&rt, "Terminate 0", "1,0,0,0,0");
 }
 
 #[test]
 fn of_traced_rays(rt: HostRuntime) {
-    let alloc = rt.alloc();
-    let trace = RayPipelineFunction::TraceRay {
-        acceleration_structure: at(0),
-        descriptor: at(1),
-        payload: at(2),
-    };
-    let statement = Statement::RayPipelineFunction(trace);
-    counts(&rt, alloc, statement, NOTHING, "1,1,1,0,0");
+    counts(&rt, "TraceRay 0 1 2", "1,1,1,0,0");
 }
 
+/// A result, and a predicate or none.
 #[test]
 fn of_ballots(rt: HostRuntime) {
-    let alloc = rt.alloc();
-    let (result, predicate) = (at(1), Some(at(0)));
-    let asked = Statement::SubgroupBallot { result, predicate };
-    counts(&rt, alloc, asked, NOTHING, "1,0,0,0,0");
-    let predicate = None;
-    let open = Statement::SubgroupBallot { result, predicate };
-    counts(&rt, alloc, open, NOTHING, "0,0,0,0,0");
+    counts(&rt, "SubgroupBallot 1 0", "1,0,0,0,0");
+    counts(&rt, "SubgroupBallot 1", "0,0,0,0,0");
 }
 
-fn gather(mode: GatherMode) -> Statement {
-    Statement::SubgroupGather {
-        mode,
-        argument: at(1),
-        result: at(2),
-    }
-}
-
+/// An argument, a result, and whose value is taken.
 #[test]
 fn of_gathers(rt: HostRuntime) {
-    let alloc = rt.alloc();
-    counts(
-        &rt,
-        alloc,
-        gather(GatherMode::BroadcastFirst),
-        NOTHING,
-        "0,1,0,0,0",
-    );
-    counts(
-        &rt,
-        alloc,
-        gather(GatherMode::Broadcast(at(0))),
-        NOTHING,
-        "1,1,0,0,0",
-    );
-    counts(
-        &rt,
-        alloc,
-        gather(GatherMode::Shuffle(at(0))),
-        NOTHING,
-        "1,1,0,0,0",
-    );
-    counts(
-        &rt,
-        alloc,
-        gather(GatherMode::ShuffleDown(at(0))),
-        NOTHING,
-        "1,1,0,0,0",
-    );
+    counts(&rt, "BroadcastFirst 1 2", "0,1,0,0,0");
+    counts(&rt, "Broadcast 1 2 0", "1,1,0,0,0");
+    counts(&rt, "Shuffle 1 2 0", "1,1,0,0,0");
+    counts(&rt, "ShuffleDown 1 2 0", "1,1,0,0,0");
 }
 
 #[test]
 fn of_other_gathers(rt: HostRuntime) {
-    let alloc = rt.alloc();
-    counts(
-        &rt,
-        alloc,
-        gather(GatherMode::ShuffleUp(at(0))),
-        NOTHING,
-        "1,1,0,0,0",
-    );
-    counts(
-        &rt,
-        alloc,
-        gather(GatherMode::ShuffleXor(at(0))),
-        NOTHING,
-        "1,1,0,0,0",
-    );
-    counts(
-        &rt,
-        alloc,
-        gather(GatherMode::QuadBroadcast(at(0))),
-        NOTHING,
-        "1,1,0,0,0",
-    );
-    let swap = gather(GatherMode::QuadSwap(Direction::X));
-    counts(&rt, alloc, swap, NOTHING, "0,1,0,0,0");
+    counts(&rt, "ShuffleUp 1 2 0", "1,1,0,0,0");
+    counts(&rt, "ShuffleXor 1 2 0", "1,1,0,0,0");
+    counts(&rt, "QuadBroadcast 1 2 0", "1,1,0,0,0");
+    counts(&rt, "QuadSwap 1 2", "0,1,0,0,0");
 }
 
 #[test]
 fn of_collective_operations(rt: HostRuntime) {
-    let alloc = rt.alloc();
-    let sum = Statement::SubgroupCollectiveOperation {
-        op: SubgroupOperation::Add,
-        collective_op: CollectiveOperation::Reduce,
-        argument: at(0),
-        result: at(1),
-    };
-    counts(&rt, alloc, sum, NOTHING, "1,0,0,0,0");
+    counts(&rt, "SubgroupAdd 0 1", "1,0,0,0,0");
 }
 
 #[test]
 fn of_matrix_stores(rt: HostRuntime) {
-    let alloc = rt.alloc();
-    let write = Statement::CooperativeStore {
-        target: at(0),
-        tile: CooperativeData {
-            pointer: at(1),
-            stride: at(2),
-            row_major: false,
-        },
-    };
-    counts(&rt, alloc, write, MATRIX, "1,1,1,0,0");
+    demands(&rt, "CooperativeStore 0 1 2", MATRIX, "1,1,1,0,0");
 }
 
 /// A function of two arguments, and one that calls it twice.
-fn calling_twice(rt: &impl Abort, alloc: Global) -> Module {
-    let mut callee = plain(rt, alloc, Vec::new(alloc), nothing(alloc));
-    let arguments = vec![in alloc; parts::argument(NUMBER), parts::argument(NUMBER)];
-    callee.arguments = Items::from(arguments.expect(rt, WANT));
-    let passed = vec![in alloc; at(0), at(0)].expect(rt, WANT);
-    let other = vec![in alloc; at(1), at(0)].expect(rt, WANT);
-    let statements = two(rt, alloc, call(0, passed), call(0, other));
-    let expressions = vec![in alloc; number(0), number(1)].expect(rt, WANT);
-    let caller = plain(rt, alloc, expressions, statements);
-    let functions = vec![in alloc; callee, caller].expect(rt, WANT);
-    with_functions(rt, alloc, Vec::new(alloc), functions)
-}
-
 #[test]
 fn of_calls(rt: HostRuntime) {
-    let alloc = rt.alloc();
-    let caller = info_at(&rt, alloc, calling_twice(&rt, alloc), 1);
-    expects_counts(&rt, alloc, caller, "3,1");
+    let text = "; Argument u32 Argument u32 ; Literal 0 Literal 1 Call 0 0 0 Call 0 1 0";
+    asks(&rt, text, Question::Of(1, Part::Counts), "3,1");
 }

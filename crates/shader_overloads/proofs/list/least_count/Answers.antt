@@ -1,18 +1,23 @@
-use Rattle.std.proofs.Common.{arith, ◌∙◌, sym, add-one}
-use Rattle.shader_overloads.specs.Bits.{has_bit}
-use Rattle.shader_overloads.proofs.ListCountLemmas.{AtMost, best_skip, least_done, least_next}
+use Rattle.shader_overloads.specs.Masks.{has_place}
+use Rattle.shader_overloads.proofs.ListCountLemmas.{AtMost, best_first, least_done, least_next}
+use Rattle.shader_overloads.proofs.TableLemmas.{inside_itself, still_inside, taken_within}
 use Rattle.shader_overloads.proofs.list.least_count.Goals as goal
-use Rattle.shader_overloads.proofs.list.least_count.Goals.{then-has_place, else-has_place}
 
-pub loop-place-preserved : goal.loop-place-preserved
-loop-place-preserved c = elim c.if-has_place.branch [
-  | then-has_place w ↦
-      rw (add-one, w.least-is, w.min-least.ensures, w.len.ensures)
-      (least_next (has_bit c.args.members) c.args.rules.now c.loop-place.place c.loop-place.least w.rule_at.result.now w.rule_at.ensures (sym c.has_place.ensures ∙ w.if-has_place.true) c.loop-place.invariant)
-  | else-has_place w ↦
-      rw (add-one, w.least-is)
-      (best_skip AtMost (has_bit c.args.members) c.args.rules.now c.loop-place.place c.loop-place.least (sym c.has_place.ensures ∙ w.if-has_place.false) c.loop-place.invariant)
-]
+pub loop-row-init : goal.loop-row-init
+loop-row-init c = record {
+  best = best_first AtMost (has_place c.args.mask) c.args.rules.now c.first_member.result.now c.len-least.result c.first_member.ensures c.len-least.ensures;
+  inside = inside_itself c.args.mask;
+}
+
+pub rule_at-requires : goal.rule_at-requires
+rule_at-requires c = taken_within c.args.mask c.loop-row.left c.take_first.new.self c.in-Some.row _ c.requires.within c.loop-row.invariant.inside c.in-Some.ensures.first
+
+pub loop-row-preserved : goal.loop-row-preserved
+loop-row-preserved c = record {
+  best = rw (c.min-least.ensures, c.len.ensures)
+      (least_next (has_place c.args.mask) (has_place c.loop-row.left) (has_place c.take_first.new.self) c.args.rules.now c.in-Some.row c.loop-row.least c.rule_at.result.now c.rule_at.ensures (c.loop-row.invariant.inside c.in-Some.row c.in-Some.ensures.first.first.here) c.in-Some.ensures.first.others c.loop-row.invariant.best);
+  inside = still_inside c.args.mask c.loop-row.left c.take_first.new.self c.in-Some.row c.loop-row.invariant.inside c.in-Some.ensures.first;
+}
 
 pub returns : goal.returns
-returns c = least_done (has_bit c.args.members) c.args.rules.now c.loop-place.place c.loop-place.least (omega arith) c.loop-place.invariant
+returns c = least_done (has_place c.args.mask) (has_place c.loop-row.left) c.args.rules.now c.loop-row.least c.in_default.ensures.none c.loop-row.invariant.best

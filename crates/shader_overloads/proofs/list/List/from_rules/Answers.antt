@@ -1,10 +1,8 @@
-use Rattle.std.proofs.Common.{rules, ◌∙◌, ◌<◌, ap, arith}
-use Rattle.std.proofs.lemmas.Bool.{lt-ltb}
-use Rattle.shader_overloads.specs.Bits.{has_bit, items_where}
-use Rattle.shader_overloads.proofs.ListLemmas.{items_where-all}
+use Rattle.std.proofs.Common.{◌∙◌}
 use Rattle.shader_overloads.proofs.list.List.from_rules.Goals as goal
 
+pub invariant_of-result : goal.invariant_of-result
+invariant_of-result c = record { within = c.all.ensures.within }
+
 pub returns : goal.returns
-returns c =
-    ap (items_where (has_bit c.full_mask-members.result)) c.in_ok-rules.ensures
-    ∙ items_where-all (has_bit c.full_mask-members.result) c.args.rules.items (λ i h. c.full_mask-members.ensures i ∙ lt-ltb i _ (let l : i < c.len.result = search (rules, arith) in l))
+returns c = c.all.ensures.rules ∙ c.in_ok-table.ensures

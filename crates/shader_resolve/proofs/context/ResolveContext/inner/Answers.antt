@@ -1,6 +1,6 @@
 use Rattle.std.proofs.Common.{ap, sym, ◌∙◌}
 use Rattle.shader_ir.specs.Key.{inner_of}
-use Rattle.shader_resolve.proofs.KeyLemmas.{inner_fits}
+use Rattle.shader_ir.proofs.KeyLemmas.{inner_fits}
 use Rattle.shader_resolve.proofs.context.ResolveContext.inner.Goals as goal
 
 pub returns-clause-in_range : goal.returns-clause-in_range

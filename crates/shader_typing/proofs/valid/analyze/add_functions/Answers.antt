@@ -2,7 +2,7 @@ use Rattle.std.proofs.Common.{[], ap, arith, length, subst, sym, ◌∙◌}
 use Rattle.shader_chains.specs.Derivable.{AreTypes}
 use Rattle.shader_chains.specs.Program.{Function}
 use Rattle.shader_resolve.specs.Context.{context_of}
-use Rattle.shader_typing.proofs.PlaceLemmas.{IsLeft, next_left, none_left}
+use Rattle.shader_expression_types.proofs.ListLemmas.{IsLeft, next_left, none_left}
 use Rattle.shader_typing.specs.Recorded.{Recorded}
 use Rattle.shader_typing.proofs.valid.analyze.add_functions.Goals as goal
 

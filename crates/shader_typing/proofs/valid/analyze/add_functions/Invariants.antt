@@ -2,7 +2,7 @@ use Rattle.std.proofs.Common.{◌≡◌, [], length}
 use Rattle.shader_chains.specs.Derivable.{AreTypes}
 use Rattle.shader_resolve.specs.Context.{context_of}
 use Rattle.shader_steps.specs.Causes.{settings_of}
-use Rattle.shader_typing.proofs.PlaceLemmas.{IsLeft}
+use Rattle.shader_expression_types.proofs.ListLemmas.{IsLeft}
 use Rattle.shader_typing.specs.Analyzed.{FunctionsFound}
 use Rattle.shader_typing.proofs.valid.analyze.add_functions.Given as goal
 

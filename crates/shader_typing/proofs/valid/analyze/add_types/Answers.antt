@@ -1,6 +1,6 @@
 use Rattle.std.proofs.Common.{ap, arith, length, subst, sym, ◌∙◌}
 use Rattle.shader_chains.specs.Program.{Expression}
-use Rattle.shader_typing.proofs.PlaceLemmas.{IsLeft, next_left, none_left}
+use Rattle.shader_expression_types.proofs.ListLemmas.{IsLeft, next_left, none_left}
 use Rattle.shader_typing.specs.Recorded.{Recorded}
 use Rattle.shader_typing.proofs.valid.analyze.add_types.Goals as goal
 

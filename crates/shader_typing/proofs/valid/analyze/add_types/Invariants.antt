@@ -1,5 +1,5 @@
 use Rattle.std.proofs.Common.{◌≡◌, length}
-use Rattle.shader_typing.proofs.PlaceLemmas.{IsLeft}
+use Rattle.shader_expression_types.proofs.ListLemmas.{IsLeft}
 use Rattle.shader_typing.specs.Analyzed.{TypesFound}
 use Rattle.shader_typing.proofs.valid.analyze.add_types.Given as goal
 

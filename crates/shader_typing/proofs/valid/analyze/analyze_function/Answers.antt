@@ -1,7 +1,8 @@
 use Rattle.std.proofs.Common.{ap, subst, sym}
 use Rattle.shader_chains.specs.Faults.{IsFirstFault}
 use Rattle.shader_steps.specs.Causes.{IsNamed, settings_of}
-use Rattle.shader_typing.proofs.NextLemmas.{can_process_function, function_found, function_refused, passed_on}
+use Rattle.shader_typing.proofs.NextLemmas.{can_process_function, function_found, function_refused}
+use Rattle.shader_typing.proofs.PlaceLemmas.{passed_on}
 use Rattle.shader_typing.specs.Processed.{site_of}
 use Rattle.shader_typing.specs.Recorded.{Recorded}
 use Rattle.shader_typing.proofs.valid.analyze.analyze_function.Goals as goal

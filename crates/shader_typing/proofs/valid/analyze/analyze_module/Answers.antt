@@ -2,7 +2,8 @@ use Rattle.std.proofs.Common.{[], ap, subst, sym}
 use Rattle.shader_chains.specs.Derivable.{AreTypes}
 use Rattle.shader_resolve.specs.Context.{context_of}
 use Rattle.shader_steps.specs.Causes.{settings_of}
-use Rattle.shader_typing.proofs.NextLemmas.{all_found, passed_on}
+use Rattle.shader_typing.proofs.NextLemmas.{all_found}
+use Rattle.shader_typing.proofs.PlaceLemmas.{passed_on}
 use Rattle.shader_typing.specs.Recorded.{Recorded}
 use Rattle.shader_typing.proofs.valid.analyze.analyze_module.Goals as goal
 

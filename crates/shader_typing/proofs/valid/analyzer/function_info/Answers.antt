@@ -1,34 +1,24 @@
-use Rattle.std.proofs.Common.{◌≡◌, ◌<◌, false, refl, sym, ap, subst, ◌∙◌, ℕ, Result, Ok, Err, IfErr, List, None, Some, fold, length, map, replicate, slice_get, slice_index}
-use Rattle.std.specs.Result.{IsErrAnd}
-use Rattle.std.proofs.Common.{All}
+use Rattle.std.proofs.Common.{All, ◌≡◌, ◌<◌, false, refl, sym, ap, subst, ◌∙◌, ℕ, List, None, Some, fold, length, map, replicate, slice_get}
 use Rattle.std.proofs.lemmas.List.{length-replicate}
 use Rattle.shader_chains.specs.Derivable.{AreTypes, function_context}
-use Rattle.shader_chains.specs.Program.{occurrences}
 use Rattle.shader_fault_laws.proofs.Counts.{full_counts_are_faults}
-use Rattle.shader_info.specs.declared.info.ExpressionInfo.{ExpressionInfo}
 use Rattle.shader_ir.specs.Key.{FitsTypes}
-use Rattle.shader_ir.specs.declared.proc.type_resolution.TypeResolution.{TypeResolution}
 use Rattle.shader_sweeps.proofs.CountLemmas.{counts_long}
 use Rattle.shader_sweeps.specs.Joined.{asked_by, given_by}
 use Rattle.shader_sweeps.specs.Tallied.{Tallied}
 use Rattle.shader_sweeps.specs.declared.facts.Fact.{Fact}
 use Rattle.shader_chains.specs.Counts.{count_of}
-use Rattle.shader_chains.specs.Faults.{BindingArrayElement, MissingCapability, StepFault, Untyped}
-use Rattle.shader_chains.specs.Program.{statements}
+use Rattle.shader_chains.specs.Faults.{BindingArrayElement, MissingCapability, Untyped}
+use Rattle.shader_chains.specs.Program.{occurrences, statements}
 use Rattle.shader_info.specs.declared.info.FunctionInfo.{FunctionInfo}
-use Rattle.shader_steps.specs.Causes.{IsNamed, settings_of}
-use Rattle.shader_steps.specs.Found.{expression_needs_found, facts_found, kill_found, needs_found, origins_found, result_found, tallied}
+use Rattle.shader_steps.specs.Causes.{settings_of}
+use Rattle.shader_steps.specs.Found.{facts_found, tallied}
 use Rattle.shader_sweeps.proofs.StepOrigins.{facts_long}
-use Rattle.shader_sweeps.specs.Facts.{origin_at}
 use Rattle.shader_sweeps.specs.Gathered.{listed}
 use Rattle.shader_sweeps.specs.InfoOf.{infos_of}
 use Rattle.shader_typing.proofs.InfoLemmas.{IsFound, counts_fit, each_fits, fits_function, globals_within, meets_steps, no_fault}
+use Rattle.shader_typing.proofs.PlaceLemmas.{passed_on}
 use Rattle.shader_typing.proofs.valid.analyzer.function_info.Goals as goal
-
--- what is told of an error holds of the same error passed on
-passed_on : {A E : Type 0} (P : E → Type 0) {e : E} (r : Result A E) → IsErrAnd r (λ v. v ≡ e) → P e → IfErr r P
-passed_on P (Err v) is h = subst P (sym is) h
-passed_on P (Ok a) is h = absurd is
 
 pub returns-in_err-types-clause-fault : goal.returns-in_err-types-clause-fault
 returns-in_err-types-clause-fault c =

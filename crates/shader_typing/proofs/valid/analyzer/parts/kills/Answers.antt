@@ -1,4 +1,4 @@
-use Rattle.std.proofs.Common.{◌≡◌, sym, ap, subst, ◌∙◌, None, Some}
+use Rattle.std.proofs.Common.{sym, ap, subst, ◌∙◌, None}
 use Rattle.shader_chains.specs.Faults.{StepFault, misplaced}
 use Rattle.shader_fault_laws.proofs.Misplaced.{misplaced_are_faults}
 use Rattle.shader_steps.specs.Causes.{IsNamed, settings_of}

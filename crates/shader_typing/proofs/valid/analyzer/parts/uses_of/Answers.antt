@@ -1,4 +1,4 @@
-use Rattle.std.proofs.Common.{ℕ, refl, sym, ap, subst, ◌∙◌, None, Result, Ok, Err, IfOk, fold, length, map, replicate}
+use Rattle.std.proofs.Common.{ℕ, refl, sym, ap, subst, ◌∙◌, None, fold, length, map, replicate}
 use Rattle.shader_chains.specs.Program.{occurrences}
 use Rattle.shader_ir.specs.declared.name.Name.{Name}
 use Rattle.shader_steps.proofs.StepUses.{finished}
@@ -6,11 +6,8 @@ use Rattle.shader_steps.specs.Found.{tallied}
 use Rattle.shader_steps.specs.OfTheStep.{HasUses}
 use Rattle.shader_sweeps.specs.Gathered.{listed}
 use Rattle.shader_sweeps.specs.Tallied.{occurred}
+use Rattle.shader_typing.proofs.PlaceLemmas.{ok_more}
 use Rattle.shader_typing.proofs.valid.analyzer.parts.uses_of.Goals as goal
-
-ok_more : {A E : Type 0} {P Q : A → Type 0} (r : Result A E) → IfOk r P → ((a : A) → P a → Q a) → IfOk r Q
-ok_more (Ok a) h k = k a h
-ok_more (Err e) h k = tt
 
 pub returns : goal.returns
 returns c =

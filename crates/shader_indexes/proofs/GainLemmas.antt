@@ -1,0 +1,182 @@
+-- What sets gain.
+use Rattle.std.proofs.Common.{◌≡◌, ◌≢◌, refl, sym, subst, ap, ◌∙◌, ℕ, zero, suc, ◌<◌, ◌↔◌, ◌⊎◌, inl, inr, Bool, true, false, not, List, [], ◌∷◌, Option, Some, None, Result, Ok, Err, IfOk, OnOk, slice_set, length, arith, get_or-set_same, get_or-set_other}
+use Rattle.std.specs.Bool.{MatchBool}
+use Rattle.std.specs.HashSet.{HashSet, contains}
+use Rattle.std.specs.List.{Contains, zip}
+use Rattle.std.specs.List.Sorted.{IsPermutation}
+use Rattle.std.specs.Prelude.{replicate}
+use Rattle.std.proofs.lemmas.Bool.{cases_eq, false≢true}
+use Rattle.shader_arena.specs.Places.{is_member}
+use Rattle.shader_chains.proofs.ListLemmas.{cases, here, nowhere, there}
+use Rattle.shader_sweeps.proofs.PairLemmas.{puts}
+use Rattle.shader_indexes.specs.Gains.{Gains, IsIn}
+use Rattle.shader_indexes.specs.Checked.{IsLoadIndex}
+
+-- a place more
+pub flag_set : (flags : List Bool) (i : ℕ) → i < length flags → Gains (IsIn flags) (IsIn (slice_set flags i true)) (λ e. i ≡ e)
+flag_set flags i within = record { to = to; kept = kept; added = added }
+  where
+    same : is_member (slice_set flags i true) i ≡ true
+    same = rw get_or-set_same
+
+    other : (e : ℕ) → e ≢ i → is_member (slice_set flags i true) e ≡ is_member flags e
+    other e apart = rw get_or-set_other
+
+    to : (e : ℕ) → IsIn (slice_set flags i true) e → IsIn flags e ⊎ (i ≡ e)
+    to e h = elim (cases_eq i e) [
+      | inl is ↦ inr is
+      | inr apart ↦ inl (sym (other e (λ is. apart (sym is))) ∙ h)
+    ]
+
+    kept : (e : ℕ) → IsIn flags e → IsIn (slice_set flags i true) e
+    kept e h = elim (cases_eq i e) [
+      | inl is ↦ let P : ℕ → Type 0 = λ v. IsIn (slice_set flags i true) v in subst P is same
+      | inr apart ↦ other e (λ is. apart (sym is)) ∙ h
+    ]
+
+    added : (e : ℕ) → i ≡ e → IsIn (slice_set flags i true) e
+    added e is = let P : ℕ → Type 0 = λ v. IsIn (slice_set flags i true) v in subst P is same
+
+-- nothing more
+pub gains_none : (P W : ℕ → Type 0) → ((e : ℕ) → W e → ⊥) → Gains P P W
+gains_none P W never = record { to = λ e h. inl h; kept = λ e h. h; added = λ e w. absurd (never e w) }
+
+pub gains_as : (P Q V W : ℕ → Type 0) → ((e : ℕ) → V e ↔ W e) → Gains P Q V → Gains P Q W
+gains_as P Q V W same g = record {
+  to = λ e h. elim (g.to e h) [ inl old ↦ inl old | inr new ↦ inr ((same e).0 new) ];
+  kept = g.kept;
+  added = λ e w. g.added e ((same e).1 w);
+}
+
+-- one gain after another
+pub gains_both : (P Q R V W : ℕ → Type 0) → Gains P Q V → Gains Q R W → Gains P R (λ e. V e ⊎ W e)
+gains_both P Q R V W g h = record {
+  to = λ e r. elim (h.to e r) [
+    | inl q ↦ elim (g.to e q) [ inl p ↦ inl p | inr v ↦ inr (inl v) ]
+    | inr w ↦ inr (inr w)
+  ];
+  kept = λ e p. h.kept e (g.kept e p);
+  added = λ e both. elim both [ inl v ↦ h.kept e (g.added e v) | inr w ↦ h.added e w ];
+}
+
+pub gains_none_of : (P : ℕ → Type 0) → Gains P P (λ e. None ≡ Some e)
+gains_none_of P = record { to = λ e h. inl h; kept = λ e h. h; added = λ e w. absurd (cc) }
+
+pub gains_some_of : (P Q : ℕ → Type 0) (i : ℕ) → Gains P Q (λ e. i ≡ e) → Gains P Q (λ e. Some i ≡ Some e)
+gains_some_of P Q i g = gains_as P Q (λ e. i ≡ e) (λ e. Some i ≡ Some e) (λ e. (λ is. cc, λ is. cc)) g
+
+-- the operands of an image load, one after another
+pub gains_load : (P Q R S T : ℕ → Type 0) (coordinate : ℕ) (array_index sample level : Option ℕ) → Gains P Q (λ e. coordinate ≡ e) → Gains Q R (λ e. array_index ≡ Some e) →
+    Gains R S (λ e. sample ≡ Some e) → Gains S T (λ e. level ≡ Some e) → Gains P T (IsLoadIndex coordinate array_index sample level)
+gains_load P Q R S T coordinate array_index sample level first second third fourth =
+    let is_coordinate : ℕ → Type 0 = λ e. coordinate ≡ e in
+    let is_array_index : ℕ → Type 0 = λ e. array_index ≡ Some e in
+    let is_sample : ℕ → Type 0 = λ e. sample ≡ Some e in
+    let is_level : ℕ → Type 0 = λ e. level ≡ Some e in
+    gains_both P Q T is_coordinate (λ e. is_array_index e ⊎ (is_sample e ⊎ is_level e)) first
+    (gains_both Q R T is_array_index (λ e. is_sample e ⊎ is_level e) second (gains_both R S T is_sample is_level third fourth))
+
+-- one of the items brings the place
+abbrev pub Brings : {X : Type 0} → (X → ℕ → Type 0) → List X → ℕ → Type 0
+Brings {X} W items e = (x : X) × Contains items x × W x e
+
+module _ {X : Type 0} (W : X → ℕ → Type 0) where
+  -- where the set and what the items bring are the whole, so they are after one more item
+  pub brought : (x : X) (rest : List X) (All S T : ℕ → Type 0) → Gains (Brings W (x ∷ rest)) All S → Gains S T (W x) → Gains (Brings W rest) All T
+  brought x rest All S T whole more = record {
+    to = λ e h. elim (whole.to e h) [
+      | inl brings ↦ elim (cases x rest brings.0 brings.1) [
+        | inl is ↦ let P : X → Type 0 = λ v. W v e in inr (more.added e (subst P (sym is) brings.2))
+        | inr later ↦ inl (brings.0, later, brings.2)
+      ]
+      | inr in_set ↦ inr (more.kept e in_set)
+    ];
+    kept = λ e brings. whole.kept e (brings.0, there x rest brings.0 brings.1, brings.2);
+    added = λ e h. elim (more.to e h) [
+      | inl old ↦ whole.added e old
+      | inr new ↦ whole.kept e (x, here x rest, new)
+    ];
+  }
+
+  -- at the end the set is the whole
+  pub whole_of : (All S : ℕ → Type 0) → Gains (Brings W []) All S → (e : ℕ) → S e ↔ All e
+  whole_of All S whole e = (λ h. whole.added e h, λ h. elim (whole.to e h) [ inl brings ↦ absurd (nowhere brings.0 brings.1) | inr in_set ↦ in_set ])
+
+  -- at the start the items are
+  pub nothing_yet : (items : List X) (S : ℕ → Type 0) → ((e : ℕ) → S e → ⊥) → Gains (Brings W items) (Brings W items) S
+  nothing_yet items S none = gains_none (Brings W items) S none
+
+  -- over a set that has something
+  pub over_old : (items : List X) (S : ℕ → Type 0) → Gains (Brings W items) (λ e. S e ⊎ Brings W items e) S
+  over_old items S = record {
+    to = λ e h. elim h [ inl old ↦ inr old | inr brings ↦ inl brings ];
+    kept = λ e brings. inr brings;
+    added = λ e old. inl old;
+  }
+
+  pub gained_all : (items : List X) (S T : ℕ → Type 0) → Gains (Brings W []) (λ e. S e ⊎ Brings W items e) T → Gains S T (Brings W items)
+  gained_all items S T whole =
+      let same = whole_of (λ e. S e ⊎ Brings W items e) T whole in
+      record { to = λ e h. (same e).0 h; kept = λ e h. (same e).1 (inl h); added = λ e h. (same e).1 (inr h) }
+
+-- no flag is set
+pub none_set : (count e : ℕ) → IsIn (replicate count false) e → ⊥
+none_set zero e h = absurd (false≢true h)
+none_set (suc count) zero h = absurd (false≢true h)
+none_set (suc count) (suc e) h = none_set count e h
+
+-- a key more
+pub key_put : {S : Type 0} {same : ℕ → ℕ → Bool} (s : HashSet ℕ S) (keys : List ℕ) (k : ℕ) (added : Bool) → MatchBool added (IsPermutation (k ∷ s.keys) keys) (keys ≡ s.keys) →
+    added ≡ not (contains same s k) → ((x y : ℕ) → same x y ≡ true → x ≡ y) → Gains (Contains s.keys) (Contains keys) (λ e. k ≡ e)
+key_put s keys k added put told is =
+    let members = puts is k s.keys keys added put told in
+    record {
+      to = λ e h. elim (cases k s.keys e (members.to e h)) [ inl new ↦ inr new | inr old ↦ inl old ];
+      kept = λ e h. members.from e (there k s.keys e h);
+      added = λ e new. let P : ℕ → Type 0 = λ v. Contains (k ∷ s.keys) v in members.from e (subst P new (here k s.keys));
+    }
+
+module _ {X : Type 0} (W : X → ℕ → Type 0) where
+  -- one more item of what is left
+  pub brought_at : (items : List X) (x : X) (rest : List X) (All S T : ℕ → Type 0) → items ≡ x ∷ rest → Gains (Brings W items) All S → Gains S T (W x) → Gains (Brings W rest) All T
+  brought_at items x rest All S T is whole more =
+      let P : List X → Type 0 = λ v. Gains (Brings W v) All S in
+      brought W x rest All S T (subst P is whole) more
+
+  -- nothing is left
+  pub whole_at : (items : List X) (All S : ℕ → Type 0) → items ≡ [] → Gains (Brings W items) All S → (e : ℕ) → S e ↔ All e
+  whole_at items All S is whole = let P : List X → Type 0 = λ v. Gains (Brings W v) All S in whole_of W All S (subst P is whole)
+
+  -- all that items bring has come
+  pub gained_at : (items left : List X) (S T : ℕ → Type 0) → left ≡ [] → Gains (Brings W left) (λ e. S e ⊎ Brings W items e) T → Gains S T (Brings W items)
+  gained_at items left S T is whole = let P : List X → Type 0 = λ v. Gains (Brings W v) (λ e. S e ⊎ Brings W items e) T in gained_all W items S T (subst P is whole)
+
+-- where nothing was there, what is wanted is there
+pub from_nothing : (S T W : ℕ → Type 0) → ((e : ℕ) → S e → ⊥) → Gains S T W → (e : ℕ) → T e ↔ W e
+from_nothing S T W none g e = (λ h. elim (g.to e h) [ inl old ↦ absurd (none e old) | inr wanted ↦ wanted ], λ wanted. g.added e wanted)
+
+-- the pairs of two lists, from the first on
+pub zip_step : {X Y : Type 0} (xs xs' : List X) (ys ys' : List Y) (x : X) (y : Y) → xs ≡ x ∷ xs' → ys ≡ y ∷ ys' → zip xs ys ≡ (x, y) ∷ zip xs' ys'
+zip_step xs xs' ys ys' x y is_x is_y = ap (λ v. zip v ys) is_x ∙ ap (λ v. zip (x ∷ xs') v) is_y
+
+zip_none : {X Y : Type 0} (xs : List X) (ys : List Y) → ys ≡ [] → zip xs ys ≡ []
+zip_none [] ys none = refl
+zip_none (x ∷ xs) [] none = refl
+zip_none (x ∷ xs) (y ∷ ys) none = absurd (cc)
+
+empty_of : {X : Type 0} (xs : List X) → length xs ≡ 0 → xs ≡ []
+empty_of [] none = refl
+empty_of (x ∷ xs) none = absurd (omega (arith, none))
+
+pub zip_ends : {X Y : Type 0} (xs : List X) (ys : List Y) → (length xs ≡ 0) ⊎ (length ys ≡ 0) → zip xs ys ≡ []
+zip_ends xs ys (inl none) = ap (λ v. zip v ys) (empty_of xs none)
+zip_ends xs ys (inr none) = zip_none xs ys (empty_of ys none)
+
+-- of an answer that is none where memory was wanted
+pub on_ok : {T E : Type 0} (r : Result T E) (A B : Type 0) → (A → B) → OnOk r A → OnOk r B
+on_ok (Ok x) A B f a = f a
+on_ok (Err e) A B f a = tt
+
+pub if_ok : {T E : Type 0} (r : Result T E) (A B : T → Type 0) → ((x : T) → A x → B x) → IfOk r A → IfOk r B
+if_ok (Ok x) A B f a = f x a
+if_ok (Err e) A B f a = tt

@@ -1,0 +1,55 @@
+//! What expressions are made of, beside operators.
+
+use crate::code::Code;
+use json::Value;
+use shader_ir::{CooperativeData, ImageQuery, SampleLevel};
+use shader_json_data::{Fields, Read, Variant};
+use shader_json_values::{Context, Failure};
+
+impl Read for Code<SampleLevel> {
+    fn read(context: &mut Context, value: &Value<'_>) -> Result<Code<SampleLevel>, Failure> {
+        let Variant { name, data } = Variant::of(context, value)?;
+        let found = match (name, data) {
+            ("Auto", None) => SampleLevel::Auto,
+            ("Zero", None) => SampleLevel::Zero,
+            ("Exact", Some(data)) => SampleLevel::Exact(data.read(context)?),
+            ("Bias", Some(data)) => SampleLevel::Bias(data.read(context)?),
+            ("Gradient", Some(data)) => {
+                let fields = data.fields(context)?;
+                SampleLevel::Gradient {
+                    x: fields.needed(context, "x")?,
+                    y: fields.needed(context, "y")?,
+                }
+            }
+            _ => return Err(context.refused("a level to sample at")),
+        };
+        Ok(Code(found))
+    }
+}
+
+impl Read for Code<ImageQuery> {
+    fn read(context: &mut Context, value: &Value<'_>) -> Result<Code<ImageQuery>, Failure> {
+        let Variant { name, data } = Variant::of(context, value)?;
+        let found = match (name, data) {
+            ("Size", Some(data)) => ImageQuery::Size {
+                level: data.fields(context)?.optional(context, "level")?,
+            },
+            ("NumLevels", None) => ImageQuery::NumLevels,
+            ("NumLayers", None) => ImageQuery::NumLayers,
+            ("NumSamples", None) => ImageQuery::NumSamples,
+            _ => return Err(context.refused("a query of an image")),
+        };
+        Ok(Code(found))
+    }
+}
+
+impl Read for Code<CooperativeData> {
+    fn read(context: &mut Context, value: &Value<'_>) -> Result<Code<CooperativeData>, Failure> {
+        let fields = Fields::of(context, value)?;
+        Ok(Code(CooperativeData {
+            pointer: fields.needed(context, "pointer")?,
+            stride: fields.needed(context, "stride")?,
+            row_major: fields.needed(context, "row_major")?,
+        }))
+    }
+}

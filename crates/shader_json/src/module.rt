@@ -1,0 +1,70 @@
+//! Modules.
+ghost use Rattle.std.specs.Prelude.{◌≡◌, ◌<◌, ◌↔◌, length, Err, IfErr, IsSome, OnOk};
+ghost use Rattle.std.specs.Str.{IsUtf8};
+ghost use Rattle.json.specs.Json.{document};
+ghost use Rattle.shader_json_values.specs.Errors.{Tells, most_bytes};
+
+use crate::expressions::Expressions;
+use crate::functions::{EntryPoints, Functions};
+use json::{Scratch, Value};
+use shader_ir::Module;
+use shader_json_data::Fields;
+use shader_json_values::{Context, Failure, MOST_BYTES, ReadError, parse};
+use std::alloc::Global;
+use std::str;
+
+/// The module that a JSON value is.
+fn module(context: &mut Context, value: &Value<'_>) -> Result<Module, Failure> {
+    let fields = Fields::of(context, value)?;
+    let types = fields.needed(context, "types")?;
+    let Expressions(global_expressions) = fields.needed(context, "global_expressions")?;
+    let Functions(functions) = fields.needed(context, "functions")?;
+    let EntryPoints(entry_points) = fields.needed(context, "entry_points")?;
+    Ok(Module {
+        types,
+        special_types: fields.needed(context, "special_types")?,
+        constants: fields.needed(context, "constants")?,
+        overrides: fields.needed(context, "overrides")?,
+        global_variables: fields.needed(context, "global_variables")?,
+        global_expressions,
+        functions,
+        entry_points,
+        diagnostic_filters: fields.needed(context, "diagnostic_filters")?,
+    })
+}
+
+/// The module that a text is.
+fn read_text(alloc: Global, text: &str) -> Result<Module, ReadError>
+    ensures ok { OnOk result (IsSome (document text.now)) }
+    ensures err { IfErr result (Tells text.now) }
+{
+    let mut scratch = Scratch::new(alloc);
+    let root = parse(alloc, text, &mut scratch)?;
+    match module(&mut Context::new(alloc), &root) {
+        Ok(module) => Ok(module),
+        Err(failure) => Err(failure.told(alloc, &root)),
+    }
+}
+
+/// The module that a JSON text is, as `serde_json` prints naga's.
+///
+/// Fields that the module here lacks are ignored. All else that naga wouldn't print is refused with its path.
+///
+/// # Errors
+///
+/// Text that is too long, no JSON or no module, and want of memory.
+pub fn read_module(alloc: Global, text: &[u8]) -> Result<Module, ReadError>
+    ensures ok { OnOk result (IsUtf8 text.now × IsSome (document text.now)) }
+    ensures err { IfErr result (Tells text.now) }
+    ensures too_long { (result ≡ Err ReadError.TooLong) ↔ (most_bytes < length text.now) }
+{
+    if text.len() > MOST_BYTES {
+        return Err(ReadError::TooLong);
+    }
+    match str::from_utf8(text) {
+        Ok(text) => read_text(alloc, text),
+        Err(error) => Err(ReadError::NotJson {
+            byte: error.valid_up_to(),
+        }),
+    }
+}

@@ -1,0 +1,41 @@
+//! Constants, overrides and variables of a module.
+
+use crate::fields::Fields;
+use crate::values::Read;
+use json::Value;
+use shader_ir::{Constant, GlobalVariable, Override};
+use shader_json_values::{Context, Failure};
+
+impl Read for Constant {
+    fn read(context: &mut Context, value: &Value<'_>) -> Result<Constant, Failure> {
+        let fields = Fields::of(context, value)?;
+        Ok(Constant {
+            name: fields.optional(context, "name")?,
+            ty: fields.needed(context, "ty")?,
+            init: fields.needed(context, "init")?,
+        })
+    }
+}
+
+impl Read for Override {
+    fn read(context: &mut Context, value: &Value<'_>) -> Result<Override, Failure> {
+        let fields = Fields::of(context, value)?;
+        Ok(Override {
+            name: fields.optional(context, "name")?,
+            ty: fields.needed(context, "ty")?,
+            init: fields.optional(context, "init")?,
+        })
+    }
+}
+
+impl Read for GlobalVariable {
+    fn read(context: &mut Context, value: &Value<'_>) -> Result<GlobalVariable, Failure> {
+        let fields = Fields::of(context, value)?;
+        Ok(GlobalVariable {
+            name: fields.optional(context, "name")?,
+            space: fields.needed(context, "space")?,
+            ty: fields.needed(context, "ty")?,
+            init: fields.optional(context, "init")?,
+        })
+    }
+}

@@ -1,0 +1,69 @@
+//! The JSON value that a text is.
+ghost use Rattle.std.specs.Prelude.{◌≡◌, ◌⊎◌, Some, IfOk, IfErr};
+ghost use Rattle.json.specs.Json.{document};
+ghost use Rattle.json.specs.Value.{value_view};
+ghost use Rattle.shader_json_values.specs.declared.error.ReadError.TheVariants.{OutOfMemory};
+ghost use Rattle.shader_json_values.specs.Errors.{IsOfText, Tells};
+
+use crate::error::ReadError;
+use json::{Error, MAX_DEPTH, Reader, Scratch, Token, Value};
+use std::alloc::Global;
+
+/// The JSON value that a text is.
+///
+/// # Errors
+///
+/// Text that is no JSON or nests more than 128 deep, with the place where that shows, and want of memory.
+pub fn parse<'a>(
+    alloc: Global,
+    text: &'a str,
+    scratch: &'a mut Scratch,
+) -> Result<Value<'a>, ReadError>
+    ensures ok { IfOk result (λ value. document text.now ≡ Some (value_view value)) }
+    ensures err { IfErr result (Tells text.now) }
+{
+    let mut reader = Reader::new(text, scratch)?;
+    let value = match Value::read(alloc, &mut reader, MAX_DEPTH) {
+        Ok(value) => value,
+        Err(Error::OutOfMemory) => return Err(ReadError::OutOfMemory),
+        Err(_) => return Err(refusal(alloc, text, reader.offset())),
+    };
+    if reader.next().is_some() {
+        return Err(refusal(alloc, text, reader.offset()));
+    }
+    Ok(value)
+}
+
+/// Why a text is refused where a reader stopped at that byte.
+fn refusal(alloc: Global, text: &str, byte: usize) -> ReadError
+    ensures { (result ≡ OutOfMemory) ⊎ IsOfText result }
+{
+    let mut scratch = Scratch::new(alloc);
+    match Reader::new(text, &mut scratch) {
+        Ok(reader) => match too_deep(reader, text.len()) {
+            Some(place) if place < byte => ReadError::TooDeep { byte: place },
+            _ => ReadError::NotJson { byte },
+        },
+        Err(_) => ReadError::OutOfMemory,
+    }
+}
+
+/// Where the first array or object begins that is inside of too many others, if that is among so many tokens.
+fn too_deep(mut reader: Reader<'_>, most_tokens: usize) -> Option<usize> {
+    let mut open: usize = 0;
+    for _token in 0..most_tokens {
+        let place = reader.offset();
+        match reader.next() {
+            Some(Token::BeginArray | Token::BeginObject) => {
+                if open == MAX_DEPTH {
+                    return Some(place);
+                }
+                open = open.saturating_add(1);
+            }
+            Some(Token::EndArray | Token::EndObject) => open = open.saturating_sub(1),
+            Some(_) => {}
+            None => return None,
+        }
+    }
+    None
+}

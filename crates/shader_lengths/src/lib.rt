@@ -1,0 +1,13 @@
+//! How many items an index may name, and which indexes are known.
+#![tactic(auto)]
+
+mod error;
+mod indexes;
+pub mod laws;
+mod lengths;
+#[cfg(test)]
+mod tests;
+
+pub use error::IndexableLengthError;
+pub use indexes::known_index_among;
+pub use lengths::{IndexableLength, IndexableLengths, ToIndexableLength, base_length, sizes_known};

@@ -1,0 +1,154 @@
+//! Sets of the numbers of rows.
+ghost use Rattle.std.specs.Prelude.{◌≡◌, ◌≤◌, ◌<◌, ◌==◌, ◌&&◌, ◌||◌, ◌/◌, ◌%◌, ◌^◌, nat_lt, ℕ, false, IfNone, IfSome};
+ghost use Rattle.shader_overloads.specs.Bits.{has_bit};
+ghost use Rattle.shader_overloads.specs.Masks.{IsBelow, IsLeastPlace, IsTaken, has_place};
+
+use std::ops::BitAnd;
+
+/// A set of numbers below 192: a bit of three words for each.
+#[derive(Clone, Copy)]
+pub struct Mask {
+    low: u64,
+    middle: u64,
+    high: u64,
+}
+
+#[tactic(auto, unfolding(crate::specs::Masks::has_place))]
+impl Mask {
+    pub const EMPTY: Mask = Mask {
+        low: 0,
+        middle: 0,
+        high: 0,
+    };
+
+    pub fn empty() -> Mask
+        ensures { (k : ℕ) → has_place result k ≡ false }
+    {
+        Self::EMPTY
+    }
+
+    /// The numbers below a count.
+    pub fn below(count: usize) -> Mask
+        requires { count ≤ 192 }
+        ensures { (k : ℕ) → has_place result k ≡ nat_lt k count }
+    {
+        Mask {
+            low: ones(count),
+            middle: ones(count.saturating_sub(64)),
+            high: ones(count.saturating_sub(128)),
+        }
+    }
+
+    /// The numbers `12 * i + j`, where `i` below 13 is the place of a set bit of the first number, and `j` below 12 one of the second.
+    pub fn pairs(groups: u16, members: u16) -> Mask
+        ensures pairs { (k : ℕ) → k < 156 → has_place result k ≡ (has_bit groups (k / 12) && has_bit members (k % 12)) }
+        ensures within { IsBelow result 156 }
+    {
+        let groups = groups as u64 & 0x1fff;
+        let members = members as u64 & 0xfff;
+        let first = five_groups(groups & 0x1f, members);
+        let second = five_groups(groups >> 5 & 0x1f, members);
+        let third = five_groups(groups >> 10, members);
+        Mask {
+            low: first + (second << 60),
+            middle: (second >> 4) + (third << 56),
+            high: third >> 8,
+        }
+    }
+
+    pub fn has(self, place: usize) -> bool
+        requires { place < 192 }
+        ensures { result ≡ has_place self place }
+    {
+        if place < 64 {
+            self.low >> place & 1 == 1
+        } else if place < 128 {
+            self.middle >> (place - 64) & 1 == 1
+        } else {
+            self.high >> (place - 128) & 1 == 1
+        }
+    }
+
+    pub fn insert(&mut self, place: usize)
+        requires { place < 192 }
+        ensures { (k : ℕ) → has_place self.new k ≡ (k == place || has_place self.old k) }
+    {
+        if place < 64 {
+            self.low |= 1 << place;
+        } else if place < 128 {
+            self.middle |= 1 << (place - 64);
+        } else {
+            self.high |= 1 << (place - 128);
+        }
+    }
+
+    /// The least number.
+    pub fn first(self) -> Option<usize>
+        ensures none { IfNone result ((k : ℕ) → has_place self k ≡ false) }
+        ensures first { IfSome result (IsLeastPlace self) }
+    {
+        let mut left = self;
+        left.take_first()
+    }
+
+    /// Takes the least number out.
+    pub fn take_first(&mut self) -> Option<usize>
+        ensures none { IfNone result ((k : ℕ) → has_place self.old k ≡ false) }
+        ensures first { IfSome result (λ place. IsTaken self.old place self.new) }
+    {
+        if self.low != 0 {
+            let place = self.low.trailing_zeros() as usize;
+            self.low &= self.low - 1;
+            return Some(place);
+        }
+        if self.middle != 0 {
+            let place = self.middle.trailing_zeros() as usize;
+            self.middle &= self.middle - 1;
+            return Some(64 + place);
+        }
+        if self.high != 0 {
+            let place = self.high.trailing_zeros() as usize;
+            self.high &= self.high - 1;
+            return Some(128 + place);
+        }
+        None
+    }
+}
+
+impl BitAnd for Mask {
+    type Output = Mask;
+
+    ghost bitand_gives = { λ a b both. (k : ℕ) → has_place both k ≡ (has_place a k && has_place b k) };
+
+    fn bitand(self, other: Mask) -> Mask {
+        Mask {
+            low: self.low & other.low,
+            middle: self.middle & other.middle,
+            high: self.high & other.high,
+        }
+    }
+}
+
+/// A word whose lowest bits are set, all of them from a count of 64 on.
+fn ones(count: usize) -> u64
+    ensures below { (k : ℕ) → k < 64 → has_bit result k ≡ nat_lt k count }
+    ensures above { (k : ℕ) → 64 ≤ k → has_bit result k ≡ false }
+{
+    if count >= 64 {
+        u64::MAX
+    } else {
+        (1 << count) - 1
+    }
+}
+
+/// The members in 12 bits for each set bit of the groups, and 12 zeros for each other.
+fn five_groups(groups: u64, members: u64) -> u64
+    requires groups { groups < 32 }
+    requires members { members < 4096 }
+    ensures pairs { (k : ℕ) → k < 60 → has_bit result k ≡ (has_bit groups (k / 12) && has_bit members (k % 12)) }
+    ensures within { result < 2 ^ 60 }
+{
+    // Moves each bit from place i to place 12 i: the factor has the multiples of 11, and the mask those of 12.
+    let spread = groups * 0x1002_0040_0801 & 0x1_0010_0100_1001;
+    spread * members
+}

@@ -1,0 +1,122 @@
+-- What is told of what the analysis records is what is to be told.
+use Rattle.std.proofs.Common.{◌≡◌, ◌∙◌, sym, subst, ap, ℕ, ◌<◌, ◌↔◌, List, Some, None, Option, map, slice_get, slice_index, IsTrue, refl}
+use Rattle.std.specs.Int.{IsBitSet}
+use Rattle.std.specs.Option.{is_some, option_map}
+use Rattle.std.specs.Prelude.{All}
+use Rattle.std.proofs.lemmas.List.{length-map}
+use Rattle.std.proofs.lemmas.Option.{get_or_from_slice_get, slice_get-map, slice_get_within}
+use Rattle.shader_chains.specs.Exact.{IsExact, IsExactModule}
+use Rattle.shader_chains.specs.Faults.{BindingArrayElement, Cause, CountFull, IsAccepted, IsFirstFault, MissingCapability, NoPlace, NonUniformControlFlow, Settings, Untyped}
+use Rattle.shader_chains.specs.Infos.{InGlobal, Picks, bit_of}
+use Rattle.shader_chains.specs.Origins.{ResultOrigin}
+use Rattle.shader_chains.specs.Program.{Function, Module}
+use Rattle.shader_chains.specs.Uses.{Uses}
+use Rattle.shader_info.specs.declared.error.AnalysisError.{AnalysisError}
+use Rattle.shader_info.specs.declared.error.AnalysisPlace.{AnalysisPlace}
+use Rattle.shader_info.specs.declared.error.AnalysisPlace.TheVariants as place
+use Rattle.shader_info.specs.declared.error.ExpressionError.TheVariants as expression
+use Rattle.shader_info.specs.declared.error.FunctionError.{FunctionError}
+use Rattle.shader_info.specs.declared.error.FunctionError.TheVariants as error
+use Rattle.shader_info.specs.declared.flags.GlobalUse.{GlobalUse}
+use Rattle.shader_info.specs.declared.info.FunctionInfo.{FunctionInfo}
+use Rattle.shader_resolve.specs.Outcome.{refusal_of}
+use Rattle.shader_steps.specs.Causes.{IsNamed, disruptor_of}
+use Rattle.shader_sweeps.specs.InfoOf.{info_of, infos_of}
+use Rattle.shader_typing.specs.Processed.{IsFunctionAt, site_of}
+use Rattle.shader_typing.specs.Recorded.{Recorded}
+use Rattle.shader_reports.specs.Reports.{AreCounts, ArePairs, AreReports, AreUses, IsFunctionReport, IsModuleReport, Varies, kind_of, places_of}
+use Rattle.shader_reports.specs.Told.{ArePairsOf, AreTold, IsInfoAt, IsTold, Tells, TellsAll, TellsRefusal, told_kind}
+use Rattle.shader_reports.specs.declared.report.FaultKind.{FaultKind}
+use Rattle.shader_reports.specs.declared.report.FunctionReport.{FunctionReport}
+use Rattle.shader_reports.specs.declared.report.ModuleReport.{ModuleReport}
+use Rattle.shader_reports.specs.declared.report.PlaceReport.{PlaceReport}
+
+-- ---- of a function
+
+-- the bits that are recorded of a global
+bits_at : (uses : List GlobalUse) (g : ℕ) (used : GlobalUse) → slice_get uses g ≡ Some used → slice_index (map (λ u. u.0) uses) g ≡ used.0
+bits_at uses g used at =
+    get_or_from_slice_get (map (λ u. u.0) uses) g used.0 0 (slice_get-map (λ u. u.0) uses g ∙ ap (option_map (λ (u : GlobalUse). u.0)) at)
+
+uses_are : (m : Module) (f : Function) (info : FunctionInfo) → IsExact m f (info_of info) → AreUses m f info.global_uses
+uses_are m f info exact = record {
+  each = sym (length-map info.global_uses (λ (u : GlobalUse). u.0)) ∙ exact.tables.global_uses;
+  few = λ g used at. subst (λ n. n < 16) (bits_at info.global_uses g used at) (exact.tables.few_uses g);
+  bits = λ g used u at. subst (λ n. IsBitSet n (bit_of u) ↔ Uses m f g u) (bits_at info.global_uses g used at) (exact.uses g u);
+}
+
+pairs_are : (m : Module) (f : Function) (info : FunctionInfo) (pairs : List (ℕ × ℕ)) → IsExact m f (info_of info) → ArePairsOf info pairs → ArePairs m f pairs
+pairs_are m f info pairs exact told = record {
+  ascending = told.ascending;
+  members = λ image sampler. (
+    λ h. (exact.pairs (InGlobal image) (InGlobal sampler)).0 ((told.members image sampler).0 h),
+    λ h. (told.members image sampler).1 ((exact.pairs (InGlobal image) (InGlobal sampler)).1 h),
+  );
+}
+
+counts_are : (m : Module) (f : Function) (info : FunctionInfo) → IsExact m f (info_of info) → AreCounts f (map (λ e. e.ref_count) info.expressions)
+counts_are m f info exact = record { each = exact.tables.counts; exact = exact.counts }
+
+varies_are : (m : Module) (f : Function) (o : Option ℕ) → Picks (λ h. (r : Function) × ResultOrigin m f r h) o → IsTrue (is_some o) ↔ Varies m f
+varies_are m f (Some h) picked = (λ _. (picked.0, h, picked.1), λ _. refl)
+varies_are m f None picked = (λ e. cc, λ v. absurd (picked v.1 (v.0, v.2)))
+
+report_is : (m : Module) (f : Function) (info : FunctionInfo) (report : FunctionReport) → IsExact m f (info_of info) → Tells info report → IsFunctionReport m f report
+report_is m f info report exact told = record {
+  uses = subst (AreUses m f) (sym told.uses) (uses_are m f info exact);
+  pairs = pairs_are m f info report.pairs exact told.pairs;
+  counts = subst (AreCounts f) (sym told.counts) (counts_are m f info exact);
+  varies = subst (λ b. IsTrue b ↔ Varies m f) (sym told.varies) (varies_are m f info.uniformity.non_uniform_result exact.result);
+}
+
+-- ---- of a module
+
+info_at : (infos : List FunctionInfo) (i : ℕ) (info : FunctionInfo) → slice_get infos i ≡ Some info → slice_get (infos_of infos) i ≡ Some (info_of info)
+info_at infos i info at = slice_get-map info_of infos i ∙ ap (option_map info_of) at
+
+-- the info recorded of a place is exact for the function there
+exact_at : (m : Module) (recorded : Recorded) (at : AnalysisPlace) (info : FunctionInfo) (f : Function) →
+    IsExactModule m recorded.global_expressions (infos_of recorded.functions) (infos_of recorded.entry_points) →
+    IsInfoAt recorded at info → IsFunctionAt m at f → IsExact m f (info_of info)
+exact_at m recorded (place.ConstExpression e) info f exact held there = absurd there
+exact_at m recorded (place.Function i) info f exact held there = exact.exact_functions i f (info_of info) there (info_at recorded.functions i info held)
+exact_at m recorded (place.EntryPoint i) info f exact held there =
+    subst (λ v. IsExact m v (info_of info)) there.2 (exact.exact_entry_points i there.0 (info_of info) there.1 (info_at recorded.entry_points i info held))
+
+told_at : (recorded : Recorded) (reports : List PlaceReport) (i : ℕ) (r : PlaceReport) → All (IsTold recorded) reports → slice_get reports i ≡ Some r → IsTold recorded r
+told_at recorded reports i r told at = subst (IsTold recorded) (get_or_from_slice_get reports i r r at) (told i r (slice_get_within reports i r at))
+
+reports_are : (m : Module) (recorded : Recorded) (reports : List PlaceReport) →
+    IsExactModule m recorded.global_expressions (infos_of recorded.functions) (infos_of recorded.entry_points) →
+    AreTold recorded (places_of m) reports → AreReports m reports
+reports_are m recorded reports exact told = record {
+  places = told.places;
+  each = λ i r f at there.
+      let t = told_at recorded reports i r told.each at in
+      report_is m f t.info r.report (exact_at m recorded r.place t.info f exact t.held there) t.tells;
+}
+
+-- ---- of a refusal
+
+-- the kind that is told of a refusal is that of the cause that it names
+kind_is : (IsCause : Cause → Type 0) (failure : FunctionError) (kind : FaultKind) → told_kind failure ≡ Some kind → IsNamed IsCause failure →
+    (cause : Cause) × IsCause cause × (kind ≡ kind_of cause)
+kind_is IsCause (error.Expression e (expression.Resolve failure)) kind told named = (Untyped e (refusal_of failure), named, cc)
+kind_is IsCause (error.Expression e (expression.MissingCapabilities wanted)) kind told named = (MissingCapability e named.0, named.2, cc)
+kind_is IsCause (error.Expression e expression.ExpectedGlobalOrArgument) kind told named = (NoPlace e, named, cc)
+kind_is IsCause (error.Expression e expression.BindingArrayElement) kind told named = (BindingArrayElement e, named, cc)
+kind_is IsCause (error.NonUniformControlFlow needs e blamed) kind told named = (NonUniformControlFlow needs.0 e (disruptor_of blamed), named, cc)
+kind_is IsCause (error.CountFull e) kind told named = (CountFull e, named, cc)
+kind_is IsCause error.OutOfMemory kind told named = cc
+
+pub refusal_is : (m : Module) (settings : Settings) (failure : AnalysisError) (report : ModuleReport) →
+    IsNamed (IsFirstFault m settings (site_of failure.place)) failure.cause → TellsRefusal failure report → IsModuleReport m settings report
+refusal_is m settings failure report named told =
+    let found = kind_is (IsFirstFault m settings (site_of failure.place)) failure.cause told.kind told.told named in
+    subst (IsModuleReport m settings) (sym told.refused) (record { cause = found.0; first = found.1; kind = found.2 })
+
+pub acceptance_is : (m : Module) (settings : Settings) (recorded : Recorded) (report : ModuleReport) →
+    IsExactModule m recorded.global_expressions (infos_of recorded.functions) (infos_of recorded.entry_points) → IsAccepted m settings →
+    TellsAll m recorded report → IsModuleReport m settings report
+acceptance_is m settings recorded report exact clean told =
+    subst (IsModuleReport m settings) (sym told.accepted) (clean, reports_are m recorded told.reports exact told.told)

@@ -1,0 +1,4 @@
+pub mod ExactReports
+pub mod PairLemmas
+pub mod PlaceLemmas
+pub mod Unique

@@ -1,0 +1,10 @@
+use Rattle.std.proofs.Common.{length, map}
+use Rattle.std.specs.List.{range_with_len}
+use Rattle.shader_info.specs.declared.error.AnalysisPlace.TheVariants.{EntryPoint, Function}
+use Rattle.shader_reports.proofs.PlaceLemmas.{one_more}
+use Rattle.shader_reports.proofs.making.add_entry_points.Goals as goal
+
+pub loop-index-preserved : goal.loop-index-preserved
+loop-index-preserved c =
+    one_more c.args.infos.now (map Function (range_with_len 0 (length c.args.module.now.functions))) EntryPoint c.loop-index.index c.get_entry_point.result.now
+    c.loop-index.reports.items c.add_report.new.reports.items c.loop-index.invariant c.get_entry_point.ensures c.in_ok-add_report.ensures

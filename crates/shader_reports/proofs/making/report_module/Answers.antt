@@ -1,0 +1,20 @@
+use Rattle.std.proofs.lemmas.Result.{IfOk-weaker}
+use Rattle.shader_steps.specs.Causes.{settings_of}
+use Rattle.shader_reports.specs.Reports.{IsModuleReport}
+use Rattle.shader_reports.specs.Told.{TellsAll, TellsRefusal}
+use Rattle.shader_reports.proofs.ExactReports.{acceptance_is, refusal_is}
+use Rattle.shader_reports.proofs.making.report_module.Goals as goal
+
+pub returns-in-Ok : goal.returns-in-Ok
+returns-in-Ok c =
+    let m = c.args.module.now in
+    let settings = settings_of c.args.flags c.args.capabilities in
+    IfOk-weaker c.accepted.result (TellsAll m c.in-Ok.infos) (IsModuleReport m settings)
+    (λ report told. acceptance_is m settings c.in-Ok.infos report c.in-Ok.ensures.exact c.in-Ok.ensures.accepted told) c.accepted.ensures
+
+pub returns-in-Err : goal.returns-in-Err
+returns-in-Err c =
+    let m = c.args.module.now in
+    let settings = settings_of c.args.flags c.args.capabilities in
+    IfOk-weaker c.refused.result (TellsRefusal c.in-Err.error) (IsModuleReport m settings)
+    (λ report told. refusal_is m settings c.in-Err.error report c.in-Err.ensures.refused told) c.refused.ensures

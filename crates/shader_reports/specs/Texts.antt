@@ -1,0 +1,50 @@
+-- How reports are printed.
+use Rattle.std.specs.Prelude.{ℕ, Bool, true, false, List, [], ◌∷◌, ◌++◌, codes}
+use Rattle.std.specs.List.{join_by}
+use Rattle.std.specs.Fmt.{decimal}
+use Rattle.shader_info.specs.declared.error.AnalysisPlace.{AnalysisPlace}
+use Rattle.shader_info.specs.declared.error.AnalysisPlace.TheVariants as place
+use Rattle.shader_info.specs.declared.flags.GlobalUse.{GlobalUse}
+use Rattle.shader_reports.specs.declared.report.FaultKind.{FaultKind}
+use Rattle.shader_reports.specs.declared.report.FaultKind.TheVariants as kind
+use Rattle.shader_reports.specs.declared.report.FunctionReport.{FunctionReport}
+use Rattle.shader_reports.specs.declared.report.ModuleReport.{ModuleReport}
+use Rattle.shader_reports.specs.declared.report.ModuleReport.TheVariants.{Accepted, Refused}
+use Rattle.shader_reports.specs.declared.report.PlaceReport.{PlaceReport}
+
+-- items with commas between them, or a hyphen where there are none
+abbrev pub listed : {X : Type 0} → (X → List ℕ) → List X → List ℕ
+listed text [] = codes "-"
+listed text (x ∷ xs) = join_by text (codes ",") (x ∷ xs)
+
+abbrev pub use_text : GlobalUse → List ℕ
+use_text uses = decimal uses.0
+
+abbrev pub pair_text : ℕ × ℕ → List ℕ
+pair_text pair = decimal pair.0 ++ codes "/" ++ decimal pair.1
+
+abbrev pub result_text : Bool → List ℕ
+result_text true = codes "non-uniform"
+result_text false = codes "uniform"
+
+abbrev pub function_text : FunctionReport → List ℕ
+function_text report =
+    codes "uses " ++ listed use_text report.uses ++ codes " pairs " ++ listed pair_text report.pairs
+    ++ codes " counts " ++ listed decimal report.counts ++ codes " result " ++ result_text report.varies
+
+abbrev pub place_text : AnalysisPlace → List ℕ
+place_text (place.ConstExpression e) = codes "const " ++ decimal e
+place_text (place.Function i) = codes "fn " ++ decimal i
+place_text (place.EntryPoint i) = codes "entry " ++ decimal i
+
+abbrev pub placed_text : PlaceReport → List ℕ
+placed_text report = place_text report.place ++ codes " " ++ function_text report.report
+
+abbrev pub fault_text : FaultKind → List ℕ
+fault_text kind.Expression = codes "A1"
+fault_text kind.NonUniformControlFlow = codes "A2"
+fault_text kind.CountFull = codes "A3"
+
+abbrev pub report_text : ModuleReport → List ℕ
+report_text (Accepted reports) = join_by placed_text (codes "; ") reports
+report_text (Refused place kind) = codes "refused " ++ place_text place ++ codes " " ++ fault_text kind

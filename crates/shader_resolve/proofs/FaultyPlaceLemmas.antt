@@ -1,0 +1,493 @@
+-- What find_fault answers is the first of a module's places at which a fault stands, and none where check_module answers none.
+use Rattle.std.proofs.Common.{◌≡◌, ◌↔◌, ◌∙◌, inl, inr, sym, ap, subst, refl, ℕ, suc, ◌+◌, Bool, true, false, ◌&&◌, List, [], ◌∷◌, ◌++◌, Option, Some, IfSome, IsOk, IsNone, Ok, Err, All, map, length, slice_get, arith}
+use Rattle.std.specs.Bool.{Decides}
+use Rattle.std.specs.List.{enumerate_from, flat_map}
+use Rattle.std.specs.Result.{result_err}
+use Rattle.std.proofs.lemmas.Bool.Decides.{not_from_Decides}
+use Rattle.shader_ir.specs.declared.expression.Expression.{Expression}
+use Rattle.shader_ir.specs.declared.function.EntryPoint.{EntryPoint}
+use Rattle.shader_ir.specs.declared.function.Function.{Function}
+use Rattle.shader_ir.specs.declared.function.FunctionArgument.{FunctionArgument}
+use Rattle.shader_ir.specs.declared.module.Module.{Module}
+use Rattle.shader_resolve.specs.FaultyPlaces.{DeclarationsLack, ExpressionLacks, FilterLacks, FunctionLacks, HandlesLack, IsFirstFault, OfEntryPoint, OfFunction, PlaceLacks, StandsFirst, TypeLacks, at_each, function_places, in_entry_point, in_function, places, places_within, variable_places}
+use Rattle.shader_resolve.specs.ModuleTests.{Checked, bounds_of, check_argument, check_entry_point, check_expression, check_filter, check_function, check_module, check_statement, check_type, constant_in_range, every, every_entry, function_in_range, global_bounds, global_in_range, guard, in_arena, in_body, in_entries, in_list, override_in_range, passed, special_in_range, then, variables_in_range}
+use Rattle.shader_resolve.specs.PlaceTests.{Found, check_declarations, find_constants, find_entry_points, find_expressions, find_filters, find_functions, find_global_expressions, find_globals, find_in_entry_point, find_in_function, find_in_module, find_overrides, find_types, find_variables, first_in, first_within, found_here, handles_tested, or_later, within}
+use Rattle.shader_resolve.specs.WellFormed.{ConstantInRange, GlobalInRange, IsWellFormed, Lacks, OverrideInRange, SpecialTypesInRange, Stands}
+use Rattle.shader_resolve.specs.declared.well_formed.ModuleFault.{ModuleFault}
+use Rattle.shader_resolve.specs.declared.well_formed.ModuleFault.TheVariants.{HandleOutOfRange, ValuePointerArgument}
+use Rattle.shader_resolve.specs.declared.well_formed.places.FunctionPlace.{FunctionPlace}
+use Rattle.shader_resolve.specs.declared.well_formed.places.FunctionPlace.TheVariants as part
+use Rattle.shader_resolve.specs.declared.well_formed.places.ModulePlace.{ModulePlace}
+use Rattle.shader_resolve.specs.declared.well_formed.places.ModulePlace.TheVariants as place
+use Rattle.shader_resolve.proofs.BodyLemmas.{then-assoc}
+use Rattle.shader_resolve.proofs.ModuleLemmas.{ArgumentFacts, Sound, along, any-item, argument-sound, body-sound, expression-sound, filter-sound, guarded, in_list-sound, module-sound, ok-decides, then-sound, type-sound}
+use Rattle.shader_resolve.proofs.TestLemmas.{OthersInRange, constant-decides, function-decides, global-decides, override-decides, special-decides}
+
+-- no fault stands at the places
+abbrev NoneOf : {P : Type 0} → (P → ModuleFault → Type 0) → List P → Type 0
+NoneOf Fact [] = Unit {0}
+NoneOf Fact (here ∷ later) = ((any : ModuleFault) → Fact here any) × NoneOf Fact later
+
+-- what is found is the first at which one stands
+abbrev FirstOf : {P : Type 0} → (P → ModuleFault → Type 0) → List P → Found P → Type 0
+FirstOf Fact ps (Ok nothing) = NoneOf Fact ps
+FirstOf Fact ps (Err found) = StandsFirst Fact ps found.0 found.1
+
+module _ {P : Type 0} (Fact : P → ModuleFault → Type 0) where
+  later-first : (here : P) (later : List P) (found : Found P) → ((any : ModuleFault) → Fact here any) → FirstOf Fact later found
+      → FirstOf Fact (here ∷ later) found
+  later-first here later (Ok nothing) holds first = (holds, first)
+  later-first here later (Err found) holds first = inr (holds, first)
+
+  here-first : (here : P) (later : List P) (check : Checked) (found : Found P) → Sound check (Fact here) → FirstOf Fact later found
+      → FirstOf Fact (here ∷ later) (or_later (found_here here check) found)
+  here-first here later (Ok nothing) found sound first = later-first here later found sound first
+  here-first here later (Err fault) found sound first = inl (refl, sound)
+
+  alone-first : (here : P) (check : Checked) → Sound check (Fact here) → FirstOf Fact (here ∷ []) (found_here here check)
+  alone-first here (Ok nothing) sound = (sound, tt)
+  alone-first here (Err fault) sound = inl (refl, sound)
+
+  after : (xs ys : List P) (later : Found P) → NoneOf Fact xs → FirstOf Fact ys later → FirstOf Fact (xs ++ ys) later
+  after [] ys later none more = more
+  after (x ∷ xs) ys later none more = later-first x (xs ++ ys) later none.0 (after xs ys later none.1 more)
+
+  before : (xs ys : List P) (found : P) (fault : ModuleFault) → StandsFirst Fact xs found fault → StandsFirst Fact (xs ++ ys) found fault
+  before [] ys found fault none = absurd none
+  before (x ∷ xs) ys found fault (inl here) = inl here
+  before (x ∷ xs) ys found fault (inr later) = inr (later.0, before xs ys found fault later.1)
+
+  joined : (xs ys : List P) (first later : Found P) → FirstOf Fact xs first → FirstOf Fact ys later
+      → FirstOf Fact (xs ++ ys) (or_later first later)
+  joined xs ys (Ok nothing) later none more = after xs ys later none more
+  joined xs ys (Err found) later stands more = before xs ys found.0 found.1 stands
+
+module _ {T P : Type 0} (Fact : P → ModuleFault → Type 0) (at : ℕ → P) (check : ℕ → T → Checked) where
+  entries-first : (n : ℕ) (items : List T)
+      → ((k : ℕ) (item : T) → slice_get items k ≡ Some item → Sound (check (n + k) item) (Fact (at (n + k))))
+      → FirstOf Fact (map (λ (entry : ℕ × T). at entry.0) (enumerate_from n items)) (first_in at check (enumerate_from n items))
+  entries-first n [] each = tt
+  entries-first n (item ∷ items) each =
+      let same : n + 0 ≡ n = omega arith in
+      here-first Fact (at n) (map (λ (entry : ℕ × T). at entry.0) (enumerate_from (n + 1) items)) (check n item) (first_in at check
+      (enumerate_from (n + 1) items))
+      (subst (λ k. Sound (check k item) (Fact (at k))) same (each 0 item refl))
+      (entries-first (n + 1) items
+      (λ k found is. let next : n + suc k ≡ n + 1 + k = omega arith in subst (λ k. Sound (check k found) (Fact (at k))) next (each
+      (suc k) found is)))
+
+  each-first : (items : List T) → ((k : ℕ) (item : T) → slice_get items k ≡ Some item → Sound (check k item) (Fact (at k)))
+      → FirstOf Fact (at_each at items) (first_in at check (enumerate_from 0 items))
+  each-first items each =
+      entries-first 0 items (λ k item is. let same : k ≡ 0 + k = omega arith in subst (λ k. Sound (check k item) (Fact (at k))) same
+      (each k item is))
+
+module _ {P Q : Type 0} (Fact : Q → ModuleFault → Type 0) (in_whole : P → Q) where
+  none-within : (ps : List P) → NoneOf (λ p. Fact (in_whole p)) ps → NoneOf Fact (map in_whole ps)
+  none-within [] none = tt
+  none-within (p ∷ ps) none = (none.0, none-within ps none.1)
+
+  stands-within : (ps : List P) (found : P) (fault : ModuleFault) → StandsFirst (λ p. Fact (in_whole p)) ps found fault
+      → StandsFirst Fact (map in_whole ps) (in_whole found) fault
+  stands-within [] found fault none = absurd none
+  stands-within (p ∷ ps) found fault (inl here) = inl (ap in_whole here.0, here.1)
+  stands-within (p ∷ ps) found fault (inr later) = inr (later.0, stands-within ps found fault later.1)
+
+  within-first : (ps : List P) (found : Found P) → FirstOf (λ p. Fact (in_whole p)) ps found
+      → FirstOf Fact (map in_whole ps) (within in_whole found)
+  within-first ps (Ok nothing) none = none-within ps none
+  within-first ps (Err found) stands = stands-within ps found.0 found.1 stands
+
+-- facts that follow from one another have one first place
+module _ {P : Type 0} (F G : P → ModuleFault → Type 0) (to : (p : P) (fault : ModuleFault) → F p fault
+    → G p fault) (from : (p : P) (fault : ModuleFault) → G p fault → F p fault) where
+  same-none : (ps : List P) → NoneOf F ps → NoneOf G ps
+  same-none [] none = tt
+  same-none (p ∷ ps) none = (λ any. to p any (none.0 any), same-none ps none.1)
+
+  same-stands : (ps : List P) (found : P) (fault : ModuleFault) → StandsFirst F ps found fault → StandsFirst G ps found fault
+  same-stands [] found fault none = absurd none
+  same-stands (p ∷ ps) found fault (inl here) = inl (here.0, λ g. here.1 (from p fault g))
+  same-stands (p ∷ ps) found fault (inr later) = inr (λ any. to p any (later.0 any), same-stands ps found fault later.1)
+
+  same-first : (ps : List P) (found : Found P) → FirstOf F ps found → FirstOf G ps found
+  same-first ps (Ok nothing) none = same-none ps none
+  same-first ps (Err found) stands = same-stands ps found.0 found.1 stands
+
+module _ {T P Q : Type 0} (Fact : Q → ModuleFault → Type 0) (at : ℕ → P → Q) (parts : T → List P) (find : ℕ → T → Found P) where
+  parts-from : (n : ℕ) (items : List T)
+      → ((k : ℕ) (item : T) → slice_get items k ≡ Some item → FirstOf (λ p. Fact (at (n + k) p)) (parts item) (find (n + k) item))
+      → FirstOf Fact (flat_map (λ (entry : ℕ × T). map (at entry.0) (parts entry.1)) (enumerate_from n items)) (first_within at find
+      (enumerate_from n items))
+  parts-from n [] each = tt
+  parts-from n (item ∷ items) each =
+      let same : n + 0 ≡ n = omega arith in
+      joined Fact (map (at n) (parts item)) (flat_map (λ (entry : ℕ × T). map (at entry.0) (parts entry.1)) (enumerate_from (n + 1) items))
+      (within (at n) (find n item)) (first_within at find (enumerate_from (n + 1) items))
+      (within-first Fact (at n) (parts item) (find n item) (subst (λ k. FirstOf (λ p. Fact (at k p)) (parts item) (find k item)) same
+      (each 0 item refl)))
+      (parts-from (n + 1) items
+      (λ k found is.
+      let next : n + suc k ≡ n + 1 + k = omega arith in
+      subst (λ k. FirstOf (λ p. Fact (at k p)) (parts found) (find k found)) next (each (suc k) found is)))
+
+  parts-first : (items : List T) → ((k : ℕ) (item : T) → slice_get items k ≡ Some item
+      → FirstOf (λ p. Fact (at k p)) (parts item) (find k item))
+      → FirstOf Fact (flat_map (λ (entry : ℕ × T). map (at entry.0) (parts entry.1)) (enumerate_from 0 items)) (first_within at find
+      (enumerate_from 0 items))
+  parts-first items each =
+      parts-from 0 items
+      (λ k item is. let same : k ≡ 0 + k = omega arith in subst (λ k. FirstOf (λ p. Fact (at k p)) (parts item) (find k item)) same
+      (each k item is))
+
+-- of the item that is there
+at-some : {T : Type 0} (check : Checked) (F : T → ModuleFault → Type 0) (found : Option T) (item : T) → found ≡ Some item
+    → Sound check (F item)
+    → Sound check (λ fault. IfSome found (λ item. F item fault))
+at-some check F found item is sound = subst (λ found. Sound check (λ fault. IfSome found (λ item. F item fault))) (sym is) sound
+
+handles-lack : (InRange : Type 0) → InRange → (fault : ModuleFault) → HandlesLack InRange fault
+handles-lack InRange is HandleOutOfRange = is
+handles-lack InRange is fault = tt
+
+tests-sound : (test : Bool) (InRange : Type 0) → Decides test InRange → Sound (handles_tested test) (HandlesLack InRange)
+tests-sound test InRange decides =
+    guarded test HandleOutOfRange passed (HandlesLack InRange) (λ passes. handles-lack InRange (decides.0 passes))
+    (λ fails. not_from_Decides test decides fails)
+
+module _ (checked : Module) where
+  module _ (function : Function) where
+    abbrev ArgumentsLack : ModuleFault → Type 0
+    ArgumentsLack fault = All (λ (argument : FunctionArgument). ArgumentFacts checked argument fault) function.arguments
+
+    declared : (fault : ModuleFault) → HandlesLack (OthersInRange checked function) fault × ArgumentsLack fault
+        → DeclarationsLack checked function fault
+    declared HandleOutOfRange both = record {
+      arguments = both.1;
+      result = both.0.result;
+      locals = both.0.locals;
+      named = both.0.named;
+      filter = both.0.filter;
+    }
+    declared ValuePointerArgument both = both.1
+    declared fault both = tt
+
+    undeclared : (fault : ModuleFault) → DeclarationsLack checked function fault
+        → HandlesLack (OthersInRange checked function) fault × ArgumentsLack fault
+    undeclared HandleOutOfRange is = (record { result = is.result; locals = is.locals; named = is.named; filter = is.filter }, is.arguments)
+    undeclared ValuePointerArgument is = (tt, is)
+    undeclared fault is = (tt, any-item function.arguments)
+
+    declarations-sound : Sound (check_declarations checked function) (DeclarationsLack checked function)
+    declarations-sound =
+        along (check_declarations checked function) (λ fault. HandlesLack (OthersInRange checked function) fault × ArgumentsLack fault)
+        (DeclarationsLack checked function) declared undeclared
+        (then-sound (handles_tested (function_in_range checked function)) (in_list (check_argument checked) function.arguments)
+        (HandlesLack (OthersInRange checked function)) ArgumentsLack
+        (tests-sound (function_in_range checked function) (OthersInRange checked function) (function-decides checked function))
+        (in_list-sound (check_argument checked) (ArgumentFacts checked) (argument-sound checked) function.arguments))
+
+  function-first : (earlier : ℕ) (function : Function) → FirstOf (FunctionLacks checked earlier function) (function_places function)
+      (find_in_function checked earlier function)
+  function-first earlier function =
+      here-first (FunctionLacks checked earlier function) part.Declarations _ (check_declarations checked function) _
+      (declarations-sound function)
+      (joined (FunctionLacks checked earlier function) (at_each part.Expression function.expressions) (part.Body ∷ [])
+      (find_expressions checked (bounds_of earlier function) function.expressions)
+      (found_here part.Body (in_body (check_statement checked (bounds_of earlier function)) function.body))
+      (each-first (FunctionLacks checked earlier function) part.Expression (check_expression checked
+      (bounds_of earlier function)) function.expressions
+      (λ k item is.
+      at-some (check_expression checked (bounds_of earlier function) k item)
+      (ExpressionLacks checked earlier function.local_variables function.arguments function.expressions k)
+      (slice_get function.expressions k) item is
+      (expression-sound checked earlier function.local_variables function.arguments function.expressions k item)))
+      (alone-first (FunctionLacks checked earlier function) part.Body (in_body (check_statement checked
+      (bounds_of earlier function)) function.body) (body-sound checked earlier function)))
+
+  constants-first : FirstOf (PlaceLacks checked) (at_each place.Constant checked.constants) (find_constants checked)
+  constants-first =
+      each-first (PlaceLacks checked) place.Constant (λ handle constant. handles_tested
+      (constant_in_range checked constant)) checked.constants
+      (λ k item is.
+      at-some (handles_tested (constant_in_range checked item)) (λ constant. HandlesLack (ConstantInRange checked constant))
+      (slice_get checked.constants k) item is
+      (tests-sound (constant_in_range checked item) (ConstantInRange checked item) (constant-decides checked item)))
+
+  overrides-first : FirstOf (PlaceLacks checked) (at_each place.Override checked.overrides) (find_overrides checked)
+  overrides-first =
+      each-first (PlaceLacks checked) place.Override (λ handle override. handles_tested
+      (override_in_range checked override)) checked.overrides
+      (λ k item is.
+      at-some (handles_tested (override_in_range checked item)) (λ override. HandlesLack (OverrideInRange checked override))
+      (slice_get checked.overrides k) item is
+      (tests-sound (override_in_range checked item) (OverrideInRange checked item) (override-decides checked item)))
+
+  globals-first : FirstOf (PlaceLacks checked) (at_each place.GlobalVariable checked.global_variables) (find_globals checked)
+  globals-first =
+      each-first (PlaceLacks checked) place.GlobalVariable (λ handle variable. handles_tested
+      (global_in_range checked variable)) checked.global_variables
+      (λ k item is.
+      at-some (handles_tested (global_in_range checked item)) (λ variable. HandlesLack (GlobalInRange checked variable))
+      (slice_get checked.global_variables k) item is
+      (tests-sound (global_in_range checked item) (GlobalInRange checked item) (global-decides checked item)))
+
+  variables-first : FirstOf (PlaceLacks checked) (variable_places checked) (find_variables checked)
+  variables-first =
+      here-first (PlaceLacks checked) place.SpecialTypes _ (handles_tested (special_in_range checked checked.special_types)) _
+      (tests-sound (special_in_range checked checked.special_types) (SpecialTypesInRange checked checked.special_types)
+      (special-decides checked checked.special_types))
+      (joined (PlaceLacks checked) (at_each place.Constant checked.constants) _ (find_constants checked) _ constants-first
+      (joined (PlaceLacks checked) (at_each place.Override checked.overrides) (at_each place.GlobalVariable checked.global_variables)
+      (find_overrides checked) (find_globals checked)
+      overrides-first globals-first))
+
+  types-first : FirstOf (PlaceLacks checked) (at_each place.Type checked.types) (find_types checked)
+  types-first =
+      each-first (PlaceLacks checked) place.Type (λ handle type. check_type checked handle type.inner) checked.types
+      (λ k item is. at-some (check_type checked k item.inner) (TypeLacks checked k) (slice_get checked.types k) item is
+      (type-sound checked k item))
+
+  filters-first : FirstOf (PlaceLacks checked) (at_each place.DiagnosticFilter checked.diagnostic_filters) (find_filters checked)
+  filters-first =
+      each-first (PlaceLacks checked) place.DiagnosticFilter (check_filter checked) checked.diagnostic_filters
+      (λ k item is. at-some (check_filter checked k item) (FilterLacks checked k) (slice_get checked.diagnostic_filters k) item is
+      (filter-sound checked k item))
+
+  global_expressions-first : FirstOf (PlaceLacks checked) (at_each place.GlobalExpression checked.global_expressions)
+      (find_global_expressions checked)
+  global_expressions-first =
+      each-first (PlaceLacks checked) place.GlobalExpression (check_expression checked (global_bounds checked)) checked.global_expressions
+      (λ k item is.
+      at-some (check_expression checked (global_bounds checked) k item) (ExpressionLacks checked 0 [] [] checked.global_expressions k)
+      (slice_get checked.global_expressions k) item is
+      (expression-sound checked 0 [] [] checked.global_expressions k item))
+
+  -- the first of the places of the function that is there
+  in-some : {T : Type 0} (function_of : T → Function) (earlier : ℕ) (found : Option T) (item : T) → found ≡ Some item
+      → FirstOf (FunctionLacks checked earlier (function_of item)) (function_places (function_of item)) (find_in_function checked earlier
+      (function_of item))
+      → FirstOf (λ p fault. IfSome found (λ item. FunctionLacks checked earlier (function_of item) p fault)) (function_places
+      (function_of item)) (find_in_function checked earlier (function_of item))
+  in-some function_of earlier found item is first =
+      subst (λ found. FirstOf (λ p fault. IfSome found (λ item. FunctionLacks checked earlier (function_of item) p fault))
+      (function_places (function_of item)) (find_in_function checked earlier (function_of item)))
+      (sym is) first
+
+  into-function : (k : ℕ) (p : FunctionPlace) (fault : ModuleFault) → OfFunction checked k p fault
+      → PlaceLacks checked (in_function k p) fault
+  into-function k part.Declarations fault is = is
+  into-function k (part.Expression expression) fault is = is
+  into-function k part.Body fault is = is
+
+  from-function : (k : ℕ) (p : FunctionPlace) (fault : ModuleFault) → PlaceLacks checked (in_function k p) fault
+      → OfFunction checked k p fault
+  from-function k part.Declarations fault is = is
+  from-function k (part.Expression expression) fault is = is
+  from-function k part.Body fault is = is
+
+  into-entry_point : (k : ℕ) (p : FunctionPlace) (fault : ModuleFault) → OfEntryPoint checked k p fault
+      → PlaceLacks checked (in_entry_point k p) fault
+  into-entry_point k part.Declarations fault is = is
+  into-entry_point k (part.Expression expression) fault is = is
+  into-entry_point k part.Body fault is = is
+
+  from-entry_point : (k : ℕ) (p : FunctionPlace) (fault : ModuleFault) → PlaceLacks checked (in_entry_point k p) fault
+      → OfEntryPoint checked k p fault
+  from-entry_point k part.Declarations fault is = is
+  from-entry_point k (part.Expression expression) fault is = is
+  from-entry_point k part.Body fault is = is
+
+  functions-first : FirstOf (PlaceLacks checked) (places_within in_function (λ function. function) checked.functions)
+      (find_functions checked)
+  functions-first =
+      parts-first (PlaceLacks checked) in_function function_places (find_in_function checked) checked.functions
+      (λ k item is.
+      same-first (OfFunction checked k) (λ p. PlaceLacks checked (in_function k p)) (into-function k) (from-function k)
+      (function_places item) (find_in_function checked k item)
+      (in-some (λ (function : Function). function) k (slice_get checked.functions k) item is (function-first k item)))
+
+  entry_points-first : FirstOf (PlaceLacks checked) (places_within in_entry_point (λ
+      (entry : EntryPoint). entry.function) checked.entry_points) (find_entry_points checked)
+  entry_points-first =
+      parts-first (PlaceLacks checked) in_entry_point (λ (entry : EntryPoint). function_places entry.function)
+      (find_in_entry_point checked) checked.entry_points
+      (λ k item is.
+      same-first (OfEntryPoint checked k) (λ p. PlaceLacks checked (in_entry_point k p)) (into-entry_point k) (from-entry_point k)
+      (function_places item.function)
+      (find_in_entry_point checked k item)
+      (in-some (λ (entry : EntryPoint). entry.function) (length checked.functions) (slice_get checked.entry_points k) item is
+      (function-first (length checked.functions) item.function)))
+
+  module-first : FirstOf (PlaceLacks checked) (places checked) (find_in_module checked)
+  module-first =
+      joined (PlaceLacks checked) (variable_places checked) _ (find_variables checked) _ variables-first
+      (joined (PlaceLacks checked) (at_each place.Type checked.types) _ (find_types checked) _ types-first
+      (joined (PlaceLacks checked) (at_each place.DiagnosticFilter checked.diagnostic_filters) _ (find_filters checked) _ filters-first
+      (joined (PlaceLacks checked) (at_each place.GlobalExpression checked.global_expressions) _
+      (find_global_expressions checked) _ global_expressions-first
+      (joined (PlaceLacks checked) (places_within in_function (λ function. function) checked.functions) _ (find_functions checked)
+      (find_entry_points checked)
+      functions-first entry_points-first))))
+
+-- the fault without its place
+abbrev fault_of : {P : Type 0} → Found P → Checked
+fault_of (Ok nothing) = Ok nothing
+fault_of (Err found) = Err found.1
+
+module _ {P : Type 0} where
+  fault-later : (first later : Found P) → fault_of (or_later first later) ≡ then (fault_of first) (fault_of later)
+  fault-later (Ok nothing) later = refl
+  fault-later (Err found) later = refl
+
+  fault-here : (here : P) (check : Checked) → fault_of (found_here here check) ≡ check
+  fault-here here (Ok nothing) = refl
+  fault-here here (Err fault) = refl
+
+  both : (first later : Found P) (a b : Checked) → fault_of first ≡ a → fault_of later ≡ b → fault_of (or_later first later) ≡ then a b
+  both first later a b e f = fault-later first later ∙ ap (λ x. then x (fault_of later)) e ∙ ap (λ y. then a y) f
+
+fault-within : {P Q : Type 0} (in_whole : P → Q) (found : Found P) → fault_of (within in_whole found) ≡ fault_of found
+fault-within in_whole (Ok nothing) = refl
+fault-within in_whole (Err found) = refl
+
+fault-in : {T P : Type 0} (at : ℕ → P) (check : ℕ → T → Checked) (entries : List (ℕ × T))
+    → fault_of (first_in at check entries) ≡ in_entries check entries
+fault-in at check [] = refl
+fault-in at check (entry ∷ entries) =
+    both (found_here (at entry.0) (check entry.0 entry.1)) (first_in at check entries) (check entry.0 entry.1) (in_entries check entries)
+    (fault-here (at entry.0) (check entry.0 entry.1)) (fault-in at check entries)
+
+fault-parts : {T P Q : Type 0} (at : ℕ → P → Q) (find : ℕ → T → Found P) (check : ℕ → T → Checked) → ((k : ℕ) (item : T)
+    → fault_of (find k item) ≡ check k item)
+    → (entries : List (ℕ × T)) → fault_of (first_within at find entries) ≡ in_entries check entries
+fault-parts at find check each [] = refl
+fault-parts at find check each (entry ∷ entries) =
+    both (within (at entry.0) (find entry.0 entry.1)) (first_within at find entries) (check entry.0 entry.1) (in_entries check entries)
+    (fault-within (at entry.0) (find entry.0 entry.1) ∙ each entry.0 entry.1) (fault-parts at find check each entries)
+
+-- the tests of handles along a list, and one after another
+tested-then : (first second : Bool) → then (handles_tested first) (handles_tested second) ≡ handles_tested (first && second)
+tested-then true second = refl
+tested-then false second = refl
+
+tested-guard : (test : Bool) (rest : Checked) → then (handles_tested test) rest ≡ guard test HandleOutOfRange rest
+tested-guard true rest = refl
+tested-guard false rest = refl
+
+tested-entries : {T : Type 0} (test : ℕ → T → Bool) (entries : List (ℕ × T))
+    → in_entries (λ k item. handles_tested (test k item)) entries ≡ handles_tested (every_entry test entries)
+tested-entries test [] = refl
+tested-entries test (entry ∷ entries) =
+    ap (λ rest. then (handles_tested (test entry.0 entry.1)) rest) (tested-entries test entries) ∙ tested-then (test entry.0 entry.1)
+    (every_entry test entries)
+
+guard-then : (test : Bool) (rest more : Checked) → then (guard test HandleOutOfRange rest) more ≡ guard test HandleOutOfRange
+    (then rest more)
+guard-then true rest more = refl
+guard-then false rest more = refl
+
+list-entries : {T : Type 0} (check : T → Checked) (n : ℕ) (items : List T)
+    → in_entries (λ k item. check item) (enumerate_from n items) ≡ in_list check items
+list-entries check n [] = refl
+list-entries check n (item ∷ items) = ap (λ rest. then (check item) rest) (list-entries check (n + 1) items)
+
+module _ (checked : Module) where
+  fault-function : (earlier : ℕ) (function : Function) → fault_of (find_in_function checked earlier function) ≡ check_function checked
+      earlier function
+  fault-function earlier function =
+      both (found_here part.Declarations (check_declarations checked function)) _ (check_declarations checked function)
+      (then (in_arena (check_expression checked (bounds_of earlier function)) function.expressions) (in_body (check_statement checked
+      (bounds_of earlier function)) function.body))
+      (fault-here part.Declarations (check_declarations checked function))
+      (both (find_expressions checked (bounds_of earlier function) function.expressions) (found_here part.Body (in_body
+      (check_statement checked (bounds_of earlier function)) function.body))
+      (in_arena (check_expression checked (bounds_of earlier function)) function.expressions) (in_body (check_statement checked
+      (bounds_of earlier function)) function.body)
+      (fault-in part.Expression (check_expression checked (bounds_of earlier function)) (enumerate_from 0 function.expressions))
+      (fault-here part.Body (in_body (check_statement checked (bounds_of earlier function)) function.body)))
+      ∙ then-assoc (handles_tested (function_in_range checked function)) (in_list (check_argument checked) function.arguments) _
+      ∙ tested-guard (function_in_range checked function) _
+
+  fault-variables : fault_of (find_variables checked) ≡ handles_tested (variables_in_range checked)
+  fault-variables =
+      both (found_here place.SpecialTypes (handles_tested (special_in_range checked checked.special_types))) _ _ _
+      (fault-here place.SpecialTypes (handles_tested (special_in_range checked checked.special_types)))
+      (both (find_constants checked) _ _ _
+      (fault-in place.Constant (λ handle constant. handles_tested (constant_in_range checked constant)) (enumerate_from 0 checked.constants)
+      ∙ tested-entries (λ handle constant. constant_in_range checked constant) (enumerate_from 0 checked.constants))
+      (both (find_overrides checked) (find_globals checked) _ _
+      (fault-in place.Override (λ handle override. handles_tested (override_in_range checked override)) (enumerate_from 0 checked.overrides)
+      ∙ tested-entries (λ handle override. override_in_range checked override) (enumerate_from 0 checked.overrides))
+      (fault-in place.GlobalVariable (λ handle variable. handles_tested (global_in_range checked variable))
+      (enumerate_from 0 checked.global_variables)
+      ∙ tested-entries (λ handle variable. global_in_range checked variable) (enumerate_from 0 checked.global_variables))
+      ∙ tested-then (every (λ handle override. override_in_range checked override) checked.overrides) (every
+      (λ handle variable. global_in_range checked variable) checked.global_variables))
+      ∙ tested-then (every (λ handle constant. constant_in_range checked constant) checked.constants) _)
+      ∙ tested-then (special_in_range checked checked.special_types) _
+
+  abbrev TypesThen : Checked → Checked
+  TypesThen rest = then (in_arena (λ place type. check_type checked place type.inner) checked.types) rest
+
+  abbrev filters_checked : Checked
+  filters_checked = in_arena (check_filter checked) checked.diagnostic_filters
+
+  abbrev code_checked : Checked
+  code_checked =
+      then (in_arena (check_expression checked (global_bounds checked)) checked.global_expressions)
+      (then (in_arena (check_function checked) checked.functions) (in_list (check_entry_point checked) checked.entry_points))
+
+  fault-rest : fault_of (or_later (find_types checked) (or_later (find_filters checked) (or_later (find_global_expressions checked)
+      (or_later (find_functions checked) (find_entry_points checked)))))
+      ≡ TypesThen (then filters_checked code_checked)
+  fault-rest =
+      both (find_types checked) _ _ _ (fault-in place.Type (λ handle type. check_type checked handle type.inner)
+      (enumerate_from 0 checked.types))
+      (both (find_filters checked) _ _ _ (fault-in place.DiagnosticFilter (check_filter checked)
+      (enumerate_from 0 checked.diagnostic_filters))
+      (both (find_global_expressions checked) _ _ _
+      (fault-in place.GlobalExpression (check_expression checked (global_bounds checked)) (enumerate_from 0 checked.global_expressions))
+      (both (find_functions checked) (find_entry_points checked) _ _
+      (fault-parts in_function (find_in_function checked) (check_function checked) fault-function (enumerate_from 0 checked.functions))
+      (fault-parts in_entry_point (find_in_entry_point checked) (λ k entry. check_entry_point checked entry)
+      (λ k entry. fault-function (length checked.functions) entry.function) (enumerate_from 0 checked.entry_points)
+      ∙ list-entries (check_entry_point checked) 0 checked.entry_points))))
+
+  fault-module : fault_of (find_in_module checked) ≡ check_module checked
+  fault-module =
+      both (find_variables checked) _ (handles_tested (variables_in_range checked)) (TypesThen
+      (then filters_checked code_checked)) fault-variables fault-rest
+      ∙ tested-guard (variables_in_range checked) (TypesThen (then filters_checked code_checked))
+      ∙ ap (λ rest. guard (variables_in_range checked) HandleOutOfRange rest) (sym (then-assoc (in_arena
+      (λ place type. check_type checked place type.inner) checked.types) filters_checked code_checked))
+      ∙ sym (guard-then (variables_in_range checked) (TypesThen filters_checked) code_checked)
+
+  sound : Sound (fault_of (find_in_module checked)) (Lacks checked)
+  sound = subst (λ answer. Sound answer (Lacks checked)) (sym fault-module) (module-sound checked)
+
+  decides : (found : Found ModulePlace) → IsOk (fault_of found) ↔ IsWellFormed checked → IsNone (result_err found) ↔ IsWellFormed checked
+  decides (Ok nothing) ok = (λ none. ok.0 refl, λ is. refl)
+  decides (Err found) ok = (λ none. absurd (cc), λ is. let e = ok.1 is in absurd (cc))
+
+  -- nothing is found exactly of well-formed modules
+  pub none-decides : IsNone (result_err (find_in_module checked)) ↔ IsWellFormed checked
+  none-decides = decides (find_in_module checked) (ok-decides checked (fault_of (find_in_module checked)) sound)
+
+  stands : (found : Found ModulePlace) → Sound (fault_of found) (Lacks checked)
+      → IfSome (result_err found) (λ found. Stands checked found.1)
+  stands (Ok nothing) is_sound = tt
+  stands (Err found) is_sound = is_sound
+
+  -- the fault that is found stands
+  pub err-stands : IfSome (result_err (find_in_module checked)) (λ found. Stands checked found.1)
+  err-stands = stands (find_in_module checked) sound
+
+  first : (found : Found ModulePlace) → FirstOf (PlaceLacks checked) (places checked) found
+      → IfSome (result_err found) (λ found. IsFirstFault checked found.0 found.1)
+  first (Ok nothing) none = tt
+  first (Err found) is_first = is_first
+
+  -- at the first place at which one does
+  pub err-is-first : IfSome (result_err (find_in_module checked)) (λ found. IsFirstFault checked found.0 found.1)
+  err-is-first = first (find_in_module checked) (module-first checked)
