@@ -6,7 +6,7 @@ use Rattle.std.proofs.lemmas.Bool.{cases_lt}
 use Rattle.std.proofs.lemmas.List.{length-take}
 use Rattle.std.proofs.lemmas.Option.{slice_get_past}
 use Rattle.shader_ir.specs.Layout.{layout_fault, sized_fault, fault_at, layout_of, layouts_of, size_of_type, AreFirstLayouts, IsRefusalAt}
-use Rattle.shader_ir.specs.LayoutLaws.{AreUpdates, EqualsOneUpdate, Grows, IsUpdated, RefusalsRepeat, Updated, UpdatesCompose, last_of}
+use Rattle.shader_ir.specs.LayoutLaws.{AreUpdates, Grows, IsUpdated, RefusalsRepeat, Updated, UpdatesCompose, last_of}
 use Rattle.shader_ir.specs.Sizes.{array_bytes, array_count, AreTypeSizesInRange, IsCountInRange, IsTypeSizeInRange}
 use Rattle.shader_ir.specs.TypeTree.{tree_of, tree_within}
 use Rattle.shader_ir.specs.declared.proc.layouter.LayoutError.{LayoutError}

@@ -1,15 +1,14 @@
 -- Layouts over those of earlier types.
-use Rattle.std.proofs.Common.{◌≡◌, ◌∙◌, ◌↔◌, All, get_or, ap, sym, refl, subst, ℕ, zero, suc, ◌+◌, ◌<◌, ◌≤◌, nat_lt, max, List, [], ◌∷◌, ◌++◌, length, map, slice_get, take, Option, Some, None, Ok, if◌then◌else◌, unwrap_or, ◌⊎◌, inl, inr, arith, rules, length-append}
-use Rattle.std.specs.List.{enumerate_from}
+use Rattle.std.proofs.Common.{◌≡◌, ◌∙◌, ◌↔◌, All, get_or, ap, sym, refl, subst, ℕ, zero, suc, ◌+◌, ◌-◌, ◌<◌, ◌≤◌, nat_lt, max, List, [], ◌∷◌, ◌++◌, drop, length, map, slice_get, take, Option, Some, None, Ok, if◌then◌else◌, unwrap_or, ◌⊎◌, inl, inr, arith, rules, length-append}
 use Rattle.std.specs.Option.{option_map}
 use Rattle.std.proofs.lemmas.Bool.{cases_lt}
-use Rattle.std.proofs.lemmas.List.{get_or_append_left, length-map, length-take, take-append-le, take_more}
-use Rattle.std.proofs.lemmas.List.Elements.{All-cons, All-head, All-tail}
+use Rattle.std.proofs.lemmas.List.{drop_all, get_or-drop, get_or_append_left, length-drop, length-map, length-take, take-append-le, take_more}
+use Rattle.std.proofs.lemmas.List.Elements.{All-cons, All-head, All-nil, All-tail}
 use Rattle.std.proofs.lemmas.Option.{slice_get_within, slice_get-get_or, slice_get-map, get_or_from_slice_get}
 use Rattle.std.proofs.Math.Seq.{get_or-append_seam, take-append_seam}
 use Rattle.shader_ir.specs.HeldLayouts.{AreLaidOver, faulty_or, greatest_held, held_alignment, held_layout, held_of, sized_layout}
 use Rattle.shader_ir.specs.Layout.{alignment_of, greatest_of, member_fault, part_fault, layout_fault, sized_fault, fault_at, layout_of, layouts_of, size_of_type, AreFaultless, AreFirstLayouts}
-use Rattle.shader_ir.specs.Sizes.{AreTypeSizesInRange, IsTypeSizeInRange}
+use Rattle.shader_ir.specs.Sizes.{AreTypeSizesInRange, AreTypeSizesInRangeFrom, IsTypeSizeInRange}
 use Rattle.shader_ir.specs.TypeTree.{type_handles, TypeTree, TypeTrees, Node, NoTree, put_tree, trees_at, tree_within, tree_of}
 use Rattle.shader_ir.specs.declared.proc.layouter.LayoutErrorInner.{LayoutErrorInner}
 use Rattle.shader_ir.specs.declared.proc.layouter.LayoutErrorInner.TheVariants.{InvalidArrayElementType}
@@ -133,21 +132,44 @@ size_in_range ctx all place type at =
     let is = get_or_from_slice_get ctx.types.now place type type at in
     subst (λ (t : «Type»). IsTypeSizeInRange ctx t.inner) is (all place type (slice_get_within ctx.types.now place type at))
 
+-- those of the types from a place on are those of each of them
+pub size_in_range_from : (ctx : GlobalCtx) (first : ℕ) → AreTypeSizesInRangeFrom ctx first → (place : ℕ) (type : «Type») → first ≤ place
+    → slice_get ctx.types.now place ≡ Some type → IsTypeSizeInRange ctx type.inner
+size_in_range_from ctx first all place type le at =
+    let types = ctx.types.now in
+    let is = get_or_from_slice_get types place type type at in
+    let lt = slice_get_within types place type at in
+    let there : place - first < length (drop first types) = omega (arith, length-drop first types) in
+    let same : first + (place - first) ≡ place = omega arith in
+    subst (λ (t : «Type»). IsTypeSizeInRange ctx t.inner)
+    (get_or-drop first types (place - first) type ∙ ap (λ k. get_or types k type) same ∙ is)
+    (all (place - first) type there)
+
+-- the items from a place on are that of the place and those behind it
+drop_next : {X : Type 0} → (n : ℕ) (xs : List X) (x : X) → slice_get xs n ≡ Some x → drop n xs ≡ x ∷ drop (suc n) xs
+drop_next zero [] x at = absurd (cc)
+drop_next zero (y ∷ xs) x at = let same : y ≡ x = cc in ap (λ z. z ∷ xs) same
+drop_next (suc n) [] x at = absurd (cc)
+drop_next (suc n) (y ∷ xs) x at = drop_next n xs x at
+
 module _ (ctx : GlobalCtx) where
   abbrev SizeFits : «Type» → Type 0
   SizeFits type = IsTypeSizeInRange ctx type.inner
 
-  -- the sizes of the types that are left to an iterator are in range
-  abbrev pub AreSizesInRange : List (ℕ × «Type») → Type 0
-  AreSizesInRange [] = Unit {0}
-  AreSizesInRange (entry ∷ rest) = SizeFits entry.1 × AreSizesInRange rest
+  -- one type more
+  pub sizes_from : (place : ℕ) (type : «Type») → slice_get ctx.types.now place ≡ Some type
+      → AreTypeSizesInRangeFrom ctx place ↔ (SizeFits type × AreTypeSizesInRangeFrom ctx (place + 1))
+  sizes_from place type at =
+      let types = ctx.types.now in
+      let next : suc place ≡ place + 1 = omega arith in
+      let split : drop place types ≡ type ∷ drop (place + 1) types = drop_next place types type at ∙ ap (λ k. type ∷ drop k types) next in (
+        (λ all. let whole = subst (All SizeFits) split all in (All-head SizeFits type (drop (place + 1) types) whole, All-tail SizeFits type (drop (place + 1) types) whole)),
+        (λ both. subst (All SizeFits) (sym split) (All-cons SizeFits type (drop (place + 1) types) both.0 both.1)),
+      )
 
-  -- of all types that are those of the context
-  pub sizes_listed : (first : ℕ) (types : List «Type») → AreSizesInRange (enumerate_from first types) ↔ All SizeFits types
-  sizes_listed first [] = ((λ _ k d lt. absurd (omega arith)), (λ _. tt))
-  sizes_listed first (type ∷ types) =
-      let rest = sizes_listed (first + 1) types in
-      ((λ ranged. All-cons SizeFits type types ranged.0 (rest.0 ranged.1)), (λ all. (All-head SizeFits type types all, rest.1 (All-tail SizeFits type types all))))
+  -- of no type nothing is asked
+  pub no_sizes_from : (place : ℕ) → length ctx.types.now ≤ place → AreTypeSizesInRangeFrom ctx place
+  no_sizes_from place le = subst (All SizeFits) (sym (drop_all place ctx.types.now le)) (All-nil SizeFits)
 
 module _ (ctx : GlobalCtx) where
   abbrev types : List «Type»

@@ -1,5 +1,5 @@
 -- How many items an array has, and sizes within the limit.
-use Rattle.std.specs.Prelude.{ℕ, ◌*◌, nat_le, All, Option, Some, None, if◌then◌else◌}
+use Rattle.std.specs.Prelude.{ℕ, ◌*◌, nat_le, All, drop, Option, Some, None, if◌then◌else◌}
 use Rattle.std.specs.Result.{result_unwrap_or}
 use Rattle.shader_ir.specs.KnownNumbers.{IsSizeInRange, override_size}
 use Rattle.shader_ir.specs.declared.module.GlobalCtx.{GlobalCtx}
@@ -41,3 +41,7 @@ module _ (ctx : GlobalCtx) where
   -- and those of all types
   abbrev pub AreTypeSizesInRange : Type 0
   AreTypeSizesInRange = All (λ (type : «Type»). IsTypeSizeInRange type.inner) ctx.types.now
+
+  -- and those of the types from a place on
+  abbrev pub AreTypeSizesInRangeFrom : ℕ → Type 0
+  AreTypeSizesInRangeFrom place = All (λ (type : «Type»). IsTypeSizeInRange type.inner) (drop place ctx.types.now)

@@ -22,5 +22,5 @@ pub use operands::{
 pub use scalars::{
     ConcreteIntScalars, VectorSizes, concrete_int_scalars, vector_size_str, vector_sizes,
 };
-pub use sizes::{MAX_TYPE_SIZE, sizes_in_range};
+pub use sizes::{MAX_TYPE_SIZE, sizes_in_range, sizes_in_range_from};
 pub use type_resolution::{TypeResolution, compare_types};

@@ -1,4 +1,25 @@
-//! What every overload set offers, said of its list of rules alone.
+//! Overload sets: the overload candidates of a call of a builtin function, and how a front end narrows them.
+//!
+//! A builtin function of WGSL has many overloads: `max` takes two values of one numeric type, a scalar or a vector, and gives that
+//! type. Each overload is a `Rule`. At a call, overload resolution picks the rule that is meant: the candidates that some feasible
+//! automatic conversion of each argument reaches are left, and among these the one of the least conversion rank at each argument is
+//! preferred. A literal is abstract (`AbstractInt`, `AbstractFloat`) and converts by itself to what the other arguments ask for; a
+//! concrete value converts to nothing but its own type.
+//!
+//! A front end begins with `MathFunction::overloads` and takes the arguments one by one, left to right:
+//!
+//! 1. `arg` leaves the rules that take the argument's type, converted by itself where that is needed. In which order the arguments come
+//!    makes no difference, nor does one that comes twice. Where `is_empty` is true after an argument, that argument is the one to blame,
+//!    and `allowed_args` of the set before says what would have been taken there.
+//! 2. `concrete_only` leaves out rules with abstract arguments, where a value is needed at run time.
+//! 3. `most_preferred` is the rule that is left first, since each set lists its rules in order of preference: it is the result of the
+//!    resolution, and says to which types the arguments are converted and what the call gives.
+//!
+//! `narrow` is step 1 for a list of arguments. Against WGSL two things are simplified, as in naga: a set holds the rules of one
+//! function and no template parameters, so `vecN<T>` stands once for each size and scalar; and what is preferred is a fixed order of
+//! the rules, of which `shader_overloads_laws` proves that no rule that is left has a smaller rank than the first at any argument.
+//!
+//! The contracts speak of a set by its list of rules alone.
 ghost use Rattle.std.specs.Prelude.{◌≡◌, ◌≢◌, ◌↔◌, ◌++◌, ℕ, Bool, [], List, All, IsTrue, IsOk, IfOk, OnOk, Some, filter, length, slice_get};
 ghost use Rattle.std.specs.Option.{option_to_list};
 ghost use Rattle.shader_ir.specs.declared.types.«Type».{«Type»};

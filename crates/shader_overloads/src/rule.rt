@@ -1,4 +1,8 @@
 //! Rules: the types that a builtin function takes, and what it gives for them.
+//!
+//! A rule is one overload of WGSL's tables of builtin functions, without template parameters. Its arguments are what a call's arguments
+//! are converted to; its conclusion is the type of the call, either written out or, for `frexp` and `modf`, a struct that the module
+//! has to declare before (`SpecialTypes`), since the IR names structs by their handles alone.
 ghost use Rattle.std.specs.Prelude.{◌≡◌, ◌⊎◌, IfOk, IsOk, IsTrue, OnErr, None, Some};
 ghost use Rattle.shader_overloads.specs.Resolutions.{ConcludesNoMembers, resolution_of};
 ghost use Rattle.shader_overloads.specs.Rules.{is_scalar_or_vector, vector_size};

@@ -27,7 +27,7 @@ impl Scalar {
 impl ArraySize {
     /// Whether both are the same number, the same override's, or unknown.
     #[inline]
-    fn is_same(self, other: ArraySize) -> bool
+    fn is_equal_size(self, other: ArraySize) -> bool
         ensures { result ≡ same_array_size self other }
     {
         self == other
@@ -56,7 +56,7 @@ impl TypeInner {
                     size: goal_size,
                     ..
                 } => {
-                    if !size.is_same(*goal_size) {
+                    if !size.is_equal_size(*goal_size) {
                         return None;
                     }
                     types[*base]

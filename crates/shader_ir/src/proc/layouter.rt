@@ -115,7 +115,7 @@ impl Index<Handle<mark::Type>> for Layouter {
     }
 }
 
-ghost use Rattle.shader_ir.specs.Sizes.{AreTypeSizesInRange, IsTypeSizeInRange};
+ghost use Rattle.shader_ir.specs.Sizes.{AreTypeSizesInRange, AreTypeSizesInRangeFrom, IsTypeSizeInRange};
 ghost use Rattle.shader_ir.specs.Layout.{AreFaultless, AreFirstLayouts, HasStride, IsRefusalAt, layouts_of, member_fault, part_fault, width_fault};
 ghost use Rattle.shader_ir.specs.HeldLayouts.{AreLaidOver, faulty_or, greatest_held, held_alignment, held_layout};
 
@@ -249,6 +249,25 @@ impl Layouter {
         ensures refused { IfErr result (IsRefusalAt ctx.entry (length self.new)) }
 
         // Where they are those of the first types:
+        ensures laid_out { AreFirstLayouts ctx.entry self.old → AreFirstLayouts ctx.entry self.new }
+        ensures all { IfOk result (λ _. AreFirstLayouts ctx.entry self.old → self.new ≡ layouts_of ctx.entry) }
+    {
+        self.update_added(ctx)
+    }
+
+    /// The same, where no more is known than what `sizes_in_range_from` tells of the types that are to be laid out: for a
+    /// caller that goes on after each type that it adds.
+    ///
+    /// # Errors
+    ///
+    /// Those of `update`.
+    pub fn update_added(&mut self, ctx: GlobalCtx<'_>) -> Result<(), UpdateError>
+        requires sizes { AreTypeSizesInRangeFrom ctx (length self.old) }
+        ensures kept { take (length self.old) self.new ≡ self.old }
+        ensures added { AreLaidOver ctx.entry (length self.old) self.new }
+        ensures faultless { AreFaultless ctx.entry (length self.old) (length self.new) }
+        ensures whole { IfOk result (λ _. length ctx.entry.types.now ≤ length self.new) }
+        ensures refused { IfErr result (IsRefusalAt ctx.entry (length self.new)) }
         ensures laid_out { AreFirstLayouts ctx.entry self.old → AreFirstLayouts ctx.entry self.new }
         ensures all { IfOk result (λ _. AreFirstLayouts ctx.entry self.old → self.new ≡ layouts_of ctx.entry) }
     {

@@ -36,6 +36,17 @@ fn of_a_list(rt: HostRuntime) {
 }
 
 #[test]
+fn of_a_long_list(rt: HostRuntime) {
+    let mut numbers = Vec::new(rt.alloc());
+    for number in 0..70_000u32 {
+        numbers.push(number).expect(&rt, WANT);
+    }
+    let items = Items::from(numbers);
+    let copy = items.copy(rt.alloc()).expect(&rt, WANT);
+    assert!(rt; copy == items);
+}
+
+#[test]
 fn of_a_map(rt: HostRuntime) {
     let mut map = Map::new(rt.alloc());
     let sum = name(&rt, rt.alloc(), "sum");
@@ -181,6 +192,21 @@ fn of_a_block(rt: HostRuntime) {
     let block = block_of(&rt, rt.alloc(), Statement::Kill);
     let copy = block.copy(rt.alloc()).expect(&rt, WANT);
     assert!(rt; is_kill(&copy));
+}
+
+/// Whether the statement is a block of one Kill.
+fn kills_within(statement: &Statement) -> bool {
+    match statement {
+        Statement::Block(block) => is_kill(block),
+        _ => false,
+    }
+}
+
+#[test]
+fn of_a_block_in_a_block(rt: HostRuntime) {
+    let inner = Statement::Block(block_of(&rt, rt.alloc(), Statement::Kill));
+    let copy = inner.copy(rt.alloc()).expect(&rt, WANT);
+    assert!(rt; kills_within(&copy));
 }
 
 #[test]

@@ -3,8 +3,8 @@ use crate::tests::samples::{WANT, add};
 use bitflags::Flags;
 use shader_arena::Handle;
 use shader_ir::{
-    Barrier, Count, GlobalCtx, Items, Map, Module, Name, PredeclaredType, Scalar, ShaderStages,
-    StorageAccess, TypeInner, mark,
+    Barrier, Count, Function, GlobalCtx, Items, Map, Module, Name, PredeclaredType, Scalar,
+    ShaderStages, StorageAccess, TypeInner, mark,
 };
 use std::process::Abort;
 
@@ -23,6 +23,18 @@ fn items_give_back_what_they_were_made_of(rt: HostRuntime) {
     assert!(rt; items.len() == 2 && !items.is_empty());
     assert!(rt; items.as_slice() == [1, 2].as_slice());
     assert!(rt; items.into_vec().as_slice() == [1, 2].as_slice());
+}
+
+#[test]
+fn items_are_walked_and_indexed(rt: HostRuntime) {
+    let items = [1u8, 2].to_vec(rt.alloc()).expect(&rt, WANT);
+    let items = Items::from(items);
+    assert!(rt; items.len() == 2);
+    assert!(rt; items[0] == 1 && items[1] == 2);
+    let mut walk = items.iter();
+    assert!(rt; walk.next() == Some(&1) && walk.next() == Some(&2));
+    assert!(rt; walk.next().is_none());
+    assert!(rt; Items::<u8>::new(rt.alloc()).is_empty());
 }
 
 fn modf(scalar: Scalar) -> PredeclaredType {
@@ -99,6 +111,13 @@ fn stages_have_their_bits(rt: HostRuntime) {
     let stages = ShaderStages::FRAGMENT | ShaderStages::TASK;
     assert!(rt; stages.bits() == 18);
     assert!(rt; (stages & ShaderStages::VERTEX).bits() == 0);
+}
+
+#[test]
+fn a_new_function_has_nothing_in_it(rt: HostRuntime) {
+    let function = Function::new(rt.alloc());
+    assert!(rt; function.arguments.is_empty() && function.expressions.is_empty());
+    assert!(rt; function.body.statements.is_empty() && function.named_expressions.is_empty());
 }
 
 fn lends_one_type(ctx: GlobalCtx<'_>) -> bool {

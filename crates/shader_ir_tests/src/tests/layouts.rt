@@ -4,7 +4,7 @@ use shader_arena::Handle;
 use shader_ir::{
     AddressSpace, ArraySize, CooperativeRole, CooperativeSize, GlobalCtx, LayoutError,
     LayoutErrorInner, Layouter, Scalar, ScalarKind, Type, TypeInner, UpdateError, VectorSize, mark,
-    sizes_in_range,
+    sizes_in_range, sizes_in_range_from,
 };
 use std::alloc::Global;
 use std::process::Abort;
@@ -70,6 +70,29 @@ fn expects(rt: &impl Abort, alloc: Global, inner: TypeInner, wanted: Option<Figu
     let mut layouter = Layouter::new(alloc);
     let found = laid_out(rt, &mut layouter, arenas.ctx(), ty);
     assert!(rt; found == wanted);
+}
+
+/// Lays out what was added last, as a front end that goes on after each type.
+fn lays_out_added(rt: &impl Abort, layouter: &mut Layouter, ctx: GlobalCtx<'_>) {
+    assert!(rt; sizes_in_range_from(ctx, layouter.len()));
+    match layouter.update_added(ctx) {
+        Ok(()) => {}
+        Err(UpdateError::Layout(_)) => panic!(rt; "a type is refused"),
+        Err(UpdateError::OutOfMemory) => panic!(rt; "{WANT}"),
+    }
+}
+
+#[test]
+fn of_types_as_they_are_added(rt: HostRuntime) {
+    let mut arenas = Arenas::new(rt.alloc());
+    let mut layouter = Layouter::new(rt.alloc());
+    add(&rt, &mut arenas.types, TypeInner::Scalar(Scalar::F32));
+    lays_out_added(&rt, &mut layouter, arenas.ctx());
+    let floats = vector(VectorSize::Tri, Scalar::F32);
+    let ty = add(&rt, &mut arenas.types, floats);
+    lays_out_added(&rt, &mut layouter, arenas.ctx());
+    let found = held(&rt, &layouter, ty);
+    assert!(rt; Some(found) == row(12, 16, 16));
 }
 
 #[test]
@@ -234,6 +257,16 @@ fn a_struct_of_a_later_type_is_refused(rt: HostRuntime) {
     let ty = add(&rt, &mut arenas.types, two);
     let inner = LayoutErrorInner::InvalidStructMemberType(1, later);
     refuses(&rt, rt.alloc(), arenas.ctx(), ty, inner);
+}
+
+#[test]
+fn a_layouter_prints_how_many_layouts_it_holds(rt: HostRuntime) {
+    let mut arenas = Arenas::new(rt.alloc());
+    add(&rt, &mut arenas.types, TypeInner::Scalar(Scalar::F32));
+    let mut layouter = Layouter::new(rt.alloc());
+    assert!(rt; refusal(&rt, &mut layouter, arenas.ctx()).is_none());
+    let told = format!(in rt.alloc(); "{layouter:?}").expect(&rt, WANT);
+    assert!(rt; told.as_str() == "Layouter(1 types)");
 }
 
 #[test]

@@ -22,20 +22,20 @@ automatically_converts_to-requires t c =
       ),
     )
 
-pub returns-then-not-is_same : goal.returns-then-not-is_same
-returns-then-not-is_same t c =
+pub returns-then-not-is_equal_size : goal.returns-then-not-is_equal_size
+returns-then-not-is_equal_size t c =
     let types = c.args.types.now in
     let from = c.in-Array in
     let to = c.in-Array-goal in
     sym ((λ i. conversion (tree_of types (from.is i)) (tree_of types (to.is i)))
-    ∙ conversion-unequal types from.base from.size from.stride to.goal_base to.goal_size to.stride (sym c.is_same.ensures ∙ c.if-not-is_same.true))
+    ∙ conversion-unequal types from.base from.size from.stride to.goal_base to.goal_size to.stride (sym c.is_equal_size.ensures ∙ c.if-not-is_equal_size.true))
 
-pub returns-else-not-is_same : goal.returns-else-not-is_same
-returns-else-not-is_same t c =
+pub returns-else-not-is_equal_size : goal.returns-else-not-is_equal_size
+returns-else-not-is_equal_size t c =
     let types = c.args.types.now in
     let from = c.in-Array in
     let to = c.in-Array-goal in
-    let sizes = sym c.is_same.ensures ∙ c.if-not-is_same.false in
+    let sizes = sym c.is_equal_size.ensures ∙ c.if-not-is_equal_size.false in
     c.automatically_converts_to.ensures
     ∙ sym ((λ i. conversion (tree_of types (from.is i)) (tree_of types (to.is i)))
     ∙ conversion-Array types c.requires.backward from.base from.size from.stride c.index.result.now to.goal_base to.goal_size to.stride c.index-in-Array-goal.result.now

@@ -1,7 +1,7 @@
 use Rattle.std.proofs.Common.{◌≡◌, ◌≤◌, All, take, length}
 use Rattle.shader_ir.specs.Layout.{AreFaultless, AreFirstLayouts, HasStride}
 use Rattle.shader_ir.specs.HeldLayouts.{AreLaidOver}
-use Rattle.shader_ir.proofs.proc.layouter.Layouter.update.Given as goal
+use Rattle.shader_ir.proofs.proc.layouter.Layouter.update_added.Given as goal
 
 -- the layouts made so far come behind those held before
 abbrev pub invariant-loop-place : goal.invariant-loop-place
