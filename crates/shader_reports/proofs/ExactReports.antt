@@ -7,7 +7,7 @@ use Rattle.std.proofs.lemmas.List.{length-map}
 use Rattle.std.proofs.lemmas.Option.{get_or_from_slice_get, slice_get-map, slice_get_within}
 use Rattle.shader_chains.specs.Exact.{IsExact, IsExactModule}
 use Rattle.shader_chains.specs.Faults.{BindingArrayElement, Cause, CountFull, IsAccepted, IsFirstFault, MissingCapability, NoPlace, NonUniformControlFlow, Settings, Untyped}
-use Rattle.shader_chains.specs.Infos.{InGlobal, Picks, bit_of}
+use Rattle.shader_chains.specs.Infos.{Picks, bit_of}
 use Rattle.shader_chains.specs.Origins.{ResultOrigin}
 use Rattle.shader_chains.specs.Program.{Function, Module}
 use Rattle.shader_chains.specs.Uses.{Uses}
@@ -22,10 +22,11 @@ use Rattle.shader_info.specs.declared.info.FunctionInfo.{FunctionInfo}
 use Rattle.shader_resolve.specs.Outcome.{refusal_of}
 use Rattle.shader_steps.specs.Causes.{IsNamed, disruptor_of}
 use Rattle.shader_sweeps.specs.InfoOf.{info_of, infos_of}
-use Rattle.shader_typing.specs.Processed.{IsFunctionAt, site_of}
+use Rattle.shader_typing.specs.Kept.{KeepsAllPairs, KeepsPairs}
+use Rattle.shader_typing.specs.Processed.{IsFunctionAt, IsInfoAt, site_of}
 use Rattle.shader_typing.specs.Recorded.{Recorded}
 use Rattle.shader_reports.specs.Reports.{AreCounts, ArePairs, AreReports, AreUses, IsFunctionReport, IsModuleReport, Varies, kind_of, places_of}
-use Rattle.shader_reports.specs.Told.{ArePairsOf, AreTold, IsInfoAt, IsTold, Tells, TellsAll, TellsRefusal, told_kind}
+use Rattle.shader_reports.specs.Told.{ArePairsOf, AreTold, IsTold, Tells, TellsAll, TellsRefusal, told_kind}
 use Rattle.shader_reports.specs.declared.report.FaultKind.{FaultKind}
 use Rattle.shader_reports.specs.declared.report.FunctionReport.{FunctionReport}
 use Rattle.shader_reports.specs.declared.report.ModuleReport.{ModuleReport}
@@ -45,12 +46,13 @@ uses_are m f info exact = record {
   bits = λ g used u at. subst (λ n. IsBitSet n (bit_of u) ↔ Uses m f g u) (bits_at info.global_uses g used at) (exact.uses g u);
 }
 
-pairs_are : (m : Module) (f : Function) (info : FunctionInfo) (pairs : List (ℕ × ℕ)) → IsExact m f (info_of info) → ArePairsOf info pairs → ArePairs m f pairs
-pairs_are m f info pairs exact told = record {
+pairs_are : (m : Module) (f : Function) (info : FunctionInfo) (pairs : List (ℕ × ℕ)) → KeepsPairs m f info →
+    ArePairsOf info pairs → ArePairs m f pairs
+pairs_are m f info pairs kept told = record {
   ascending = told.ascending;
   members = λ image sampler. (
-    λ h. (exact.pairs (InGlobal image) (InGlobal sampler)).0 ((told.members image sampler).0 h),
-    λ h. (told.members image sampler).1 ((exact.pairs (InGlobal image) (InGlobal sampler)).1 h),
+    λ h. (kept.of_globals image sampler).0 ((told.members image sampler).0 h),
+    λ h. (told.members image sampler).1 ((kept.of_globals image sampler).1 h),
   );
 }
 
@@ -61,10 +63,11 @@ varies_are : (m : Module) (f : Function) (o : Option ℕ) → Picks (λ h. (r : 
 varies_are m f (Some h) picked = (λ _. (picked.0, h, picked.1), λ _. refl)
 varies_are m f None picked = (λ e. cc, λ v. absurd (picked v.1 (v.0, v.2)))
 
-report_is : (m : Module) (f : Function) (info : FunctionInfo) (report : FunctionReport) → IsExact m f (info_of info) → Tells info report → IsFunctionReport m f report
-report_is m f info report exact told = record {
+report_is : (m : Module) (f : Function) (info : FunctionInfo) (report : FunctionReport) → IsExact m f (info_of info) → KeepsPairs m f info →
+    Tells info report → IsFunctionReport m f report
+report_is m f info report exact kept told = record {
   uses = subst (AreUses m f) (sym told.uses) (uses_are m f info exact);
-  pairs = pairs_are m f info report.pairs exact told.pairs;
+  pairs = pairs_are m f info report.pairs kept told.pairs;
   counts = subst (AreCounts f) (sym told.counts) (counts_are m f info exact);
   varies = subst (λ b. IsTrue b ↔ Varies m f) (sym told.varies) (varies_are m f info.uniformity.non_uniform_result exact.result);
 }
@@ -87,13 +90,13 @@ told_at : (recorded : Recorded) (reports : List PlaceReport) (i : ℕ) (r : Plac
 told_at recorded reports i r told at = subst (IsTold recorded) (get_or_from_slice_get reports i r r at) (told i r (slice_get_within reports i r at))
 
 reports_are : (m : Module) (recorded : Recorded) (reports : List PlaceReport) →
-    IsExactModule m recorded.global_expressions (infos_of recorded.functions) (infos_of recorded.entry_points) →
+    IsExactModule m recorded.global_expressions (infos_of recorded.functions) (infos_of recorded.entry_points) → KeepsAllPairs m recorded →
     AreTold recorded (places_of m) reports → AreReports m reports
-reports_are m recorded reports exact told = record {
+reports_are m recorded reports exact kept told = record {
   places = told.places;
   each = λ i r f at there.
       let t = told_at recorded reports i r told.each at in
-      report_is m f t.info r.report (exact_at m recorded r.place t.info f exact t.held there) t.tells;
+      report_is m f t.info r.report (exact_at m recorded r.place t.info f exact t.held there) (kept r.place f t.info there t.held) t.tells;
 }
 
 -- ---- of a refusal
@@ -116,7 +119,7 @@ refusal_is m settings failure report named told =
     subst (IsModuleReport m settings) (sym told.refused) (record { cause = found.0; first = found.1; kind = found.2 })
 
 pub acceptance_is : (m : Module) (settings : Settings) (recorded : Recorded) (report : ModuleReport) →
-    IsExactModule m recorded.global_expressions (infos_of recorded.functions) (infos_of recorded.entry_points) → IsAccepted m settings →
-    TellsAll m recorded report → IsModuleReport m settings report
-acceptance_is m settings recorded report exact clean told =
-    subst (IsModuleReport m settings) (sym told.accepted) (clean, reports_are m recorded told.reports exact told.told)
+    IsExactModule m recorded.global_expressions (infos_of recorded.functions) (infos_of recorded.entry_points) → KeepsAllPairs m recorded →
+    IsAccepted m settings → TellsAll m recorded report → IsModuleReport m settings report
+acceptance_is m settings recorded report exact kept clean told =
+    subst (IsModuleReport m settings) (sym told.accepted) (clean, reports_are m recorded told.reports exact kept told.told)

@@ -6,8 +6,9 @@ use Rattle.std.proofs.lemmas.List.Elements.{All-push}
 use Rattle.std.proofs.lemmas.List.FromFn.{map-range_with_len_more}
 use Rattle.shader_info.specs.declared.error.AnalysisPlace.{AnalysisPlace}
 use Rattle.shader_info.specs.declared.info.FunctionInfo.{FunctionInfo}
+use Rattle.shader_typing.specs.Processed.{IsInfoAt}
 use Rattle.shader_typing.specs.Recorded.{Recorded}
-use Rattle.shader_reports.specs.Told.{AddsReport, AreTold, IsInfoAt, IsTold}
+use Rattle.shader_reports.specs.Told.{AddsReport, AreTold, IsTold}
 use Rattle.shader_reports.specs.declared.report.PlaceReport.{PlaceReport}
 
 -- the places of a kind behind others, and one more

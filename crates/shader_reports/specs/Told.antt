@@ -1,15 +1,13 @@
 -- What is told of an info.
-use Rattle.std.specs.Prelude.{◌≡◌, ◌↔◌, ◌++◌, ◌∷◌, [], ℕ, All, List, Option, Some, None, map, is_some, slice_get, Contains}
+use Rattle.std.specs.Prelude.{◌≡◌, ◌↔◌, ◌++◌, ◌∷◌, [], ℕ, All, List, Option, Some, None, map, is_some, Contains}
 use Rattle.std.specs.List.Sorted.{IsStrictlySortedBy}
-use Rattle.shader_chains.specs.Infos.{Place, InGlobal, InArgument}
 use Rattle.shader_chains.specs.Program.{Module}
 use Rattle.shader_info.specs.declared.error.AnalysisError.{AnalysisError}
 use Rattle.shader_info.specs.declared.error.AnalysisPlace.{AnalysisPlace}
-use Rattle.shader_info.specs.declared.error.AnalysisPlace.TheVariants as place
 use Rattle.shader_info.specs.declared.error.FunctionError.{FunctionError}
 use Rattle.shader_info.specs.declared.error.FunctionError.TheVariants as error
 use Rattle.shader_info.specs.declared.info.FunctionInfo.{FunctionInfo}
-use Rattle.shader_sweeps.specs.Paired.{info_pairs}
+use Rattle.shader_typing.specs.Processed.{IsInfoAt}
 use Rattle.shader_typing.specs.Recorded.{Recorded}
 use Rattle.shader_reports.specs.Reports.{pair_cmp, places_of}
 use Rattle.shader_reports.specs.declared.report.FaultKind.{FaultKind}
@@ -19,28 +17,17 @@ use Rattle.shader_reports.specs.declared.report.ModuleReport.{ModuleReport}
 use Rattle.shader_reports.specs.declared.report.ModuleReport.TheVariants.{Accepted, Refused}
 use Rattle.shader_reports.specs.declared.report.PlaceReport.{PlaceReport}
 
--- the places of a pair of two globals, nothing of another pair
-abbrev pub two_globals : Place → Place → Option (ℕ × ℕ)
-two_globals (InGlobal image) (InGlobal sampler) = Some (image, sampler)
-two_globals (InGlobal image) (InArgument sampler) = None
-two_globals (InArgument image) sampler = None
-
 -- the pairs of two globals that are recorded, in ascending order
 pub record ArePairsOf (info : FunctionInfo) (pairs : List (ℕ × ℕ)) : Type 0 where
   pub ascending : IsStrictlySortedBy pair_cmp pairs
-  pub members : (image sampler : ℕ) → Contains pairs (image, sampler) ↔ Contains (info_pairs info) (InGlobal image, InGlobal sampler)
+  pub members : (image sampler : ℕ) →
+      Contains pairs (image, sampler) ↔ Contains info.sampling_set.keys (record { image = image; sampler = sampler })
 
 pub record Tells (info : FunctionInfo) (report : FunctionReport) : Type 0 where
   pub uses : report.uses ≡ info.global_uses
   pub pairs : ArePairsOf info report.pairs
   pub counts : report.counts ≡ map (λ e. e.ref_count) info.expressions
   pub varies : report.varies ≡ is_some info.uniformity.non_uniform_result
-
--- the info recorded of a place; of a global expression there is none
-abbrev pub IsInfoAt : Recorded → AnalysisPlace → FunctionInfo → Type 0
-IsInfoAt recorded (place.ConstExpression e) info = ⊥
-IsInfoAt recorded (place.Function i) info = slice_get recorded.functions i ≡ Some info
-IsInfoAt recorded (place.EntryPoint i) info = slice_get recorded.entry_points i ≡ Some info
 
 -- what is recorded of the report's place is told
 pub record IsTold (recorded : Recorded) (report : PlaceReport) : Type 0 where

@@ -3,48 +3,29 @@ ghost use Rattle.std.specs.Prelude.{◌≡◌, [], length, map, IfOk, OnOk};
 ghost use Rattle.std.specs.List.{range_with_len};
 ghost use Rattle.shader_info.specs.declared.error.AnalysisPlace.TheVariants.{Function};
 ghost use Rattle.shader_reports.specs.Reports.{IsModuleReport, places_of};
-ghost use Rattle.shader_reports.specs.Told.{AddsReport, ArePairsOf, AreTold, Tells, TellsAll, TellsRefusal, told_kind, two_globals};
-ghost use Rattle.shader_sweeps.specs.Paired.{place_view};
+ghost use Rattle.shader_reports.specs.Told.{AddsReport, ArePairsOf, AreTold, Tells, TellsAll, TellsRefusal, told_kind};
 ghost use Rattle.shader_resolve.specs.WellFormed.{IsWellFormed};
 ghost use Rattle.shader_steps.specs.Causes.{settings_of};
 
 use crate::report::{FaultKind, FunctionReport, ModuleReport, PlaceReport};
 use shader_arena::Handle;
 use shader_info::{
-    AnalysisError, AnalysisPlace, Capabilities, FunctionError, FunctionInfo, GlobalOrArgument,
-    ValidationFlags,
+    AnalysisError, AnalysisPlace, Capabilities, FunctionError, FunctionInfo, ValidationFlags,
 };
 use shader_ir::{Items, Module, mark};
 use shader_typing::valid::{ModuleInfo, analyze_module};
 use std::alloc::{AllocError, Global};
 use std::collections::BTreeSet;
 
-/// The places of two globals, nothing where one is an argument.
-fn two_globals(image: GlobalOrArgument, sampler: GlobalOrArgument) -> Option<(usize, usize)>
-    ensures { result ≡ two_globals (place_view image) (place_view sampler) }
-{
-    match image {
-        GlobalOrArgument::Global(image) => match sampler {
-            GlobalOrArgument::Global(sampler) => Some((image.index(), sampler.index())),
-            GlobalOrArgument::Argument(_) => None,
-        },
-        GlobalOrArgument::Argument(_) => None,
-    }
-}
-
-/// The pairs of two globals, whichever set holds them, in ascending order.
+/// The pairs of two globals, in ascending order.
 fn pairs_of(alloc: Global, info: &FunctionInfo) -> Result<Items<(usize, usize)>, AllocError>
     ensures { IfOk result (ArePairsOf info.now) }
 {
-    let known = info
+    let pairs: BTreeSet<(usize, usize)> = info
         .sampling_set
         .iter()
-        .map(|key| (key.image.index(), key.sampler.index()));
-    let others = info
-        .sampling
-        .iter()
-        .filter_map(|pair| two_globals(pair.image, pair.sampler));
-    let pairs: BTreeSet<(usize, usize)> = known.chain(others).collect(alloc)?;
+        .map(|key| (key.image.index(), key.sampler.index()))
+        .collect(alloc)?;
     let pairs: Vec<(usize, usize)> = pairs.into_iter().collect(alloc)?;
     Ok(Items::from(pairs))
 }

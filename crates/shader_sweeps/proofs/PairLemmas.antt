@@ -10,11 +10,11 @@ use Rattle.shader_info.specs.contracts.info.SamplingKeyPartialEq.TheImpl as key
 use Rattle.shader_info.specs.contracts.info.SamplingPartialEq.TheImpl as sampling
 use Rattle.shader_info.specs.declared.info.Sampling.{Sampling}
 use Rattle.shader_info.specs.declared.info.SamplingKey.{SamplingKey}
-use Rattle.shader_sweeps.specs.Paired.{SameMembers, pairs_in, key_pair, sampling_pair, called, passed_all, info_pairs}
+use Rattle.shader_sweeps.specs.Paired.{HasArgument, HaveArguments, SameMembers, pairs_in, place_view, key_pair, sampling_pair, called, passed_all, info_pairs}
 use Rattle.shader_info.specs.declared.info.FunctionInfo.{FunctionInfo}
 use Rattle.shader_chains.specs.Program.{Function, Step, Leaf, Call}
 use Rattle.std.specs.Option.{option_map}
-use Rattle.shader_chains.proofs.ListLemmas.{there, cases, in_map, of_map}
+use Rattle.shader_chains.proofs.ListLemmas.{there, cases, in_map, nowhere, of_map}
 use Rattle.shader_chains.specs.Infos.{Place}
 use Rattle.std.proofs.lemmas.Grind.{flat_map-append}
 use Rattle.shader_arena.proofs.PlacesLemmas.{items_of-enumerate_from}
@@ -126,6 +126,20 @@ puts_open k known open_pairs open_pairs' added p e =
     (same_refl (map key_pair known)) (same_map sampling_pair open_pairs' (k ∷ open_pairs) (puts sampling_same k open_pairs open_pairs' added p e)))
     (same_perm (map key_pair known ++ sampling_pair k ∷ map sampling_pair open_pairs) (sampling_pair k ∷ pairs_in known open_pairs)
     (IsPermutation-middle (map key_pair known) (sampling_pair k) (map sampling_pair open_pairs)))
+
+-- and each has one
+pub stays_open : (k : Sampling) (open_pairs open_pairs' : List Sampling) (added : Bool) →
+    MatchBool added (IsPermutation (k ∷ open_pairs) open_pairs') (open_pairs' ≡ open_pairs) → added ≡ not (list_any (sampling.ghosts.eq k) open_pairs) →
+    HasArgument (place_view k.image) (place_view k.sampler) → HaveArguments open_pairs → HaveArguments open_pairs'
+stays_open k open_pairs open_pairs' added p e has before = record {
+  each = λ pair h. elim (cases k open_pairs pair ((puts sampling_same k open_pairs open_pairs' added p e).to pair h)) [
+    | inl is ↦ let P : Sampling → Type 0 = λ v. HasArgument (place_view v.image) (place_view v.sampler) in subst P is has
+    | inr rest ↦ before.each pair rest
+  ];
+}
+
+pub none_open : HaveArguments []
+none_open = record { each = λ pair h. absurd (nowhere pair h) }
 
 pub ruleset gains = (more, more_one, both, same_refl, items_of-enumerate_from, flat_map-append)
 

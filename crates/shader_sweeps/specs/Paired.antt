@@ -28,6 +28,15 @@ pairs_in known open_pairs = map key_pair known ++ map sampling_pair open_pairs
 abbrev pub pairs_of : Pairs → List (Place × Place)
 pairs_of p = pairs_in p.sampling_set.keys p.sampling.keys
 
+-- one of the two places is an argument
+abbrev pub HasArgument : Place → Place → Type 0
+HasArgument (InGlobal image) (InGlobal sampler) = ⊥
+HasArgument image sampler = Unit {0}
+
+-- each of the pairs has an argument
+pub record HaveArguments (open_pairs : List Sampling) : Type 0 where
+  pub each : (pair : Sampling) → Contains open_pairs pair → HasArgument (place_view pair.image) (place_view pair.sampler)
+
 -- two lists have the same members
 pub record SameMembers {X : Type 0} (xs ys : List X) : Type 0 where
   pub to : (x : X) → Contains xs x → Contains ys x

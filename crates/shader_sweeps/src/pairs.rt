@@ -3,6 +3,7 @@ ghost use Rattle.std.specs.Prelude.{◌≡◌, [], ◌∷◌, ◌++◌, OnOk, If
 ghost use Rattle.std.specs.Option.{option_copied, option_map, option_or};
 ghost use Rattle.std.specs.List.{flat_map, enumerate_from};
 ghost use Rattle.std.specs.Prelude.{map};
+ghost use Rattle.shader_chains.specs.Infos.{InGlobal};
 ghost use Rattle.shader_chains.specs.Pairs.{global_place, place, in_caller};
 ghost use Rattle.shader_ir.specs.BodyOf.{step_of};
 ghost use Rattle.shader_sweeps.specs.Gathered.{listed};
@@ -89,22 +90,28 @@ fn in_caller(
 }
 
 impl Pairs {
-    ghost use Rattle.shader_sweeps.specs.Paired.{pairs_of, key_pair, sampling_pair, SameMembers, pair_of, passed_all, info_pairs, called, sampled_pair};
+    ghost use Rattle.shader_sweeps.specs.Paired.{HasArgument, HaveArguments, pairs_of, key_pair, sampling_pair, SameMembers, pair_of, passed_all, info_pairs, called, sampled_pair};
 
     /// Keeps the first expression that has no place.
     fn miss(&mut self, expression: Option<Handle<mark::Expression>>)
         ensures members { pairs_of self.new ≡ pairs_of self.old }
         ensures unplaced { self.new.unplaced ≡ option_or self.old.unplaced expression }
+        ensures with_arguments { HaveArguments self.old.sampling.keys → HaveArguments self.new.sampling.keys }
     {
         self.unplaced = self.unplaced.or(expression);
     }
 
     /// Adds a pair of two globals.
-    fn insert_key(&mut self, key: SamplingKey) -> Result<(), AllocError>
-        ensures members { OnOk result (SameMembers (pairs_of self.new) (key_pair key ∷ pairs_of self.old)) }
+    fn insert_globals(
+        &mut self,
+        image: Handle<mark::GlobalVariable>,
+        sampler: Handle<mark::GlobalVariable>,
+    ) -> Result<(), AllocError>
+        ensures members { OnOk result (SameMembers (pairs_of self.new) ((InGlobal image, InGlobal sampler) ∷ pairs_of self.old)) }
         ensures unplaced { OnOk result (self.new.unplaced ≡ self.old.unplaced) }
+        ensures with_arguments { OnOk result (HaveArguments self.old.sampling.keys → HaveArguments self.new.sampling.keys) }
     {
-        self.sampling_set.insert(key)?;
+        self.sampling_set.insert(SamplingKey { image, sampler })?;
         Ok(())
     }
 
@@ -114,8 +121,10 @@ impl Pairs {
         image: GlobalOrArgument,
         sampler: GlobalOrArgument,
     ) -> Result<(), AllocError>
+        requires { HasArgument (place_view image) (place_view sampler) }
         ensures members { OnOk result (SameMembers (pairs_of self.new) ((place_view image, place_view sampler) ∷ pairs_of self.old)) }
         ensures unplaced { OnOk result (self.new.unplaced ≡ self.old.unplaced) }
+        ensures with_arguments { OnOk result (HaveArguments self.old.sampling.keys → HaveArguments self.new.sampling.keys) }
     {
         self.sampling.insert(Sampling { image, sampler })?;
         Ok(())
@@ -129,13 +138,13 @@ impl Pairs {
     ) -> Result<(), AllocError>
         ensures members { OnOk result (SameMembers (pairs_of self.new) ((place_view image, place_view sampler) ∷ pairs_of self.old)) }
         ensures unplaced { OnOk result (self.new.unplaced ≡ self.old.unplaced) }
+        ensures with_arguments { OnOk result (HaveArguments self.old.sampling.keys → HaveArguments self.new.sampling.keys) }
     {
         match image {
             GlobalOrArgument::Global(image_global) => match sampler {
-                GlobalOrArgument::Global(sampler_global) => self.insert_key(SamplingKey {
-                    image: image_global,
-                    sampler: sampler_global,
-                }),
+                GlobalOrArgument::Global(sampler_global) => {
+                    self.insert_globals(image_global, sampler_global)
+                }
                 GlobalOrArgument::Argument(_) => self.insert_open(image, sampler),
             },
             GlobalOrArgument::Argument(_) => self.insert_open(image, sampler),
@@ -152,6 +161,7 @@ impl Pairs {
     ) -> Result<(), AllocError>
         ensures members { OnOk result (SameMembers (pairs_of self.new) (pair_of (option_map place_view image) (option_map place_view sampler) ++ pairs_of self.old)) }
         ensures unplaced { OnOk result (self.new.unplaced ≡ option_or (option_or self.old.unplaced (missed_of (option_map place_view image) image_expression)) (missed_of (option_map place_view sampler) sampler_expression)) }
+        ensures with_arguments { OnOk result (HaveArguments self.old.sampling.keys → HaveArguments self.new.sampling.keys) }
     {
         match image {
             Some(image_place) => match sampler {
@@ -179,6 +189,7 @@ impl Pairs {
     ) -> Result<(), AllocError>
         ensures members { OnOk result (SameMembers (pairs_of self.new) (passed_all function.now arguments.now (map sampling_pair open_pairs.now.keys) ++ pairs_of self.old)) }
         ensures unplaced { OnOk result (self.new.unplaced ≡ fold (pair_missed function.now arguments.now) self.old.unplaced (map sampling_pair open_pairs.now.keys)) }
+        ensures with_arguments { OnOk result (HaveArguments self.old.sampling.keys → HaveArguments self.new.sampling.keys) }
     {
         for pair in open_pairs.iter() {
             let image = in_caller(pair.image, function, arguments);
@@ -200,6 +211,7 @@ impl Pairs {
     ) -> Result<(), AllocError>
         ensures members { OnOk result (SameMembers (pairs_of self.new) (passed_all function.now arguments.now (map key_pair known.now.keys) ++ pairs_of self.old)) }
         ensures unplaced { OnOk result (self.new.unplaced ≡ self.old.unplaced) }
+        ensures with_arguments { OnOk result (HaveArguments self.old.sampling.keys → HaveArguments self.new.sampling.keys) }
     {
         for pair in known.iter() {
             let image = GlobalOrArgument::Global(pair.image);
@@ -219,6 +231,7 @@ impl Pairs {
     ) -> Result<(), AllocError>
         ensures members { OnOk result (SameMembers (pairs_of self.new) (passed_all function.now arguments.now (info_pairs info.now) ++ pairs_of self.old)) }
         ensures unplaced { OnOk result (self.new.unplaced ≡ fold (pair_missed function.now arguments.now) self.old.unplaced (info_pairs info.now)) }
+        ensures with_arguments { OnOk result (HaveArguments self.old.sampling.keys → HaveArguments self.new.sampling.keys) }
     {
         self.pass_known(function, arguments, &info.sampling_set)?;
         self.pass_open(function, arguments, &info.sampling)
@@ -234,6 +247,7 @@ impl Pairs {
     ) -> Result<(), AllocError>
         ensures members { OnOk result (SameMembers (pairs_of self.new) (called infos.now function.now (step_of statement.now) ++ pairs_of self.old)) }
         ensures unplaced { OnOk result (self.new.unplaced ≡ call_missed infos.now function.now self.old.unplaced (step_of statement.now)) }
+        ensures with_arguments { OnOk result (HaveArguments self.old.sampling.keys → HaveArguments self.new.sampling.keys) }
     {
         if let Statement::Call {
             function: callee,
@@ -259,6 +273,7 @@ impl Pairs {
     ) -> Result<(), AllocError>
         ensures members { OnOk result (SameMembers (pairs_of self.new) (flat_map (called infos.now function.now) (listed all.now) ++ pairs_of self.old)) }
         ensures unplaced { OnOk result (self.new.unplaced ≡ fold (call_missed infos.now function.now) self.old.unplaced (listed all.now)) }
+        ensures with_arguments { OnOk result (HaveArguments self.old.sampling.keys → HaveArguments self.new.sampling.keys) }
     {
         for statement in all {
             self.pass(infos, function, statement)?;
@@ -275,6 +290,7 @@ impl Pairs {
     ) -> Result<(), AllocError>
         ensures members { OnOk result (SameMembers (pairs_of self.new) (sampled_pair function.now expression.now ++ pairs_of self.old)) }
         ensures unplaced { OnOk result (self.new.unplaced ≡ sample_missed function.now self.old.unplaced (handle, expression.now)) }
+        ensures with_arguments { OnOk result (HaveArguments self.old.sampling.keys → HaveArguments self.new.sampling.keys) }
     {
         if let Expression::ImageSample { image, sampler, .. } = expression {
             let image_place = place_of(function, *image);
@@ -289,6 +305,7 @@ impl Pairs {
     pub fn sample_all(&mut self, function: &Function) -> Result<(), AllocError>
         ensures members { OnOk result (SameMembers (pairs_of self.new) (flat_map (sampled_pair function.now) function.now.expressions ++ pairs_of self.old)) }
         ensures unplaced { OnOk result (self.new.unplaced ≡ fold (sample_missed function.now) self.old.unplaced (enumerate_from 0 function.now.expressions)) }
+        ensures with_arguments { OnOk result (HaveArguments self.old.sampling.keys → HaveArguments self.new.sampling.keys) }
     {
         for (handle, expression) in function.expressions.iter() {
             self.sample(function, handle, expression)?;
@@ -300,6 +317,7 @@ impl Pairs {
     fn empty(alloc: Global) -> Pairs
         ensures members { pairs_of result ≡ [] }
         ensures unplaced { result.unplaced ≡ None }
+        ensures with_arguments { HaveArguments result.sampling.keys }
     {
         Pairs {
             sampling_set: HashSet::new(alloc),
@@ -321,6 +339,7 @@ impl Pairs {
     ) -> Result<Pairs, AllocError>
         ensures members { IfOk result (λ pairs. SameMembers (pairs_of pairs) (flat_map (called infos.now function.now) (listed all.now) ++ (flat_map (sampled_pair function.now) function.now.expressions ++ []))) }
         ensures unplaced { IfOk result (λ pairs. pairs.unplaced ≡ fold (call_missed infos.now function.now) (fold (sample_missed function.now) None (enumerate_from 0 function.now.expressions)) (listed all.now)) }
+        ensures with_arguments { IfOk result (λ pairs. HaveArguments pairs.sampling.keys) }
     {
         let mut pairs = Pairs::empty(alloc);
         pairs.sample_all(function)?;

@@ -26,6 +26,7 @@ use Rattle.shader_resolve.specs.WellFormed.{IsWellFormed}
 use Rattle.shader_steps.specs.Causes.{IsNamed}
 use Rattle.shader_sweeps.proofs.HeldInfoLemmas.{of_held}
 use Rattle.shader_sweeps.specs.InfoOf.{info_of, infos_of}
+use Rattle.shader_sweeps.specs.Paired.{HaveArguments}
 use Rattle.shader_typing.proofs.PlaceLemmas.{found_at}
 use Rattle.shader_typing.specs.Analyzed.{EntryPointsFound, FunctionsFound}
 
@@ -75,9 +76,9 @@ module _ (m : Module) (settings : Settings) (well : IsWellFormed m) (types : Lis
     ordered : NamesEarlier (length held) f
     ordered = (point_backwards m well).functions (length held) f is_f
 
-    pub next_function : (info : FunctionInfo) → MeetsSteps m (infos_of held) f (info_of info) → Fits m f info →
-        ((cause : Cause) → StepFault m (infos_of held) f settings cause → ⊥) → FunctionsFound m settings (held ++ info ∷ [])
-    next_function info steps fits none =
+    pub next_function : (info : FunctionInfo) → MeetsSteps m (infos_of held) f (info_of info) →
+        HaveArguments info.sampling.keys → Fits m f info → ((cause : Cause) → StepFault m (infos_of held) f settings cause → ⊥) → FunctionsFound m settings (held ++ info ∷ [])
+    next_function info steps apart fits none =
         let is_next : slice_get m.functions (length (infos_of held)) ≡ Some f = ap (slice_get m.functions) (length-map held info_of) ∙ is_f in
         let done = next_is_exact m (infos_of held) f (info_of info) (point_backwards m well).functions is_next before.exact steps in
         let P : List Info → Type 0 = λ v. Pairwise (IsExact m) m v in
@@ -88,6 +89,7 @@ module _ (m : Module) (settings : Settings) (well : IsWellFormed m) (types : Lis
                 (λ e x is_x g is_g. before.held.fit e g x is_g is_x) (λ g is_g. subst (λ x. Fits m x info) (same_Some f g (sym is_f ∙ is_g)) fits) c i is_i r is_r;
           };
           exact = subst P (sym (infos_of-push held info)) done;
+          apart = one_more (λ e x. HaveArguments x.sampling.keys) held info before.apart apart;
           clean = λ i g cause lt is_g. up_to_here (λ e. (g : Function) (cause : Cause) → slice_get m.functions e ≡ Some g → IsFault m g settings cause → ⊥) (length held)
               (λ e early g cause is_g. before.clean e g cause early is_g)
               (λ g cause is_g. subst (λ x. IsFault m x settings cause → ⊥) (same_Some f g (sym is_f ∙ is_g)) (no_fault m settings well held before f ordered none cause))
@@ -111,8 +113,8 @@ module _ (m : Module) (settings : Settings) (well : IsWellFormed m) (types : Lis
     names_functions c mention = omega (arith, all, (point_backwards m well).entry_points (length done) entry is_entry c mention)
 
     pub next_entry_point : (info : FunctionInfo) → MeetsSteps m (infos_of held) entry.function (info_of info) →
-        ((cause : Cause) → StepFault m (infos_of held) entry.function settings cause → ⊥) → EntryPointsFound m settings (done ++ info ∷ [])
-    next_entry_point info steps none =
+        HaveArguments info.sampling.keys → ((cause : Cause) → StepFault m (infos_of held) entry.function settings cause → ⊥) → EntryPointsFound m settings (done ++ info ∷ [])
+    next_entry_point info steps apart none =
         let exact : IsExact m entry.function (info_of info) =
         entry_is_exact m (infos_of held) entry.function (info_of info) (length-map held info_of ∙ all)
         ((point_backwards m well).entry_points (length done) entry is_entry) before.exact steps in
@@ -121,6 +123,7 @@ module _ (m : Module) (settings : Settings) (well : IsWellFormed m) (types : Lis
           exact = λ i other at is_other is_at. one_more (λ e x. (other : EntryPoint) → slice_get m.entry_points e ≡ Some other → IsExact m other.function (info_of x)) done info
               (λ e x is_x other is_o. entries.exact e other x is_o is_x)
               (λ other is_o. subst (λ (x : EntryPoint). IsExact m x.function (info_of info)) (same_Some entry other (sym is_entry ∙ is_o)) exact) i at is_at other is_other;
+          apart = one_more (λ e x. HaveArguments x.sampling.keys) done info entries.apart apart;
           clean = λ i other cause lt is_other. up_to_here
               (λ e. (other : EntryPoint) (cause : Cause) → slice_get m.entry_points e ≡ Some other → IsFault m other.function settings cause → ⊥) (length done)
               (λ e early other cause is_o. entries.clean e other cause early is_o)

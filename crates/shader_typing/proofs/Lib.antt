@@ -3,6 +3,7 @@ pub mod DivergenceLemmas
 pub mod FewNeeds
 pub mod FoundLemmas
 pub mod InfoLemmas
+pub mod KeptLemmas
 pub mod MisplacedFaults
 pub mod NextLemmas
 pub mod PlaceLemmas

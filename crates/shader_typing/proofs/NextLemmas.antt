@@ -16,10 +16,13 @@ use Rattle.shader_resolve.specs.Context.{context_of}
 use Rattle.shader_resolve.specs.WellFormed.{IsWellFormed}
 use Rattle.shader_steps.specs.Causes.{IsNamed}
 use Rattle.shader_sweeps.specs.InfoOf.{info_of, infos_of}
+use Rattle.shader_sweeps.specs.Paired.{HaveArguments}
 use Rattle.shader_typing.proofs.FoundLemmas.{accepted, exact_module, first_in_entry_point, first_in_function, named_more, next_entry_point, next_function}
+use Rattle.shader_typing.proofs.KeptLemmas.{keeps_all_pairs}
 use Rattle.shader_typing.proofs.PlaceLemmas.{found_at}
 use Rattle.shader_typing.specs.Analyzable.{AreHeld}
 use Rattle.shader_typing.specs.Analyzed.{EntryPointsFound, FunctionsFound}
+use Rattle.shader_typing.specs.Kept.{KeepsAllPairs}
 use Rattle.shader_typing.specs.Processed.{CanProcess, IsFunctionAt, functions_before, infos_before}
 use Rattle.shader_typing.specs.Recorded.{Recorded}
 
@@ -51,10 +54,10 @@ module _ (m : Module) (settings : Settings) (well : IsWellFormed m) (recorded : 
 
     pub function_found : (info : FunctionInfo) →
         ((f : Function) → IsFunctionAt m (site.Function i) f → MeetsSteps m (infos_of (infos_before m recorded (site.Function i))) f (info_of info)) →
-        ((f : Function) → IsFunctionAt m (site.Function i) f → Fits m f info) →
+        HaveArguments info.sampling.keys → ((f : Function) → IsFunctionAt m (site.Function i) f → Fits m f info) →
         ((f : Function) (cause : Cause) → IsFunctionAt m (site.Function i) f → StepFault m (infos_of (infos_before m recorded (site.Function i))) f settings cause → ⊥) →
         (functions : List FunctionInfo) → functions ≡ recorded.functions ++ info ∷ [] → FunctionsFound m settings functions
-    function_found info steps fits clean functions are_now =
+    function_found info steps apart fits clean functions are_now =
         let f = the_function.0 in
         let is_f = the_function.1 in
         let now : MeetsSteps m (infos_of recorded.functions) f (info_of info) =
@@ -62,7 +65,7 @@ module _ (m : Module) (settings : Settings) (well : IsWellFormed m) (recorded : 
         let none : (cause : Cause) → StepFault m (infos_of recorded.functions) f settings cause → ⊥ =
         over_all (λ v. (cause : Cause) → StepFault m (infos_of v) f settings cause → ⊥) (site.Function i) next (λ cause. clean f cause is_f) in
         subst (FunctionsFound m settings) (sym are_now)
-        (next_function m settings well recorded.global_expressions are recorded.functions before f is_next info now (fits f is_f) none)
+        (next_function m settings well recorded.global_expressions are recorded.functions before f is_next info now apart (fits f is_f) none)
 
     pub function_refused : (failure : FunctionError) →
         ((f : Function) → IsFunctionAt m (site.Function i) f → IsNamed (StepFault m (infos_of (infos_before m recorded (site.Function i))) f settings) failure) →
@@ -91,16 +94,17 @@ module _ (m : Module) (settings : Settings) (well : IsWellFormed m) (recorded : 
 
     pub entry_point_found : (info : FunctionInfo) →
         ((f : Function) → IsFunctionAt m (site.EntryPoint i) f → MeetsSteps m (infos_of (infos_before m recorded (site.EntryPoint i))) f (info_of info)) →
+        HaveArguments info.sampling.keys →
         ((f : Function) (cause : Cause) → IsFunctionAt m (site.EntryPoint i) f → StepFault m (infos_of (infos_before m recorded (site.EntryPoint i))) f settings cause → ⊥) →
         (entry_points : List FunctionInfo) → entry_points ≡ recorded.entry_points ++ info ∷ [] → EntryPointsFound m settings entry_points
-    entry_point_found info steps clean entry_points are_now =
+    entry_point_found info steps apart clean entry_points are_now =
         let f = the_entry.0.function in
         let now : MeetsSteps m (infos_of recorded.functions) f (info_of info) =
         over_all (λ v. MeetsSteps m (infos_of v) f (info_of info)) (site.EntryPoint i) (sym all) (steps f at_entry) in
         let none : (cause : Cause) → StepFault m (infos_of recorded.functions) f settings cause → ⊥ =
         over_all (λ v. (cause : Cause) → StepFault m (infos_of v) f settings cause → ⊥) (site.EntryPoint i) (sym all) (λ cause. clean f cause at_entry) in
         subst (EntryPointsFound m settings) (sym are_now)
-        (next_entry_point m settings well recorded.global_expressions are recorded.functions before all recorded.entry_points entries the_entry.0 is_next_entry info now none)
+        (next_entry_point m settings well recorded.global_expressions are recorded.functions before all recorded.entry_points entries the_entry.0 is_next_entry info now apart none)
 
     pub entry_point_refused : (failure : FunctionError) →
         ((f : Function) → IsFunctionAt m (site.EntryPoint i) f → IsNamed (StepFault m (infos_of (infos_before m recorded (site.EntryPoint i))) f settings) failure) →
@@ -118,6 +122,7 @@ pub no_functions : (m : Module) (settings : Settings) (functions : List Function
 no_functions m settings functions none = subst (FunctionsFound m settings) (sym none) (record {
   held = record { there = omega arith; fit = λ c r info is_r is_info. absurd (cc) };
   exact = λ i f info is_f is_info. absurd (cc);
+  apart = λ i info is_info. absurd (cc);
   clean = λ i f cause lt is_f fault. absurd (omega (arith, lt));
 })
 
@@ -125,6 +130,7 @@ pub no_entry_points : (m : Module) (settings : Settings) (entry_points : List Fu
 no_entry_points m settings entry_points none = subst (EntryPointsFound m settings) (sym none) (record {
   there = omega arith;
   exact = λ i entry info is_entry is_info. absurd (cc);
+  apart = λ i info is_info. absurd (cc);
   clean = λ i entry cause lt is_entry fault. absurd (omega (arith, lt));
 })
 
@@ -135,7 +141,7 @@ pub all_found : (m : Module) (settings : Settings) → IsWellFormed m → (typed
     FunctionsFound m settings with_functions.functions →
     last ≡ record with_functions { entry_points = last.entry_points } → length last.entry_points ≡ length m.entry_points →
     EntryPointsFound m settings last.entry_points →
-    IsExactModule m last.global_expressions (infos_of last.functions) (infos_of last.entry_points) × IsAccepted m settings
+    IsExactModule m last.global_expressions (infos_of last.functions) (infos_of last.entry_points) × KeepsAllPairs m last × IsAccepted m settings
 all_found m settings well typed with_functions last are is_next all found is_last all_entries entries =
     let types : last.global_expressions ≡ typed.global_expressions =
     ap (λ (v : Recorded). v.global_expressions) is_last ∙ ap (λ (v : Recorded). v.global_expressions) is_next in
@@ -144,5 +150,6 @@ all_found m settings well typed with_functions last are is_next all found is_las
     let held = subst (FunctionsFound m settings) (sym same) found in
     let long : length last.functions ≡ length m.functions = ap length same ∙ all in (
       exact_module m settings well last.global_expressions now last.functions held long last.entry_points entries all_entries,
+      keeps_all_pairs m settings last held entries,
       accepted m settings well last.global_expressions now last.functions held long last.entry_points entries all_entries,
     )

@@ -10,6 +10,7 @@ use Rattle.shader_ir.specs.declared.function.EntryPoint.{EntryPoint}
 use Rattle.shader_ir.specs.declared.proc.type_resolution.TypeResolution.{TypeResolution}
 use Rattle.shader_resolve.specs.Context.{context_of}
 use Rattle.shader_sweeps.specs.InfoOf.{info_of, infos_of}
+use Rattle.shader_sweeps.specs.Paired.{HaveArguments}
 use Rattle.shader_expression_types.specs.Typed.{AreOfTheFirst}
 use Rattle.shader_typing.specs.Analyzable.{AreHeld}
 
@@ -19,10 +20,11 @@ pub record TypesFound (m : Module) (types : List TypeResolution) : Type 0 where
   pub derived : AreOfTheFirst (context_of m [] []) m.global_expressions types
   pub fit : All (FitsTypes m.types) types
 
--- the infos are exact for the first functions, and no fault stands in these
+-- the infos are exact for the first functions, hold pairs of two globals apart, and no fault stands in these
 pub record FunctionsFound (m : Module) (settings : Settings) (functions : List FunctionInfo) : Type 0 where
   pub held : AreHeld m functions
   pub exact : Pairwise (IsExact m) m (infos_of functions)
+  pub apart : (i : ℕ) (info : FunctionInfo) → slice_get functions i ≡ Some info → HaveArguments info.sampling.keys
   pub clean : (i : ℕ) (f : Function) (cause : Cause) → i < length functions → slice_get m.functions i ≡ Some f → IsFault m f settings cause → ⊥
 
 -- the same of the first entry points
@@ -30,5 +32,6 @@ pub record EntryPointsFound (m : Module) (settings : Settings) (entry_points : L
   pub there : length entry_points ≤ length m.entry_points
   pub exact : (i : ℕ) (entry : EntryPoint) (info : FunctionInfo) → slice_get m.entry_points i ≡ Some entry → slice_get entry_points i ≡ Some info →
       IsExact m entry.function (info_of info)
+  pub apart : (i : ℕ) (info : FunctionInfo) → slice_get entry_points i ≡ Some info → HaveArguments info.sampling.keys
   pub clean : (i : ℕ) (entry : EntryPoint) (cause : Cause) → i < length entry_points → slice_get m.entry_points i ≡ Some entry →
       IsFault m entry.function settings cause → ⊥

@@ -23,6 +23,12 @@ IsFunctionAt m (place.EntryPoint i) f = (entry : EntryPoint) × (slice_get m.ent
 abbrev pub HasFunction : Module → AnalysisPlace → Type 0
 HasFunction m at = (f : Function) × IsFunctionAt m at f
 
+-- the info recorded of a place; of a global expression there is none
+abbrev pub IsInfoAt : Recorded → AnalysisPlace → FunctionInfo → Type 0
+IsInfoAt recorded (place.ConstExpression e) info = ⊥
+IsInfoAt recorded (place.Function i) info = slice_get recorded.functions i ≡ Some info
+IsInfoAt recorded (place.EntryPoint i) info = slice_get recorded.entry_points i ≡ Some info
+
 -- how many functions are before the place: to an entry point all are
 abbrev pub functions_before : Module → AnalysisPlace → ℕ
 functions_before m (place.ConstExpression e) = 0

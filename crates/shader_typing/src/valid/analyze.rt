@@ -11,6 +11,7 @@ ghost use Rattle.shader_resolve.specs.WellFormed.{IsWellFormed};
 ghost use Rattle.shader_steps.specs.Causes.{IsNamed, settings_of};
 ghost use Rattle.shader_sweeps.specs.InfoOf.{infos_of};
 ghost use Rattle.shader_typing.specs.Analyzed.{EntryPointsFound, FunctionsFound, TypesFound};
+ghost use Rattle.shader_typing.specs.Kept.{KeepsAllPairs};
 ghost use Rattle.shader_typing.specs.Processed.{site_of};
 
 use crate::valid::ModuleInfo;
@@ -245,6 +246,7 @@ pub fn analyze_module(
 ) -> Result<ModuleInfo, AnalysisError>
     requires { IsWellFormed «module».now }
     ensures exact { IfOk result (λ info. IsExactModule «module».now info.global_expressions (infos_of info.functions) (infos_of info.entry_points)) }
+    ensures pairs { IfOk result (KeepsAllPairs «module».now) }
     ensures accepted { IfOk result (λ _. IsAccepted «module».now (settings_of flags capabilities)) }
     ensures refused { IfErr result (λ error. IsNamed (IsFirstFault «module».now (settings_of flags capabilities) (site_of error.place)) error.cause) }
 {

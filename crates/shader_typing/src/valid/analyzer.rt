@@ -8,6 +8,7 @@ ghost use Rattle.shader_chains.specs.Steps.{MeetsSteps};
 ghost use Rattle.shader_info.specs.Fit.{Fits};
 ghost use Rattle.shader_steps.specs.Causes.{IsNamed, settings_of};
 ghost use Rattle.shader_sweeps.specs.InfoOf.{info_of, infos_of};
+ghost use Rattle.shader_sweeps.specs.Paired.{HaveArguments};
 ghost use Rattle.shader_typing.specs.Analyzable.{IsAnalyzable};
 
 use expressions::expression_infos;
@@ -41,6 +42,7 @@ pub(crate) fn function_info(
 ) -> Result<FunctionInfo, FunctionError>
     requires { IsAnalyzable «module».now infos.now function.now }
     ensures steps { IfOk result (λ info. MeetsSteps «module».now (infos_of infos.now) function.now (info_of info)) }
+    ensures with_arguments { IfOk result (λ info. HaveArguments info.sampling.keys) }
     ensures fits { IfOk result (λ info. Fits «module».now function.now info) }
     ensures stages { IfOk result (λ info. info.available_stages.0 ≡ 31) }
     ensures one_source { IfOk result (λ info. info.dual_source_blending ≡ false) }

@@ -7,6 +7,7 @@ ghost use Rattle.shader_info.specs.Fit.{Fits};
 ghost use Rattle.shader_resolve.specs.WellFormed.{IsWellFormed};
 ghost use Rattle.shader_steps.specs.Causes.{IsNamed, settings_of};
 ghost use Rattle.shader_sweeps.specs.InfoOf.{info_of, infos_of};
+ghost use Rattle.shader_sweeps.specs.Paired.{HaveArguments};
 ghost use Rattle.shader_resolve.specs.declared.error.ResolveError.TheVariants as refusal;
 ghost use Rattle.shader_typing.specs.AddedTypes.{AddsType, CanType, IsNextType, IsTypeRefusal};
 ghost use Rattle.shader_typing.specs.Processed.{CanProcess, HasFunction, IsFunctionAt, functions_before, infos_before};
@@ -188,6 +189,7 @@ impl ModuleInfo {
         requires well_formed { IsWellFormed «module».now }
         requires held { CanProcess «module».now self.now place }
         ensures steps { IfOk result (λ info. (f : Function) → IsFunctionAt «module».now place f → MeetsSteps «module».now (infos_of (infos_before «module».now self.now place)) f (info_of info)) }
+        ensures with_arguments { IfOk result (λ info. HaveArguments info.sampling.keys) }
         ensures fits { IfOk result (λ info. (f : Function) → IsFunctionAt «module».now place f → Fits «module».now f info) }
         ensures stages { IfOk result (λ info. info.available_stages.0 ≡ 31) }
         ensures one_source { IfOk result (λ info. info.dual_source_blending ≡ false) }

@@ -12,7 +12,7 @@ ghost use Rattle.shader_steps.specs.Found.{facts_found, kill_found, own_uses, pa
 ghost use Rattle.shader_steps.specs.OfTheStep.{HasUses};
 ghost use Rattle.shader_sweeps.specs.Gathered.{listed};
 ghost use Rattle.shader_sweeps.specs.InfoOf.{PointsBackwards, infos_of};
-ghost use Rattle.shader_sweeps.specs.Paired.{SameMembers, pairs_of};
+ghost use Rattle.shader_sweeps.specs.Paired.{HaveArguments, SameMembers, pairs_of};
 ghost use Rattle.shader_typing.specs.Analyzable.{ChecksFlow};
 
 use bitflags::Flags;
@@ -36,6 +36,7 @@ pub fn placed_pairs(
 ) -> Result<Pairs, FunctionError>
     requires { listed all.now ≡ statements function.now.body }
     ensures members { IfOk result (λ pairs. SameMembers (pairs_of pairs) (pairs_found infos.now function.now)) }
+    ensures with_arguments { IfOk result (λ pairs. HaveArguments pairs.sampling.keys) }
     ensures placed { IfOk result (λ _. (m : Module) (settings : Settings) (e : ℕ) → StepFault m (infos_of infos.now) function.now settings (NoPlace e) → ⊥) }
     ensures fault { IfErr result (λ failure. (m : Module) (settings : Settings) → IsNamed (StepFault m (infos_of infos.now) function.now settings) failure) }
 {

@@ -17,4 +17,5 @@ loop-statement-preserved c =
           (ap (λ d. flat_map f (listed d)) (drop_item c.args.all.now c.loop-statement.statement-index c.statement-item.result c.loop-statement-test.true c.statement-item.is))
           c.in_ok-pass.ensures.members c.loop-statement.invariant.members;
       unplaced = grind (arith, common_steps, c.loop-statement.invariant.unplaced);
+      with_arguments = λ before. c.in_ok-pass.ensures.with_arguments (c.loop-statement.invariant.with_arguments before);
     }

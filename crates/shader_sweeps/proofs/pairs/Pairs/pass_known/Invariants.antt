@@ -1,5 +1,5 @@
 use Rattle.std.proofs.Common.{◌≡◌, ◌++◌, map}
-use Rattle.shader_sweeps.specs.Paired.{SameMembers, pairs_of, passed_all, key_pair}
+use Rattle.shader_sweeps.specs.Paired.{HaveArguments, SameMembers, pairs_of, passed_all, key_pair}
 use Rattle.shader_sweeps.proofs.pairs.Pairs.pass_known.Given as goal
 
 abbrev pub invariant-loop-pair : goal.invariant-loop-pair
@@ -9,3 +9,4 @@ invariant-loop-pair l =
     × SameMembers (passed_all l.function l.arguments (map key_pair l.pair-iterator) ++ pairs_of l.self)
     (passed_all l.function l.arguments (map key_pair l.known.keys) ++ pairs_of l.fn.self)
     × (l.self.unplaced ≡ l.fn.self.unplaced)
+    × (HaveArguments l.fn.self.sampling.keys → HaveArguments l.self.sampling.keys)

@@ -1,5 +1,5 @@
 use Rattle.std.proofs.Common.{◌≡◌, ◌++◌, map, fold}
-use Rattle.shader_sweeps.specs.Paired.{SameMembers, pairs_of, passed_all, sampling_pair}
+use Rattle.shader_sweeps.specs.Paired.{HaveArguments, SameMembers, pairs_of, passed_all, sampling_pair}
 use Rattle.shader_sweeps.specs.Missed.{pair_missed}
 use Rattle.shader_sweeps.proofs.pairs.Pairs.pass_open.Given as goal
 
@@ -11,3 +11,4 @@ invariant-loop-pair l =
     (passed_all l.function l.arguments (map sampling_pair l.open_pairs.keys) ++ pairs_of l.fn.self)
     × (fold (pair_missed l.function l.arguments) l.self.unplaced (map sampling_pair l.pair-iterator)
     ≡ fold (pair_missed l.function l.arguments) l.fn.self.unplaced (map sampling_pair l.open_pairs.keys))
+    × (HaveArguments l.fn.self.sampling.keys → HaveArguments l.self.sampling.keys)

@@ -14,7 +14,7 @@ process_function-requires-clause-held c =
 pub returns-in_ok-add_entry_point-in-Ok-clause-found : goal.returns-in_ok-add_entry_point-in-Ok-clause-found
 returns-in_ok-add_entry_point-in-Ok-clause-found c =
     entry_point_found c.args.module.now (settings_of c.args.flags c.args.capabilities) c.requires.well_formed c.args.info.now c.requires.types c.requires.functions c.requires.all c.requires.found c.args.index c.requires.next c.requires.there
-    c.in-Ok.found c.in-Ok.ensures.steps c.in-Ok.ensures.clean c.add_entry_point.new.info.entry_points (ap (λ (v : Recorded). v.entry_points) c.in_ok-add_entry_point-in-Ok.ensures.ok)
+    c.in-Ok.found c.in-Ok.ensures.steps c.in-Ok.ensures.with_arguments c.in-Ok.ensures.clean c.add_entry_point.new.info.entry_points (ap (λ (v : Recorded). v.entry_points) c.in_ok-add_entry_point-in-Ok.ensures.ok)
 
 pub returns-in-Err-clause-refused : goal.returns-in-Err-clause-refused
 returns-in-Err-clause-refused c =

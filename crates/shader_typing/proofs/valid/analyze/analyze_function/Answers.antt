@@ -14,7 +14,7 @@ process_function-requires-clause-held c =
 pub returns-in_ok-add_function-in-Ok-clause-found : goal.returns-in_ok-add_function-in-Ok-clause-found
 returns-in_ok-add_function-in-Ok-clause-found c =
     function_found c.args.module.now (settings_of c.args.flags c.args.capabilities) c.requires.well_formed c.args.info.now c.requires.types c.requires.found c.args.handle c.requires.next c.requires.there
-    c.in-Ok.found c.in-Ok.ensures.steps c.in-Ok.ensures.fits c.in-Ok.ensures.clean c.add_function.new.info.functions (ap (λ (v : Recorded). v.functions) c.in_ok-add_function-in-Ok.ensures.ok)
+    c.in-Ok.found c.in-Ok.ensures.steps c.in-Ok.ensures.with_arguments c.in-Ok.ensures.fits c.in-Ok.ensures.clean c.add_function.new.info.functions (ap (λ (v : Recorded). v.functions) c.in_ok-add_function-in-Ok.ensures.ok)
 
 pub returns-in-Err-clause-refused : goal.returns-in-Err-clause-refused
 returns-in-Err-clause-refused c =
