@@ -1,5 +1,5 @@
 -- What a well-formed module tells of a function's expressions, and what a call passes.
-use Rattle.std.proofs.Common.{◌≡◌, sym, subst, ap, ◌∙◌, ℕ, zero, suc, ◌<◌, ◌↔◌, inl, inr, All, List, [], ◌∷◌, Option, Some, None, IfSome, length, slice_get}
+use Rattle.std.proofs.Common.{◌≡◌, refl, sym, subst, ap, ◌∙◌, ℕ, zero, suc, ◌<◌, ◌↔◌, inl, inr, All, List, [], ◌∷◌, Option, Some, None, IfSome, length, slice_get}
 use Rattle.std.specs.List.{Contains, zip}
 use Rattle.std.proofs.lemmas.List.Elements.{All-contains, All-head, All-tail}
 use Rattle.std.proofs.lemmas.Option.{same_Some}
@@ -157,3 +157,7 @@ module _ (m : Module) (f : Function) (P : ℕ → TypeResolution → Type 0) whe
 -- what stands at a place among the module's functions is one of them
 pub is_function_at : (m : Module) (i : ℕ) (f : Function) → slice_get m.functions i ≡ Some f → IsFunctionOf m f
 is_function_at m i f stands = inl (i, stands)
+
+-- so is that of what stands at a place among its entry points
+pub is_entry_point_at : (m : Module) (i : ℕ) (entry : EntryPoint) → slice_get m.entry_points i ≡ Some entry → IsFunctionOf m entry.function
+is_entry_point_at m i entry stands = inr (i, entry, stands, refl)

@@ -6,3 +6,5 @@ mod indexes;
 mod locals;
 mod made;
 mod policies;
+mod refusals;
+mod types;

@@ -1,271 +1,324 @@
-//! Modules that are searched.
+//! Modules that are searched, told by values that are copied.
+use crate::tests::types::{FLOAT, NUMBER, TO_FLOAT, TO_VECTOR, types};
 use shader_arena::{Arena, Handle};
 use shader_ir::{
-    AddressSpace, ArraySize, Block, Count, Expression, Function, FunctionArgument, GlobalVariable,
-    ImageClass, ImageDimension, Items, LocalVariable, Module, Scalar, ScalarKind, Statement,
-    StructMember, TypeInner, VectorSize,
+    AddressSpace, Block, Constant, EntryPoint, Expression, Function, GlobalVariable, Items,
+    Literal, LocalVariable, Module, Name, Override, ShaderStage, Statement, SwitchCase,
+    SwitchValue, mark,
 };
-use shader_samples::parts::{arena_of, argument, at, call, function_of, module_of};
-use std::alloc::Global;
+use shader_samples::parts::{arena_of, argument, at, call, function_of, global, module_of, number};
+use std::alloc::{AllocError, Global};
 use std::process::Abort;
 
 /// What a test says that fails for want of memory alone.
 pub const WANT: &str = "want of memory";
 
-// The places of the types that each module has.
-pub const FLOAT: u32 = 0;
-
-/// Four floats.
-pub const FLOATS: u32 = 1;
-
-/// A pointer to a float in a function.
-pub const TO_FLOAT: u32 = 2;
-
-pub const NUMBER: u32 = 3;
-
-pub const IMAGE: u32 = 4;
-
-/// Four images.
-pub const IMAGES: u32 = 5;
-
-/// A struct of four floats and a float.
-pub const RECORD: u32 = 6;
-
-/// Four of these structs.
-pub const RECORDS: u32 = 7;
-
-/// Floats whose number is found at run time.
-pub const ALL_FLOATS: u32 = 8;
-
-/// Three floats.
-pub const VECTOR: u32 = 9;
-
-/// Two columns of three floats.
-pub const MATRIX: u32 = 10;
-
-/// A pointer to four floats in a function.
-pub const TO_FLOATS: u32 = 11;
-
-fn four(rt: &impl Abort) -> ArraySize {
-    ArraySize::Constant(Count::new(4).expect(rt, "a count"))
+/// What a function has that it indexes, beside the u32 that it takes.
+#[derive(Clone, Copy)]
+pub enum Over {
+    /// A local of the type.
+    Local(u32),
+    /// A global of the type in the space.
+    Global(AddressSpace, u32),
 }
 
-fn array(base: u32, size: ArraySize, stride: u32) -> TypeInner {
-    TypeInner::Array {
-        base: Handle::from_index(base),
-        size,
-        stride,
+/// An expression of a function that is searched.
+#[derive(Clone, Copy)]
+pub enum Form {
+    /// The global.
+    Global,
+    /// The local.
+    Local,
+    /// The u32 that the function takes.
+    Taken,
+    /// A literal u32.
+    Number(u32),
+    /// A constant: 0 is 2, 1 is -1, and 2 is constant 0.
+    Constant(u32),
+    /// The zero value of the type.
+    Zero(u32),
+    /// An access to an expression, by another.
+    Access(u32, u32),
+    /// An access to an expression, by a number.
+    AccessIndex(u32, u32),
+    /// A load of image 0 at coordinate 1, with these as its array index, sample and level.
+    Load(Option<u32>, Option<u32>, Option<u32>),
+}
+
+/// Where in a function's body a call stands.
+#[derive(Clone, Copy)]
+pub enum Place {
+    Body,
+    Block,
+    BlockOfBlock,
+    Accept,
+    Reject,
+    Case,
+    LoopBody,
+    Continuing,
+}
+
+/// What function 1 passes to function 0, which takes a pointer to a float, a float and a pointer to a vector.
+pub type Passed = [u32; 3];
+
+fn optional(place: Option<u32>) -> Option<Handle<mark::Expression>> {
+    match place {
+        Some(place) => Some(at(place)),
+        None => None,
     }
 }
 
-fn pointer(base: u32) -> TypeInner {
-    TypeInner::Pointer {
-        base: Handle::from_index(base),
-        space: AddressSpace::Function,
+fn expression(form: Form) -> Expression {
+    match form {
+        Form::Global => global(0),
+        Form::Local => Expression::LocalVariable(Handle::from_index(0)),
+        Form::Taken => Expression::FunctionArgument(0),
+        Form::Number(value) => number(value),
+        Form::Constant(place) => Expression::Constant(Handle::from_index(place)),
+        Form::Zero(ty) => Expression::ZeroValue(Handle::from_index(ty)),
+        Form::Access(base, index) => Expression::Access {
+            base: at(base),
+            index: at(index),
+        },
+        Form::AccessIndex(base, index) => Expression::AccessIndex {
+            base: at(base),
+            index,
+        },
+        Form::Load(array_index, sample, level) => Expression::ImageLoad {
+            image: at(0),
+            coordinate: at(1),
+            array_index: optional(array_index),
+            sample: optional(sample),
+            level: optional(level),
+        },
     }
 }
 
-fn image() -> TypeInner {
-    let kind = ScalarKind::Float;
-    TypeInner::Image {
-        dim: ImageDimension::D2,
-        arrayed: true,
-        class: ImageClass::Sampled { kind, multi: false },
+fn expressions<const N: usize>(
+    alloc: Global,
+    forms: [Form; N],
+) -> Result<Vec<Expression>, AllocError> {
+    let mut expressions = Vec::new(alloc);
+    for form in forms {
+        expressions.push(expression(form))?;
+    }
+    Ok(expressions)
+}
+
+fn locals(
+    alloc: Global,
+    over: Over,
+) -> Result<Arena<LocalVariable, mark::LocalVariable>, AllocError> {
+    match over {
+        Over::Local(ty) => {
+            let local = LocalVariable {
+                name: None,
+                ty: Handle::from_index(ty),
+                init: None,
+            };
+            arena_of(alloc, vec![in alloc; local]?)
+        }
+        Over::Global(_, _) => Ok(Arena::new(alloc)),
     }
 }
 
-fn images(rt: &impl Abort) -> TypeInner {
-    TypeInner::BindingArray {
-        base: Handle::from_index(IMAGE),
-        size: four(rt),
+fn globals(
+    alloc: Global,
+    over: Over,
+) -> Result<Arena<GlobalVariable, mark::GlobalVariable>, AllocError> {
+    match over {
+        Over::Local(_) => Ok(Arena::new(alloc)),
+        Over::Global(space, ty) => {
+            let global = GlobalVariable {
+                name: None,
+                space,
+                ty: Handle::from_index(ty),
+                init: None,
+            };
+            arena_of(alloc, vec![in alloc; global]?)
+        }
     }
 }
 
-fn member(ty: u32, offset: u32) -> StructMember {
-    StructMember {
-        name: None,
-        ty: Handle::from_index(ty),
-        binding: None,
-        offset,
-    }
-}
-
-fn record(rt: &impl Abort, alloc: Global) -> TypeInner {
-    let members = vec![in alloc; member(FLOATS, 0), member(FLOAT, 16)].expect(rt, WANT);
-    TypeInner::Struct {
-        members: Items::from(members),
-        span: 20,
-    }
-}
-
-fn vector() -> TypeInner {
-    TypeInner::Vector {
-        size: VectorSize::Tri,
-        scalar: Scalar::F32,
-    }
-}
-
-fn matrix() -> TypeInner {
-    TypeInner::Matrix {
-        columns: VectorSize::Bi,
-        rows: VectorSize::Tri,
-        scalar: Scalar::F32,
-    }
-}
-
-fn types(rt: &impl Abort, alloc: Global) -> Vec<TypeInner> {
-    vec![in alloc;
-        TypeInner::Scalar(Scalar::F32),
-        array(FLOAT, four(rt), 4),
-        pointer(FLOAT),
-        TypeInner::Scalar(Scalar::U32),
-        image(),
-        images(rt),
-        record(rt, alloc),
-        array(RECORD, four(rt), 20),
-        array(FLOAT, ArraySize::Dynamic, 4),
-        vector(),
-        matrix(),
-        pointer(FLOATS),
-    ]
-    .expect(rt, WANT)
-}
-
-/// A module of these globals and functions.
-pub fn module(
+/// A function that takes a u32.
+fn function<const N: usize>(
     rt: &impl Abort,
     alloc: Global,
-    globals: Vec<GlobalVariable>,
-    functions: Vec<Function>,
-) -> Module {
-    let types = types(rt, alloc);
-    assert!(rt; types.len() < 100);
-    assert!(rt; globals.len() < 100);
-    assert!(rt; functions.len() < 100);
-    module_of(alloc, types, globals, functions).expect(rt, WANT)
-}
-
-/// A function without locals that takes a u32.
-pub fn over_number(
-    rt: &impl Abort,
-    alloc: Global,
-    expressions: Vec<Expression>,
+    over: Over,
+    forms: [Form; N],
     statements: Vec<Statement>,
-) -> Function {
+) -> Result<Function, AllocError> {
+    let expressions = expressions(alloc, forms)?;
     assert!(rt; expressions.len() < 100);
-    let mut function = function_of(alloc, expressions, statements).expect(rt, WANT);
-    let arguments = vec![in alloc; argument(NUMBER)].expect(rt, WANT);
-    function.arguments = Items::from(arguments);
-    function
+    let mut function = function_of(alloc, expressions, statements)?;
+    function.arguments = Items::from(vec![in alloc; argument(NUMBER)]?);
+    function.local_variables = locals(alloc, over)?;
+    Ok(function)
 }
 
-/// A function with a local of the type, which takes a u32.
-pub fn over_local(
-    rt: &impl Abort,
-    alloc: Global,
-    ty: u32,
-    expressions: Vec<Expression>,
-    statements: Vec<Statement>,
-) -> Function {
-    let mut function = over_number(rt, alloc, expressions, statements);
-    let local = LocalVariable {
+/// A constant of a float, given the global expression at the place.
+fn constant(init: u32) -> Constant {
+    Constant {
         name: None,
-        ty: Handle::from_index(ty),
-        init: None,
-    };
-    let locals = vec![in alloc; local].expect(rt, WANT);
-    function.local_variables = arena_of(alloc, locals).expect(rt, WANT);
-    function
-}
-
-/// A function without a body that takes what is of these types.
-fn taking(rt: &impl Abort, alloc: Global, arguments: Vec<FunctionArgument>) -> Function {
-    let empty = function_of(alloc, Vec::new(alloc), Vec::new(alloc));
-    let mut function = empty.expect(rt, WANT);
-    function.arguments = Items::from(arguments);
-    function
-}
-
-/// A module of a function that takes a u32, with a global.
-pub fn over_global(
-    rt: &impl Abort,
-    alloc: Global,
-    global: GlobalVariable,
-    expressions: Vec<Expression>,
-) -> Module {
-    let function = over_number(rt, alloc, expressions, Vec::new(alloc));
-    let globals = vec![in alloc; global].expect(rt, WANT);
-    let functions = vec![in alloc; function].expect(rt, WANT);
-    module(rt, alloc, globals, functions)
-}
-
-/// A module of a function with a local of the type, which takes a u32.
-pub fn over_one_local(
-    rt: &impl Abort,
-    alloc: Global,
-    ty: u32,
-    expressions: Vec<Expression>,
-) -> Module {
-    let function = over_local(rt, alloc, ty, expressions, Vec::new(alloc));
-    let functions = vec![in alloc; function].expect(rt, WANT);
-    module(rt, alloc, Vec::new(alloc), functions)
-}
-
-/// A module whose function 1, with a local of the type, calls function 0, which takes a pointer to a float and a float.
-pub fn calling(
-    rt: &impl Abort,
-    alloc: Global,
-    ty: u32,
-    expressions: Vec<Expression>,
-    statement: Statement,
-) -> Module {
-    let arguments = vec![in alloc; argument(TO_FLOAT), argument(FLOAT)].expect(rt, WANT);
-    let callee = taking(rt, alloc, arguments);
-    let statements = vec![in alloc; statement].expect(rt, WANT);
-    let caller = over_local(rt, alloc, ty, expressions, statements);
-    let functions = vec![in alloc; callee, caller].expect(rt, WANT);
-    module(rt, alloc, Vec::new(alloc), functions)
-}
-
-/// Calls function 0 with two expressions.
-pub fn called(rt: &impl Abort, alloc: Global, pointer: u32, value: u32) -> Statement {
-    call(0, vec![in alloc; at(pointer), at(value)].expect(rt, WANT))
-}
-
-pub fn block(rt: &impl Abort, alloc: Global, statement: Statement) -> Block {
-    Block {
-        statements: vec![in alloc; statement].expect(rt, WANT),
+        ty: Handle::from_index(FLOAT),
+        init: Handle::from_index(init),
     }
 }
 
-pub fn empty(alloc: Global) -> Block {
+fn override_of(init: Option<Handle<mark::Expression>>) -> Override {
+    Override {
+        name: None,
+        ty: Handle::from_index(NUMBER),
+        init,
+    }
+}
+
+/// Gives the module the constants that `Form` tells, override 0 of 4 and override 1 without a value.
+fn add_numbers(alloc: Global, module: &mut Module) -> Result<(), AllocError> {
+    let two = Expression::Literal(Literal::I32(2));
+    let negative = Expression::Literal(Literal::I32(-1));
+    let named = Expression::Constant(Handle::from_index(0));
+    module.global_expressions = arena_of(alloc, vec![in alloc; two, negative, named, number(4)]?)?;
+    module.constants = arena_of(
+        alloc,
+        vec![in alloc; constant(0), constant(1), constant(2)]?,
+    )?;
+    let overrides = vec![in alloc; override_of(Some(at(3))), override_of(None)]?;
+    module.overrides = arena_of(alloc, overrides)?;
+    Ok(())
+}
+
+fn module(
+    rt: &impl Abort,
+    alloc: Global,
+    over: Over,
+    functions: Vec<Function>,
+) -> Result<Module, AllocError> {
+    let types = types(rt, alloc)?;
+    assert!(rt; types.len() < 100);
+    assert!(rt; functions.len() < 100);
+    let mut module = module_of(alloc, types, Vec::new(alloc), functions)?;
+    module.global_variables = globals(alloc, over)?;
+    add_numbers(alloc, &mut module)?;
+    Ok(module)
+}
+
+/// A module of a function with these expressions.
+pub fn module_over<const N: usize>(
+    rt: &impl Abort,
+    alloc: Global,
+    over: Over,
+    forms: [Form; N],
+) -> Result<Module, AllocError> {
+    let function = function(rt, alloc, over, forms, Vec::new(alloc))?;
+    module(rt, alloc, over, vec![in alloc; function]?)
+}
+
+/// A module of an entry point with these expressions.
+pub fn entry_point_over<const N: usize>(
+    rt: &impl Abort,
+    alloc: Global,
+    over: Over,
+    forms: [Form; N],
+) -> Result<Module, AllocError> {
+    let entry_point = EntryPoint {
+        name: Name::from("main".to_string(alloc)?),
+        stage: ShaderStage::Fragment,
+        function: function(rt, alloc, over, forms, Vec::new(alloc))?,
+    };
+    let mut module = module(rt, alloc, over, Vec::new(alloc))?;
+    module.entry_points = Items::from(vec![in alloc; entry_point]?);
+    Ok(module)
+}
+
+fn called(alloc: Global, passed: Passed) -> Result<Statement, AllocError> {
+    let [pointer, value, vector] = passed;
+    Ok(call(0, vec![in alloc; at(pointer), at(value), at(vector)]?))
+}
+
+fn block(alloc: Global, statement: Statement) -> Result<Block, AllocError> {
+    Ok(Block {
+        statements: vec![in alloc; statement]?,
+    })
+}
+
+fn empty(alloc: Global) -> Block {
     Block {
         statements: Vec::new(alloc),
     }
 }
 
-/// The local of the function.
-pub fn local() -> Expression {
-    Expression::LocalVariable(Handle::from_index(0))
+/// A switch on expression 1, whose default case has the statement.
+fn switch(alloc: Global, statement: Statement) -> Result<Statement, AllocError> {
+    let first = SwitchCase {
+        value: SwitchValue::U32(0),
+        body: empty(alloc),
+        fall_through: true,
+    };
+    let second = SwitchCase {
+        value: SwitchValue::Default,
+        body: block(alloc, statement)?,
+        fall_through: false,
+    };
+    Ok(Statement::Switch {
+        selector: at(1),
+        cases: vec![in alloc; first, second]?,
+    })
 }
 
-/// The u32 that the function takes.
-pub fn taken() -> Expression {
-    Expression::FunctionArgument(0)
-}
-
-/// An access by an expression.
-pub fn access(base: u32, index: u32) -> Expression {
-    Expression::Access {
-        base: at(base),
-        index: at(index),
+fn branch(accept: Block, reject: Block) -> Statement {
+    Statement::If {
+        condition: at(1),
+        accept,
+        reject,
     }
 }
 
-/// An access by a number.
-pub fn access_index(base: u32, index: u32) -> Expression {
-    Expression::AccessIndex {
-        base: at(base),
-        index,
+fn repeat(body: Block, continuing: Block) -> Statement {
+    Statement::Loop {
+        body,
+        continuing,
+        break_if: None,
     }
+}
+
+/// The statement at the place.
+fn placed(alloc: Global, statement: Statement, place: Place) -> Result<Statement, AllocError> {
+    match place {
+        Place::Body => Ok(statement),
+        Place::Block => Ok(Statement::Block(block(alloc, statement)?)),
+        Place::BlockOfBlock => {
+            let inner = Statement::Block(block(alloc, statement)?);
+            Ok(Statement::Block(block(alloc, inner)?))
+        }
+        Place::Accept => Ok(branch(block(alloc, statement)?, empty(alloc))),
+        Place::Reject => Ok(branch(empty(alloc), block(alloc, statement)?)),
+        Place::Case => switch(alloc, statement),
+        Place::LoopBody => Ok(repeat(block(alloc, statement)?, empty(alloc))),
+        Place::Continuing => Ok(repeat(empty(alloc), block(alloc, statement)?)),
+    }
+}
+
+/// A function without expressions that takes a pointer to a float, a float and a pointer to a vector.
+fn callee(alloc: Global) -> Result<Function, AllocError> {
+    let mut function = function_of(alloc, Vec::new(alloc), Vec::new(alloc))?;
+    let arguments = vec![in alloc; argument(TO_FLOAT), argument(FLOAT), argument(TO_VECTOR)]?;
+    function.arguments = Items::from(arguments);
+    Ok(function)
+}
+
+/// A module whose function 1 has these expressions and calls function 0 at the place.
+pub fn module_calling<const N: usize>(
+    rt: &impl Abort,
+    alloc: Global,
+    over: Over,
+    forms: [Form; N],
+    passed: Passed,
+    place: Place,
+) -> Result<Module, AllocError> {
+    let statement = placed(alloc, called(alloc, passed)?, place)?;
+    let statements = vec![in alloc; statement]?;
+    let caller = function(rt, alloc, over, forms, statements)?;
+    let callee = callee(alloc)?;
+    module(rt, alloc, over, vec![in alloc; callee, caller]?)
 }

@@ -1,13 +1,13 @@
 //! Rows of policies.
-use crate::tests::asked::{BINDING_ARRAY, BUFFER, IMAGE_LOAD, INDEX};
+use crate::tests::asked::{BINDING_ARRAY, BUFFER, IMAGE_LOAD, INDEX, RESTRICTED, UNCHECKED};
 use crate::tests::made::WANT;
 use BoundsCheckPolicy as Policy;
 use shader_arena::{Handle, UniqueArena};
-use shader_indexes::{BoundsCheckPolicies, BoundsCheckPolicy};
 use shader_ir::{
     AddressSpace, ArraySize, Items, Scalar, ShaderStages, StorageAccess, TypeInner, TypeResolution,
     VectorSize,
 };
+use shader_typing::proc::index::{BoundsCheckPolicies, BoundsCheckPolicy};
 use shader_typing::valid::{ExpressionInfo, FunctionInfo, Uniformity, UniformityRequirements};
 use std::alloc::Global;
 use std::collections::HashSet;
@@ -61,8 +61,16 @@ fn expects(rt: &impl Abort, alloc: Global, inner: TypeInner, wanted: Policy) {
     expects_at(rt, alloc, TypeResolution::Value(inner), 0, wanted);
 }
 
-/// A pointer to a vector.
+/// A pointer to what stands at a handle.
 fn pointer(space: AddressSpace) -> TypeInner {
+    TypeInner::Pointer {
+        base: Handle::from_index(0),
+        space,
+    }
+}
+
+/// A pointer to a vector.
+fn value_pointer(space: AddressSpace) -> TypeInner {
     TypeInner::ValuePointer {
         size: Some(VectorSize::Quad),
         scalar: Scalar::F32,
@@ -70,12 +78,18 @@ fn pointer(space: AddressSpace) -> TypeInner {
     }
 }
 
+/// Asks for the policy of an access through either kind of pointer into the space.
+fn expects_through(rt: &impl Abort, alloc: Global, space: AddressSpace, wanted: Policy) {
+    expects(rt, alloc, pointer(space), wanted);
+    expects(rt, alloc, value_pointer(space), wanted);
+}
+
 #[test]
 fn buffers_have_their_own_policy(rt: HostRuntime) {
     let access = StorageAccess::LOAD;
     let spaces = [AddressSpace::Uniform, AddressSpace::Storage { access }];
     for space in spaces {
-        expects(&rt, rt.alloc(), pointer(space), Policy::Restrict);
+        expects_through(&rt, rt.alloc(), space, Policy::Restrict);
     }
 }
 
@@ -92,7 +106,7 @@ fn other_spaces_have_the_policy_of_indexes(rt: HostRuntime) {
         AddressSpace::IncomingRayPayload,
     ];
     for space in spaces {
-        expects(&rt, rt.alloc(), pointer(space), Policy::ReadZeroSkipWrite);
+        expects_through(&rt, rt.alloc(), space, Policy::ReadZeroSkipWrite);
     }
 }
 
@@ -114,7 +128,7 @@ fn values_have_the_policy_of_indexes_but_for_binding_arrays(rt: HostRuntime) {
 fn what_has_no_type_has_the_policy_of_indexes(rt: HostRuntime) {
     let absent = TypeResolution::Handle(Handle::from_index(0));
     expects_at(&rt, rt.alloc(), absent, 0, Policy::ReadZeroSkipWrite);
-    let buffer = TypeResolution::Value(pointer(AddressSpace::Uniform));
+    let buffer = TypeResolution::Value(value_pointer(AddressSpace::Uniform));
     expects_at(&rt, rt.alloc(), buffer, 1, Policy::ReadZeroSkipWrite);
 }
 
@@ -124,15 +138,12 @@ fn each_policy_is_looked_at(rt: HostRuntime) {
     assert!(rt; INDEX.contains(zero) && BUFFER.contains(zero));
     assert!(rt; IMAGE_LOAD.contains(zero) && BINDING_ARRAY.contains(zero));
     assert!(rt; INDEX.contains(Policy::Unchecked) && !INDEX.contains(Policy::Restrict));
-    assert!(rt; !BoundsCheckPolicies::default().contains(zero));
+    assert!(rt; POLICIES.contains(Policy::Restrict));
+    assert!(rt; !RESTRICTED.contains(zero) && !UNCHECKED.contains(zero));
 }
 
 #[test]
 fn nothing_is_checked_by_default(rt: HostRuntime) {
-    let unchecked = BoundsCheckPolicies {
-        index: Policy::Unchecked,
-        ..INDEX
-    };
-    assert!(rt; BoundsCheckPolicies::default() == unchecked);
+    assert!(rt; BoundsCheckPolicies::default() == UNCHECKED);
     assert!(rt; Policy::default() == Policy::Unchecked);
 }
