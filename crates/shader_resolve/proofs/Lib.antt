@@ -10,6 +10,7 @@ pub mod FollowLemmas
 pub mod Joined
 pub mod KeyLemmas
 pub mod ModuleLemmas
+pub mod NestingLemmas
 pub mod NumberLemmas
 pub mod PlaceLemmas
 pub mod PointerLemmas

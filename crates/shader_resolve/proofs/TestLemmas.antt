@@ -40,7 +40,7 @@ every-from : {T : Type 0} (test : T → Bool) (first : ℕ) (items : List T) →
 every-from test first [] = refl
 every-from test first (item ∷ items) = ap (λ rest. test item && rest) (every-from test (first + 1) items)
 
-every-decides : {T : Type 0} (test : T → Bool) (P : T → Type 0) → ((item : T) → Decides (test item) (P item)) → (items : List T) → Decides (every (λ place item. test item) items) (All P items)
+pub every-decides : {T : Type 0} (test : T → Bool) (P : T → Type 0) → ((item : T) → Decides (test item) (P item)) → (items : List T) → Decides (every (λ place item. test item) items) (All P items)
 every-decides test P each items = Decides-at _ _ (every-from test 0 items) (all-decides test P each items)
 
 pub optional-decides : (bound : ℕ) (found : Option ℕ) → Decides (is_below bound found) (IfSome found (λ handle. handle < bound))

@@ -7,6 +7,7 @@ pub mod FaultyPlaces
 pub mod Follows
 pub mod Images
 pub mod ModuleTests
+pub mod Nesting
 pub mod Operations
 pub mod Outcome
 pub mod Part

@@ -9,4 +9,6 @@ mod well_formed;
 
 pub use context::ResolveContext;
 pub use error::ResolveError;
-pub use well_formed::{ModuleFault, ModulePlace, check_module, find_fault};
+pub use well_formed::{
+    MOST_LEVELS, ModuleFault, ModulePlace, check_module, find_fault, nests_within,
+};

@@ -3,6 +3,7 @@ mod builtins;
 mod images;
 mod leaves;
 mod modules;
+mod nesting;
 mod operations;
 mod refusals;
 mod rows;

@@ -15,7 +15,7 @@ fn at(place: u32) -> Handle<mark::Expression> {
     Handle::from_index(place)
 }
 
-fn function(
+pub fn function(
     alloc: Global,
     arguments: Vec<FunctionArgument>,
     statements: Vec<Statement>,
@@ -32,7 +32,7 @@ fn function(
     }
 }
 
-fn add_function(rt: &impl Abort, module: &mut Module, function: Function) {
+pub fn add_function(rt: &impl Abort, module: &mut Module, function: Function) {
     assert!(rt; module.functions.len() < 1000);
     module.functions.append(function).expect(rt, WANT);
 }
@@ -109,7 +109,7 @@ fn add_entry_point(rt: &impl Abort, alloc: Global, module: &mut Module) {
     module.entry_points = Items::from(entry_points);
 }
 
-fn one_statement(rt: &impl Abort, alloc: Global, statement: Statement) -> Vec<Statement> {
+pub fn one_statement(rt: &impl Abort, alloc: Global, statement: Statement) -> Vec<Statement> {
     let mut statements = Vec::new(alloc);
     statements.push(statement).expect(rt, WANT);
     statements
