@@ -1,10 +1,1 @@
-mod AnswerSteps
 mod Appending
-mod InputSpellings
-mod Laying
-mod LineSteps
-mod PlacedTrees
-mod RequestSpellings
-mod SampleFaults
-mod Supplied
-mod UniqueAnswers

@@ -1,8 +1,8 @@
 -- How a run ends.
 use Rattle.std.specs.Prelude.{◌≡◌, ℕ, List}
-use Rattle.typer.specs.declared.answer.Outcome.{Outcome}
-use Rattle.typer.specs.declared.answer.Outcome.TheVariants as outcomes
-use Rattle.typer.specs.Answers.{IsAnswer}
+use Rattle.typer_answers.specs.declared.answer.Outcome.{Outcome}
+use Rattle.typer_answers.specs.declared.answer.Outcome.TheVariants as outcomes
+use Rattle.typer_answers.specs.Answers.{IsAnswer}
 use Rattle.typer.specs.declared.reading.InputError.{InputError}
 use Rattle.typer.specs.declared.reading.InputError.TheVariants as inputs
 use Rattle.typer.specs.declared.status.Status.{Status}

@@ -1,19 +1,10 @@
 //! Answers lines that ask about types of shaders.
 #![tactic(auto)]
 
-mod answer;
-mod call;
-mod conversion;
-mod laws;
-mod layout;
-mod lines;
 #[cfg(test)]
 mod memory;
 mod reading;
-mod reply;
-mod request;
 mod running;
-mod samples;
 mod sink;
 mod source;
 mod status;

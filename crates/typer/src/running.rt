@@ -4,13 +4,13 @@ ghost use Rattle.std.specs.Prelude.{◌≡◌, ◌<◌, ◌↔◌, ℕ, List, fa
 ghost use Rattle.std.specs.Io.KnownBytes.{Appends, Consumes, IsAtEnd, Keeps};
 ghost use Rattle.typer.specs.Runs.{AreAnswer, OnAnswered, OnUnanswered, most_bytes};
 
-use crate::answer::Answer;
 use crate::reading::read_input;
 use crate::sink::Sink;
 use crate::source::{Failed, Source};
 use crate::status::Status;
 use crate::writing::write_all;
 use std::alloc::Global;
+use typer_answers::Answer;
 
 /// Reads the whole input, makes the whole answer, and then writes it.
 pub fn run<R: Source, W: Sink>(alloc: Global, reader: &mut R, writer: &mut W) -> Status

@@ -1,5 +1,5 @@
-use crate::answer::Outcome;
 use crate::reading::InputError;
+use typer_answers::Outcome;
 
 /// How a run ended.
 #[derive(Clone, Copy, Debug, PartialEq, Eq)]

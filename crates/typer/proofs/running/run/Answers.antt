@@ -2,7 +2,7 @@ use Rattle.std.proofs.Common.{ℕ, List, refl, subst, take}
 use Rattle.std.specs.Io.KnownBytes.{Appends}
 use Rattle.std.specs.String.{string_bytes}
 use Rattle.typer.specs.declared.status.Status.{Status}
-use Rattle.typer.specs.Answers.{IsAnswer}
+use Rattle.typer_answers.specs.Answers.{IsAnswer}
 use Rattle.typer.specs.Runs.{AreAnswer, outcome_status}
 use Rattle.typer.proofs.Appending.{whole_input}
 use Rattle.typer.proofs.running.run.Goals as goal

@@ -1,5 +1,0 @@
-use Rattle.typer.proofs.RequestSpellings.{requests_are_spelled}
-use Rattle.typer.proofs.laws.requests_are_spelled.Goals as goal
-
-pub returns : goal.returns
-returns c = requests_are_spelled

@@ -1,5 +1,0 @@
-use Rattle.typer.proofs.SampleFaults.{samples_have_one_report}
-use Rattle.typer.proofs.laws.samples_have_one_report.Goals as goal
-
-pub returns : goal.returns
-returns c = samples_have_one_report

@@ -1,0 +1,9 @@
+mod AnswerSteps
+mod InputSpellings
+mod Laying
+mod LineSteps
+mod PlacedTrees
+mod RequestSpellings
+mod SampleFaults
+mod Supplied
+mod UniqueAnswers

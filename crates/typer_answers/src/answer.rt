@@ -1,0 +1,48 @@
+//! The answer to a whole input.
+
+use crate::lines::Lines;
+use crate::reply::Reply;
+use std::alloc::{AllocError, Global};
+
+/// Whether each line asked for something.
+#[derive(Clone, Copy, Debug, PartialEq, Eq)]
+pub enum Outcome {
+    Done,
+    BadLine,
+}
+
+/// The replies to the lines of an input, up to the first bad one.
+#[derive(Drop)]
+pub struct Answer {
+    pub text: String,
+    pub outcome: Outcome,
+}
+
+impl Answer {
+    ghost use Rattle.std.specs.Prelude.{◌<◌, ◌^◌, length, IfOk, string_bytes};
+    ghost use Rattle.typer_answers.specs.Answers.{IsAnswer};
+
+    /// The answer to all lines of the input.
+    pub fn to(alloc: Global, input: &[u8]) -> Result<Answer, AllocError>
+        requires { length input.now < 2 ^ 32 }
+        ensures { IfOk result (λ a. IsAnswer input.now (string_bytes a.text) a.outcome) }
+    {
+        let mut text = String::new(alloc);
+        let mut number: u64 = 0;
+        for line in Lines::new(input) {
+            number += 1;
+            let Some(reply) = Reply::to(alloc, line)? else {
+                writeln!(text, "bad line {number}")?;
+                return Ok(Answer {
+                    text,
+                    outcome: Outcome::BadLine,
+                });
+            };
+            writeln!(text, "{reply}")?;
+        }
+        Ok(Answer {
+            text,
+            outcome: Outcome::Done,
+        })
+    }
+}

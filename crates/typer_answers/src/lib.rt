@@ -1,0 +1,14 @@
+//! What the lines of an input ask for, and the answer to them.
+#![tactic(auto)]
+
+mod answer;
+mod call;
+mod conversion;
+pub mod laws;
+mod layout;
+mod lines;
+mod reply;
+mod request;
+mod samples;
+
+pub use answer::{Answer, Outcome};

@@ -1,0 +1,175 @@
+//! What a line asks for.
+
+ghost use Rattle.std.specs.Prelude.{◌≡◌, IfOk};
+ghost use Rattle.std.specs.Option.{option_map};
+ghost use Rattle.typer_answers.specs.Requests.{call_from, convert_from, kind_of, layout_from, module_from, named_from, request_of, rules_from, types_of};
+
+use shader_ir::{Items, MathFunction};
+use shader_samples::Sample;
+use shader_text::{Pieces, SpelledType, builtin_from_word};
+use std::alloc::{AllocError, Global};
+
+/// What a line asks for, by its first word.
+#[derive(Clone, Copy, Debug, PartialEq, Eq)]
+pub enum Kind {
+    Call,
+    Rules,
+    Layout,
+    Convert,
+    Module,
+}
+
+/// A line that asks for something.
+#[derive(Drop)]
+pub enum Request {
+    /// The type of a call with these arguments, of which there is one at least.
+    Call(MathFunction, Items<SpelledType>),
+    /// The rules of a builtin that take these arguments.
+    Rules(MathFunction, Items<SpelledType>),
+    /// The size, the alignment and the stride of a type.
+    Layout(SpelledType),
+    /// The scalars by which a value of the first type becomes one of the second.
+    Convert(SpelledType, SpelledType),
+    /// What the analysis finds of a sample module.
+    Module(Sample),
+}
+
+impl Kind {
+    ghost use Rattle.typer_answers.specs.Requests.{kind_text};
+
+    const ALL: [Kind; 5] = [
+        Kind::Call,
+        Kind::Rules,
+        Kind::Layout,
+        Kind::Convert,
+        Kind::Module,
+    ];
+
+    fn word(self) -> &'static str
+        ensures { result.now ≡ kind_text self }
+    {
+        match self {
+            Kind::Call => "call",
+            Kind::Rules => "rules",
+            Kind::Layout => "layout",
+            Kind::Convert => "convert",
+            Kind::Module => "module",
+        }
+    }
+
+    /// The kind that the word names.
+    fn from_word(word: &[u8]) -> Option<Kind>
+        ensures { result ≡ kind_of word.now }
+    {
+        Kind::ALL
+            .iter()
+            .copied()
+            .find(|kind| kind.word().as_bytes() == word)
+    }
+}
+
+/// The request for a layout, if the words spell one type.
+fn parse_layout(mut words: Pieces<'_>) -> Option<Request>
+    ensures { result ≡ layout_from words.entry }
+{
+    let word = words.next()?;
+    if words.next().is_some() {
+        return None;
+    }
+    SpelledType::from_word(word).map(Request::Layout)
+}
+
+/// The request for a conversion between two types, if the words spell two.
+fn parse_convert(mut words: Pieces<'_>) -> Option<Request>
+    ensures { result ≡ convert_from words.entry }
+{
+    let from = words.next()?;
+    let to = words.next()?;
+    if words.next().is_some() {
+        return None;
+    }
+    let from = SpelledType::from_word(from)?;
+    let to = SpelledType::from_word(to)?;
+    Some(Request::Convert(from, to))
+}
+
+/// The request for what is found of a sample, if the words are the name of one.
+fn parse_module(mut words: Pieces<'_>) -> Option<Request>
+    ensures { result ≡ module_from words.entry }
+{
+    let name = words.next()?;
+    if words.next().is_some() {
+        return None;
+    }
+    Sample::from_name(name).map(Request::Module)
+}
+
+/// The types that the words spell, if each spells one.
+fn parse_types(alloc: Global, words: Pieces<'_>) -> Result<Option<Vec<SpelledType>>, AllocError>
+    ensures { IfOk result (λ types. option_map (λ v. v.items) types ≡ types_of words.entry) }
+{
+    let mut types = Vec::new(alloc);
+    for word in words {
+        let Some(next) = SpelledType::from_word(word) else {
+            return Ok(None);
+        };
+        types.push(next)?;
+    }
+    Ok(Some(types))
+}
+
+/// The builtin that the first word names, and the types that the others spell.
+fn parse_arguments(
+    alloc: Global,
+    mut words: Pieces<'_>,
+) -> Result<Option<(MathFunction, Vec<SpelledType>)>, AllocError>
+    ensures { IfOk result (λ named. option_map (λ n. (n.0, n.1.items)) named ≡ named_from words.entry) }
+{
+    let Some(function) = words.next().and_then(|name| builtin_from_word(name)) else {
+        return Ok(None);
+    };
+    match parse_types(alloc, words)? {
+        Some(types) => Ok(Some((function, types))),
+        None => Ok(None),
+    }
+}
+
+/// The request for a call's type, if the words name a builtin and spell a type at least.
+fn parse_call(alloc: Global, words: Pieces<'_>) -> Result<Option<Request>, AllocError>
+    ensures { IfOk result (λ request. request ≡ call_from words.entry) }
+{
+    let Some((function, arguments)) = parse_arguments(alloc, words)? else {
+        return Ok(None);
+    };
+    if arguments.is_empty() {
+        return Ok(None);
+    }
+    Ok(Some(Request::Call(function, Items::from(arguments))))
+}
+
+/// The request for rules, if the words name a builtin and spell types.
+fn parse_rules(alloc: Global, words: Pieces<'_>) -> Result<Option<Request>, AllocError>
+    ensures { IfOk result (λ request. request ≡ rules_from words.entry) }
+{
+    let Some((function, arguments)) = parse_arguments(alloc, words)? else {
+        return Ok(None);
+    };
+    Ok(Some(Request::Rules(function, Items::from(arguments))))
+}
+
+/// The request that a line makes, if it makes one.
+pub fn parse_request(alloc: Global, line: &[u8]) -> Result<Option<Request>, AllocError>
+    ensures { IfOk result (λ request. request ≡ request_of line.now) }
+{
+    let mut words = Pieces::new(line, b' ');
+    let Some(kind) = words.next().and_then(Kind::from_word) else {
+        return Ok(None);
+    };
+    match kind {
+        Kind::Call => parse_call(alloc, words),
+        Kind::Rules => parse_rules(alloc, words),
+        Kind::Layout => Ok(parse_layout(words)),
+        Kind::Convert => Ok(parse_convert(words)),
+        Kind::Module => Ok(parse_module(words)),
+    }
+}
