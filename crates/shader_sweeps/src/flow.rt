@@ -2,15 +2,15 @@
 ghost use Rattle.std.specs.Prelude.{◌≡◌, Some, None};
 ghost use Rattle.std.specs.Option.{option_or};
 ghost use Rattle.shader_arena.specs.Places.{places_between};
-ghost use Rattle.shader_ir.specs.BodyOf.{step_of};
-ghost use Rattle.shader_sweeps.specs.Ends.{behind, block_ends, block_fault, either, exit_cause, first_needy, is_needy, killing, misplaced, on_branch, own_ends, own_fault, step_ends, step_fault};
+ghost use Rattle.shader_ir.specs.BodyOf.{cases_of, step_of};
+ghost use Rattle.shader_sweeps.specs.Ends.{behind, block_ends, block_fault, cases_end, cases_fault, either, exit_cause, first_needy, is_needy, killing, misplaced, on_branch, own_ends, own_fault, step_ends, step_fault};
 ghost use Rattle.shader_sweeps.specs.Facts.{origin_at};
 
 use crate::facts::{Fact, origin_of, requirements_of};
 use bitflags::Flags;
 use shader_arena::{Handle, Range};
 use shader_info::{FunctionInfo, UniformityDisruptor, UniformityRequirements};
-use shader_ir::{Block, Statement, mark};
+use shader_ir::{Block, Statement, SwitchCase, mark};
 
 /// How only some of the invocations may leave a block.
 #[derive(Clone, Copy)]
@@ -163,10 +163,7 @@ pub fn sweep_block(
     ensures exits { result ≡ block_ends (origin_at facts.now) (killing infos.now) disruptor.now block.now }
     ensures first { seen.new.first ≡ option_or seen.old.first (block_fault (origin_at facts.now) (killing infos.now) facts.now disruptor.now block.now) }
 {
-    let mut exits = Exits {
-        returns: false,
-        kills: false,
-    };
+    let mut exits = STAYS;
     let mut flow = *disruptor;
     for statement in &block.statements {
         let here = sweep_statement(infos, facts, seen, &flow, statement);
@@ -202,21 +199,7 @@ fn sweep_statement(
         }
         Statement::Switch { selector, cases } => {
             let branch = on_branch(facts, disruptor, *selector);
-            let mut entered = branch;
-            let mut exits = Exits {
-                returns: false,
-                kills: false,
-            };
-            for case in cases {
-                let here = sweep_block(infos, facts, seen, &entered, &case.body);
-                entered = if case.fall_through {
-                    behind(&entered, &here)
-                } else {
-                    branch
-                };
-                exits = either(&exits, &here);
-            }
-            exits
+            sweep_cases(infos, facts, seen, &branch, cases)
         }
         Statement::Loop {
             body,
@@ -228,28 +211,35 @@ fn sweep_statement(
             let again = sweep_block(infos, facts, seen, &flow, continuing);
             either(&left, &again)
         }
-        Statement::Emit(_)
-        | Statement::Break
-        | Statement::Continue
-        | Statement::Return { .. }
-        | Statement::Kill
-        | Statement::ControlBarrier(_)
-        | Statement::MemoryBarrier(_)
-        | Statement::Store { .. }
-        | Statement::ImageStore { .. }
-        | Statement::Atomic { .. }
-        | Statement::ImageAtomic { .. }
-        | Statement::WorkGroupUniformLoad { .. }
-        | Statement::Call { .. }
-        | Statement::RayQuery { .. }
-        | Statement::RayPipelineFunction(_)
-        | Statement::SubgroupBallot { .. }
-        | Statement::SubgroupGather { .. }
-        | Statement::SubgroupCollectiveOperation { .. }
-        | Statement::CooperativeStore { .. } => sweep_leaf(
-            infos, facts, seen, disruptor, statement,
-        ),
+        _ => sweep_leaf(infos, facts, seen, disruptor, statement),
     }
+}
+
+/// How the cases of a switch may be left early, where `branch` disrupts each that isn't fallen into.
+#[cycle(flow)]
+#[tactic(auto, using(crate::proofs::FlowLemmas::ors))]
+fn sweep_cases(
+    infos: &[FunctionInfo],
+    facts: &[Fact],
+    seen: &mut Found,
+    branch: &Option<UniformityDisruptor>,
+    cases: &[SwitchCase],
+) -> Exits
+    ensures exits { result ≡ cases_end (origin_at facts.now) (killing infos.now) branch.now branch.now (cases_of cases.now) }
+    ensures first { seen.new.first ≡ option_or seen.old.first (cases_fault (origin_at facts.now) (killing infos.now) facts.now branch.now branch.now (cases_of cases.now)) }
+{
+    let mut entered = *branch;
+    let mut exits = STAYS;
+    for case in cases {
+        let here = sweep_block(infos, facts, seen, &entered, &case.body);
+        entered = if case.fall_through {
+            behind(&entered, &here)
+        } else {
+            *branch
+        };
+        exits = either(&exits, &here);
+    }
+    exits
 }
 
 /// A statement by itself, without the blocks inside.

@@ -1,7 +1,7 @@
 use Rattle.std.proofs.Common.{◌≡◌, drop}
 use Rattle.std.specs.Option.{option_or}
-use Rattle.shader_ir.specs.BodyOf.{body_of, step_of, cases_of}
-use Rattle.shader_sweeps.specs.Ends.{either, killing, step_ends, block_ends, cases_end, step_fault, block_fault, cases_fault}
+use Rattle.shader_ir.specs.BodyOf.{body_of, cases_of}
+use Rattle.shader_sweeps.specs.Ends.{either, killing, block_ends, cases_end, block_fault, cases_fault}
 use Rattle.shader_sweeps.specs.Facts.{origin_at}
 use Rattle.shader_sweeps.proofs.flow.+flow.Given as goal
 
@@ -13,10 +13,10 @@ invariant-sweep_block-loop-statement l = record {
       ≡ option_or l.fn.seen.first (block_fault (origin_at l.facts) (killing l.infos) l.facts l.disruptor l.block);
 }
 
-abbrev pub invariant-sweep_statement-loop-case : goal.invariant-sweep_statement-loop-case
-invariant-sweep_statement-loop-case l = record {
-  exits : either l.exits (cases_end (origin_at l.facts) (killing l.infos) l.branch l.entered (cases_of (drop l.case-index l.case-items)))
-      ≡ step_ends (origin_at l.facts) (killing l.infos) l.fn.disruptor (step_of l.fn.statement);
-  first : option_or l.seen.first (cases_fault (origin_at l.facts) (killing l.infos) l.facts l.branch l.entered (cases_of (drop l.case-index l.case-items)))
-      ≡ option_or l.fn.seen.first (step_fault (origin_at l.facts) (killing l.infos) l.facts l.fn.disruptor (step_of l.fn.statement));
+abbrev pub invariant-sweep_cases-loop-case : goal.invariant-sweep_cases-loop-case
+invariant-sweep_cases-loop-case l = record {
+  exits : either l.exits (cases_end (origin_at l.facts) (killing l.infos) l.branch l.entered (cases_of (drop l.case-index l.cases)))
+      ≡ cases_end (origin_at l.facts) (killing l.infos) l.branch l.branch (cases_of l.cases);
+  first : option_or l.seen.first (cases_fault (origin_at l.facts) (killing l.infos) l.facts l.branch l.entered (cases_of (drop l.case-index l.cases)))
+      ≡ option_or l.fn.seen.first (cases_fault (origin_at l.facts) (killing l.infos) l.facts l.branch l.branch (cases_of l.cases));
 }
