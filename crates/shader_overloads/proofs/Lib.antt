@@ -8,6 +8,7 @@ pub mod MaskLemmas
 pub mod DigitLemmas
 pub mod PlaceLemmas
 pub mod PairLemmas
+pub mod GroupLemmas
 pub mod TableLemmas
 pub mod TakesLemmas
 pub mod FormLemmas

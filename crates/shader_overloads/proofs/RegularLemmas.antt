@@ -21,7 +21,7 @@ use Rattle.shader_overloads.specs.declared.regular.RegularRows.{RegularRows}
 use Rattle.shader_overloads.specs.declared.rule.Rule.{Rule}
 use Rattle.shader_overloads.specs.declared.scalar_set.ScalarSet.{ScalarSet}
 use Rattle.shader_overloads.specs.Bits.{cons_if, has_bit, items_where}
-use Rattle.shader_overloads.specs.Constructors.{all_constructors, constructors_in, is_made_by, to_inner}
+use Rattle.shader_overloads.specs.Constructors.{all_constructors, constructors_in, is_made_by, same_constructor, to_inner}
 use Rattle.shader_overloads.specs.Masks.{IsBelow, has_place, rules_at}
 use Rattle.shader_overloads.specs.Regular.{all_rules}
 use Rattle.shader_overloads.specs.ScalarSets.{is_concrete_scalar, scalars_in}
@@ -30,7 +30,7 @@ use Rattle.shader_overloads.specs.Remaining.{ArgumentFits, RuleFits, RulesFit, a
 use Rattle.shader_overloads.proofs.ListLemmas.{ElementAt, element_at, items_where-combinations, items_where-filter, length-combinations, slice_get-combinations, slice_get-within}
 use Rattle.shader_overloads.proofs.MaskLemmas.{all_bits}
 use Rattle.shader_overloads.proofs.PlaceLemmas.{below_from_high, high_from_below}
-use Rattle.shader_overloads.proofs.SetLemmas.{constructor_place, scalar_place}
+use Rattle.shader_overloads.proofs.SetLemmas.{length-constructors, scalar_place}
 
 -- ---- one rule
 
@@ -56,15 +56,27 @@ takes_parts (types.Matrix c r t) from e (sizes.Vector n) s = refl
 takes_parts (types.Matrix c r t) from e (sizes.Matrix m n) s = let same : t ≡ from = cc in ap (λ v. same_size c m && same_size r n && is_convertible v s) same
 takes_parts ty from e size s = cc
 
-takes_none : (ty : TypeInner) → leaf_scalar ty ≡ None → (inner : TypeInner) → takes ty inner ≡ false
-takes_none (types.Scalar t) e inner = cc
-takes_none (types.Vector size t) e inner = cc
-takes_none (types.Matrix c r t) e inner = cc
-takes_none ty e inner = refl
+made_same : (a b : ConstructorSize) (s : Scalar) → is_made_by (to_inner a s) b ≡ same_constructor a b
+made_same sizes.Scalar sizes.Scalar s = refl
+made_same sizes.Scalar (sizes.Vector n) s = refl
+made_same sizes.Scalar (sizes.Matrix c r) s = refl
+made_same (sizes.Vector m) sizes.Scalar s = refl
+made_same (sizes.Vector m) (sizes.Vector n) s = refl
+made_same (sizes.Vector m) (sizes.Matrix c r) s = refl
+made_same (sizes.Matrix m n) sizes.Scalar s = refl
+made_same (sizes.Matrix m n) (sizes.Vector k) s = refl
+made_same (sizes.Matrix m n) (sizes.Matrix c r) s = refl
 
-some_takes_none : (ty : TypeInner) → leaf_scalar ty ≡ None → (argument : Option TypeInner) → some_takes ty argument ≡ false
-some_takes_none ty e None = refl
-some_takes_none ty e (Some inner) = takes_none ty e inner
+made_by_same : (ty : TypeInner) (size : ConstructorSize) (s : Scalar) → ty ≡ to_inner size s → (other : ConstructorSize) → is_made_by ty other ≡ same_constructor size other
+made_by_same ty size s made other = ap (λ t. is_made_by t other) made ∙ made_same size other s
+
+leaf_made : (size : ConstructorSize) (s : Scalar) → leaf_scalar (to_inner size s) ≡ Some s
+leaf_made sizes.Scalar s = refl
+leaf_made (sizes.Vector n) s = refl
+leaf_made (sizes.Matrix c r) s = refl
+
+leaf_of_made : (ty : TypeInner) (size : ConstructorSize) (s : Scalar) → ty ≡ to_inner size s → leaf_scalar ty ≡ Some s
+leaf_of_made ty size s made = ap leaf_scalar made ∙ leaf_made size s
 
 accepts_parts : (types : List «Type») (arity i : ℕ) (conclude : ConclusionRule) (ty : TypeInner) (from : Scalar) → leaf_scalar ty ≡ Some from → i < arity → (size : ConstructorSize) (s : Scalar) → accepts types i ty (rule_for arity conclude size s) ≡ (is_made_by ty size && is_convertible from s)
 accepts_parts types arity i conclude ty from e h size s =
@@ -93,10 +105,6 @@ concrete_parts types arity conclude h size s =
     ∙ is_concrete-to_inner types size s
 
 -- ---- the numbered rules of all constructors and scalars
-
-length-constructors : length all_constructors ≡ 13
-unfolding all_constructors
-length-constructors = refl
 
 length-scalars : length named_scalars ≡ 12
 unfolding named_scalars
@@ -135,22 +143,18 @@ module _ (table : RegularRows) (row : ℕ) (rule : Rule) (at : slice_get (all_ru
   same_rule = cc (parts.is, at)
 
   -- an argument that the rule has
-  pub row_accepts : (types : List «Type») (i : ℕ) (ty : TypeInner) (from : Scalar) (c : ConstructorSet) (s : ScalarSet) → leaf_scalar ty ≡ Some from → i < table.arity
-      → constructors_in c ≡ filter (is_made_by ty) all_constructors → scalars_in s ≡ filter (is_convertible from) named_scalars
-      → (has_bit c.0 (row / 12) && has_bit s.0 (row % 12)) ≡ accepts types i ty rule
-  row_accepts types i ty from c s leaf h made convertible =
-      ap (λ b. b && has_bit s.0 (row % 12)) (constructor_place (is_made_by ty) c (row / 12) parts.size.element made parts.size.is)
-      ∙ ap (λ b. is_made_by ty parts.size.element && b) (scalar_place (is_convertible from) s (row % 12) parts.scalar.element convertible parts.scalar.is)
-      ∙ sym (accepts_parts types table.arity i table.conclude ty from leaf h parts.size.element parts.scalar.element)
+  pub row_accepts : (types : List «Type») (i : ℕ) (ty : TypeInner) (size : ConstructorSize) (from : Scalar) (rows : Mask) → ty ≡ to_inner size from → i < table.arity
+      → ((k : ℕ) (other : ConstructorSize) (to : Scalar) → slice_get all_constructors (k / 12) ≡ Some other → slice_get named_scalars (k % 12) ≡ Some to → has_place rows k ≡ (same_constructor size other && is_convertible from to))
+      → has_place rows row ≡ accepts types i ty rule
+  row_accepts types i ty size from rows made h has =
+      has row parts.size.element parts.scalar.element parts.size.is parts.scalar.is
+      ∙ ap (λ b. b && is_convertible from parts.scalar.element) (sym (made_by_same ty size from made parts.size.element))
+      ∙ sym (accepts_parts types table.arity i table.conclude ty from (leaf_of_made ty size from made) h parts.size.element parts.scalar.element)
       ∙ ap (accepts types i ty) same_rule
 
   -- one past its arguments
   pub row_past : (types : List «Type») (i : ℕ) (ty : TypeInner) → table.arity ≤ i → false ≡ accepts types i ty rule
   row_past types i ty h = sym (accepts_past types table.arity i table.conclude ty h parts.size.element parts.scalar.element) ∙ ap (accepts types i ty) same_rule
-
-  -- a type that no rule takes
-  pub row_untaken : (types : List «Type») (i : ℕ) (ty : TypeInner) → leaf_scalar ty ≡ None → false ≡ accepts types i ty rule
-  row_untaken types i ty none = sym (some_takes_none ty none (argument_at types i rule))
 
   pub row_concrete : (types : List «Type») (s : ScalarSet) → 0 < table.arity → scalars_in s ≡ filter is_concrete_scalar named_scalars → has_bit s.0 (row % 12) ≡ has_concrete_arguments types rule
   row_concrete types s many concrete =

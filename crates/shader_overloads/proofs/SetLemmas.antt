@@ -1,9 +1,9 @@
 -- Sets of scalars and of constructors, joined and met.
-use Rattle.std.proofs.Common.{◌≡◌, ℕ, ◌<◌, Bool, true, ◌&&◌, ◌||◌, refl, ◌∙◌, ap, arith, inl, inr, ◌⊎◌, bit_and, nat_eq, min, max, Some, slice_get}
+use Rattle.std.proofs.Common.{◌≡◌, ℕ, ◌<◌, Bool, true, false, ◌&&◌, ◌||◌, Option, length, refl, ◌∙◌, ap, arith, inl, inr, ◌⊎◌, bit_and, nat_eq, min, max, Some, slice_get}
 use Rattle.std.specs.List.{filter}
 use Rattle.std.specs.Int.{bit_at}
 use Rattle.std.specs.Int.RustNames.{bit_or}
-use Rattle.std.proofs.lemmas.Bool.{cases_lt, and_from, eq-eqb}
+use Rattle.std.proofs.lemmas.Bool.{agree_below, agree_below_at, cases_lt, and_from, eq-eqb}
 use Rattle.std.proofs.lemmas.Cmp.{nat_eq_equiv}
 use Rattle.std.proofs.lemmas.Nat.Bits.{bit_at_and, bit_at_or, bit_at-lt}
 use Rattle.shader_ir.specs.declared.scalar.Scalar.{Scalar}
@@ -20,7 +20,7 @@ use Rattle.shader_overloads.specs.declared.scalar_set.ScalarSet.{ScalarSet}
 use Rattle.shader_overloads.specs.Bits.{has_bit}
 use Rattle.shader_overloads.specs.ScalarSets.{scalars_in, has_scalar}
 use Rattle.shader_overloads.specs.Constructors.{constructors_in, has_constructor, all_constructors, same_constructor}
-use Rattle.shader_overloads.proofs.ListLemmas.{Places, items_where-and, items_where-filtered, places_from_list, places_of_members, places_of_either, Places-at}
+use Rattle.shader_overloads.proofs.ListLemmas.{Places, items_where-and, items_where-filtered, places_from_list, places_of_members, places_of_either, Places-at, slice_get-within}
 
 digit_cases : (a : ℕ) → a < 2 → (a ≡ 0) ⊎ (a ≡ 1)
 digit_cases a h = elim (cases_lt a 1) [ inl l ↦ inl (omega arith) | inr l ↦ inr (omega arith) ]
@@ -114,6 +114,10 @@ scalar_place q set k s e at = Places-at (has_bit set.0) q named_scalars k s (pla
 
 -- ---- sets of constructors
 
+same_some : Option ConstructorSize → Option ConstructorSize → Bool
+same_some (Some a) (Some b) = same_constructor a b
+same_some _ _ = false
+
 constructor_members : (set : ConstructorSet) → Places (has_bit set.0) (has_constructor set) all_constructors
 unfolding all_constructors
 constructor_members set = places_of_members same_constructor same_constructor_self same_constructor_sym (has_bit set.0) all_constructors refl
@@ -126,6 +130,24 @@ constructors_of_either a b either e =
     items_where-filtered _ (has_bit either.0) all_constructors
     (places_of_either (has_constructor a) (has_constructor b) (has_bit a.0) (has_bit b.0) (has_bit either.0) all_constructors (constructor_members a) (constructor_members b) (λ k. ap (λ n. has_bit n k) e ∙ has_bit-or a.0 b.0 k))
 
-pub constructor_place : (q : ConstructorSize → Bool) (set : ConstructorSet) (k : ℕ) (size : ConstructorSize) → constructors_in set ≡ filter q all_constructors → slice_get all_constructors k ≡ Some size → has_bit set.0 k ≡ q size
+-- the test of equality, by places
+same_at : ℕ → ℕ → Bool
+same_at j k = same_some (slice_get all_constructors j) (slice_get all_constructors k)
+
+-- the constructors differ, so one has no other place
+constructors_apart : (j k : ℕ) → j < 13 → k < 13 → nat_eq k j ≡ same_at j k
+unfolding all_constructors same_at same_some
+constructors_apart j k l m =
+    let of_one = λ (i : ℕ). agree_below (λ n. nat_eq n i) (same_at i) 13 in
+    agree_below_at (λ n. nat_eq n j) (same_at j) 13 k (agree_below_at of_one (λ _. true) 13 j refl l) m
+
+pub length-constructors : length all_constructors ≡ 13
 unfolding all_constructors
-constructor_place q set k size e at = Places-at (has_bit set.0) q all_constructors k size (places_from_list same_constructor same_constructor_self q (has_bit set.0) all_constructors refl e) at
+length-constructors = refl
+
+pub same_place : (j k : ℕ) (size other : ConstructorSize) → slice_get all_constructors j ≡ Some size → slice_get all_constructors k ≡ Some other → nat_eq k j ≡ same_constructor size other
+unfolding same_at same_some
+same_place j k size other at_j at_k =
+    constructors_apart j k (omega (arith, slice_get-within all_constructors j size at_j, length-constructors)) (omega (arith, slice_get-within all_constructors k other at_k, length-constructors))
+    ∙ ap (λ o. same_some o (slice_get all_constructors k)) at_j
+    ∙ ap (same_some (Some size)) at_k

@@ -89,6 +89,47 @@ pub fn size_at(place: usize) -> ConstructorSize
     SIZES_FOR_BITS[place]
 }
 
+/// The place of a constructor.
+#[tactic(auto, unfolding(crate::specs::Constructors::all_constructors))]
+#[inline(always)]
+pub fn place_of(size: ConstructorSize) -> usize
+    ensures { slice_get all_constructors result ≡ Some size }
+{
+    match size {
+        ConstructorSize::Scalar => 0,
+        ConstructorSize::Vector(size) => place_of_vector(size),
+        ConstructorSize::Matrix { columns, rows } => place_of_matrix(columns, rows),
+    }
+}
+
+#[tactic(auto, unfolding(crate::specs::Constructors::all_constructors))]
+fn place_of_vector(size: VectorSize) -> usize
+    ensures { slice_get all_constructors result ≡ Some (ConstructorSize.Vector size) }
+{
+    match size {
+        VectorSize::Bi => 1,
+        VectorSize::Tri => 2,
+        VectorSize::Quad => 3,
+    }
+}
+
+#[tactic(auto, unfolding(crate::specs::Constructors::all_constructors))]
+fn place_of_matrix(columns: VectorSize, rows: VectorSize) -> usize
+    ensures { slice_get all_constructors result ≡ Some (ConstructorSize.Matrix columns rows) }
+{
+    match (columns, rows) {
+        (VectorSize::Bi, VectorSize::Bi) => 4,
+        (VectorSize::Bi, VectorSize::Tri) => 5,
+        (VectorSize::Bi, VectorSize::Quad) => 6,
+        (VectorSize::Tri, VectorSize::Bi) => 7,
+        (VectorSize::Tri, VectorSize::Tri) => 8,
+        (VectorSize::Tri, VectorSize::Quad) => 9,
+        (VectorSize::Quad, VectorSize::Bi) => 10,
+        (VectorSize::Quad, VectorSize::Tri) => 11,
+        (VectorSize::Quad, VectorSize::Quad) => 12,
+    }
+}
+
 /// A set of type constructors.
 #[derive(Clone, Copy, Debug, PartialEq)]
 pub struct ConstructorSet(u16);

@@ -154,6 +154,8 @@ impl OverloadSet for List {
         greatest_count(self.set.table.rules.as_slice(), self.set.mask)
     }
 
+    // Out of line, so that narrowing a regular set saves no registers for it.
+    #[inline(never)]
     fn arg(
         &self,
         _alloc: Global,

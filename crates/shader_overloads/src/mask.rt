@@ -56,6 +56,44 @@ impl Mask {
         }
     }
 
+    /// The numbers `12 * group + j`, where `j` below 12 is the place of a set bit of the members.
+    #[inline(always)]
+    pub fn group(group: usize, members: u16) -> Mask
+        requires { group < 13 }
+        ensures { (k : ℕ) → k < 156 → has_place result k ≡ (k / 12 == group && has_bit members (k % 12)) }
+    {
+        let members = members as u64 & 0xfff;
+        // The words end within the groups 5 and 10.
+        if group < 5 {
+            Mask {
+                low: members << (12 * group),
+                ..Self::EMPTY
+            }
+        } else if group == 5 {
+            Mask {
+                low: members << 60,
+                middle: members >> 4,
+                high: 0,
+            }
+        } else if group < 10 {
+            Mask {
+                middle: members << (12 * group - 64),
+                ..Self::EMPTY
+            }
+        } else if group == 10 {
+            Mask {
+                low: 0,
+                middle: members << 56,
+                high: members >> 8,
+            }
+        } else {
+            Mask {
+                high: members << (12 * group - 128),
+                ..Self::EMPTY
+            }
+        }
+    }
+
     pub fn has(self, place: usize) -> bool
         requires { place < 192 }
         ensures { result ≡ has_place self place }

@@ -1,15 +1,17 @@
 //! Overload sets that hold a rule for each combination of some constructors and some scalars.
-ghost use Rattle.std.specs.Prelude.{◌≡◌, ◌⊎◌, ◌<◌, [], IsOk, IsTrue, IfOk, Some, filter, replicate, slice_get};
+ghost use Rattle.std.specs.Prelude.{◌≡◌, ◌⊎◌, ◌<◌, ◌/◌, ◌%◌, ◌&&◌, ℕ, [], IsOk, IsTrue, IfOk, Some, filter, replicate, slice_get};
 ghost use Rattle.std.specs.List.{list_all};
 ghost use Rattle.shader_ir.specs.declared.proc.type_resolution.TypeResolution.TheVariants as resolutions;
-ghost use Rattle.shader_overloads.specs.Constructors.{constructors_in, to_inner};
+ghost use Rattle.shader_ir.specs.Scalars.{is_convertible, named_scalars};
+ghost use Rattle.shader_ir.specs.declared.scalar.Scalar.{Scalar};
+ghost use Rattle.shader_overloads.specs.declared.constructor_set.ConstructorSize.{ConstructorSize};
+ghost use Rattle.shader_overloads.specs.Constructors.{all_constructors, constructors_in, same_constructor, to_inner};
 ghost use Rattle.shader_overloads.specs.Masks.{has_place};
 ghost use Rattle.shader_overloads.specs.Regular.{all_rules};
-ghost use Rattle.shader_overloads.specs.Remaining.{leaf_scalar};
 ghost use Rattle.shader_overloads.specs.Rules.{regular_rules, rule_for, conclusion_of, can_conclude};
 ghost use Rattle.shader_overloads.specs.ScalarSets.{scalars_in};
 
-use crate::constructor_set::size_at;
+use crate::constructor_set::{place_of, size_at};
 use crate::mask::Mask;
 use crate::masked::{Masked, Table};
 use crate::rule::vector_size;
@@ -153,8 +155,8 @@ impl OverloadSet for Regular {
 /// The rules of all constructors and scalars: that of the constructor of place `i` and the scalar of place `j` has the number `12 * i + j`.
 #[derive(Clone, Copy)]
 pub struct RegularRows {
-    arity: usize,
     conclude: ConclusionRule,
+    arity: usize,
 }
 
 impl RegularRows {
@@ -170,13 +172,23 @@ impl RegularRows {
         if i >= self.arity {
             return Mask::empty();
         }
-        match leaf_scalar(ty) {
-            Some(scalar) => {
-                let constructor = ConstructorSet::singleton(ty);
-                let scalars = ScalarSet::convertible_from(scalar);
-                Mask::pairs(constructor.bits(), scalars.bits())
+        match ty {
+            TypeInner::Scalar(scalar) => accepting_rows(ConstructorSize::Scalar, *scalar),
+            TypeInner::Vector { size, scalar } => {
+                accepting_rows(ConstructorSize::Vector(*size), *scalar)
             }
-            None => Mask::empty(),
+            TypeInner::Matrix {
+                columns,
+                rows,
+                scalar,
+            } => {
+                let size = ConstructorSize::Matrix {
+                    columns: *columns,
+                    rows: *rows,
+                };
+                accepting_rows(size, *scalar)
+            }
+            _ => Mask::empty(),
         }
     }
 
@@ -246,16 +258,13 @@ impl Table for RegularRows {
     }
 }
 
-/// The scalar of a scalar, a vector or a matrix.
-fn leaf_scalar(ty: &TypeInner) -> Option<Scalar>
-    ensures { result ≡ leaf_scalar ty.now }
+/// The numbers of the rules of a constructor and the scalars that this one converts to.
+#[inline(always)]
+fn accepting_rows(size: ConstructorSize, scalar: Scalar) -> Mask
+    ensures { (row : ℕ) (other : ConstructorSize) (to : Scalar) → slice_get all_constructors (row / 12) ≡ Some other → slice_get named_scalars (row % 12) ≡ Some to → has_place result row ≡ (same_constructor size other && is_convertible scalar to) }
 {
-    match ty {
-        TypeInner::Scalar(scalar) => Some(*scalar),
-        TypeInner::Vector { scalar, .. } => Some(*scalar),
-        TypeInner::Matrix { scalar, .. } => Some(*scalar),
-        _ => None,
-    }
+    let scalars = ScalarSet::convertible_from(scalar);
+    Mask::group(place_of(size), scalars.bits())
 }
 
 /// The rule of one constructor and one scalar.
