@@ -9,7 +9,7 @@ use shader_ir::{Block, EntryPoint, Module, Statement};
 
 /// A depth that `check_module`, the analysis and the drop of a module go through with room to spare.
 ///
-/// They take 240 bytes of stack a level at most: here an eighth of a stack of 8 MB, and half of one of 2 MB.
+/// They take some 340 bytes of stack a level at most: here a sixth of a stack of 8 MB, and less than one of 2 MB.
 pub const MOST_LEVELS: usize = 4_000;
 
 /// Whether the blocks of each body nest at most so many levels deep, the body itself the first level.
