@@ -7,9 +7,10 @@ ghost use Rattle.shader_resolve.specs.Nesting.{NestsWithin, depth, step_depth};
 
 use shader_ir::{Block, EntryPoint, Module, Statement};
 
-/// A depth that `check_module`, the analysis and the drop of a module go through on a stack of 8 MB
-/// with room to spare: each takes at most 240 bytes a level, so together under a third of it.
-pub const MOST_LEVELS: usize = 10_000;
+/// A depth that `check_module`, the analysis and the drop of a module go through with room to spare.
+///
+/// They take some 340 bytes of stack a level at most: here a sixth of a stack of 8 MB, and less than one of 2 MB.
+pub const MOST_LEVELS: usize = 4_000;
 
 /// Whether the blocks of each body nest at most so many levels deep, the body itself the first level.
 ///

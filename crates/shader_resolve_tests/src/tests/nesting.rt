@@ -70,7 +70,7 @@ fn switch(rt: &impl Abort, alloc: Global, first: usize, last: usize) -> Vec<Stat
     cases.push(case(rt, alloc, last, false)).expect(rt, WANT);
     let switch = Statement::Switch {
         selector: at(0),
-        cases: Items::from(cases),
+        cases,
     };
     one_statement(rt, alloc, switch)
 }
@@ -78,7 +78,7 @@ fn switch(rt: &impl Abort, alloc: Global, first: usize, last: usize) -> Vec<Stat
 fn switch_of_nothing(rt: &impl Abort, alloc: Global) -> Vec<Statement> {
     let switch = Statement::Switch {
         selector: at(0),
-        cases: Items::from(Vec::new(alloc)),
+        cases: Vec::new(alloc),
     };
     one_statement(rt, alloc, switch)
 }
@@ -94,7 +94,7 @@ fn between(rt: &impl Abort, alloc: Global, levels: usize) -> Vec<Statement> {
 
 #[test]
 fn a_module_without_bodies_has_no_levels(rt: HostRuntime) {
-    assert!(&rt; nests_within(&empty_module(rt.alloc()), 0));
+    assert!(rt; nests_within(&empty_module(rt.alloc()), 0));
 }
 
 #[test]
@@ -145,15 +145,14 @@ fn entry_points_count(rt: HostRuntime) {
     nests(&rt, of_entry_point(&rt, alloc, nested(&rt, alloc, 2)), 3);
 }
 
-/// The deepest module that is told to nest within the limit is checked and let go, and one far
-/// deeper than the stack holds is told at once, though it can't be let go.
+/// The deepest module that nests within the limit is told, checked and let go, and so is one level more on this stack.
 #[test]
 fn the_limit_goes_through(rt: HostRuntime) {
     let alloc = rt.alloc();
     let mut module = empty_module(alloc);
     let body = nested(&rt, alloc, MOST_LEVELS - 1);
     add_function(&rt, &mut module, function(alloc, Vec::new(alloc), body));
-    assert!(&rt; check_module(&module) == Ok(()));
+    assert!(rt; check_module(&module) == Ok(()));
     nests(&rt, module, MOST_LEVELS);
     body_nests(&rt, alloc, nested(&rt, alloc, MOST_LEVELS), MOST_LEVELS + 1);
 }
