@@ -11,4 +11,4 @@ pub use shader_info::{
     FunctionInfo, GlobalOrArgument, GlobalUse, NonUniformResult, Sampling, SamplingKey, Uniformity,
     UniformityDisruptor, UniformityRequirements, ValidationFlags,
 };
-pub use shader_resolve::{ModuleFault, check_module};
+pub use shader_resolve::{MOST_LEVELS, ModuleFault, check_module, nests_within};

@@ -3,9 +3,10 @@
 //! With ample memory nothing is refused. Where the allocator refuses the Nth request of a test's process, the test passes still,
 //! and prints a line with `was refused`.
 use crate::tests::{Arenas, SCALAR, VEC2, inner, is_rule};
-use shader_ir::{MathFunction, Scalar};
-use shader_overloads::utils::rule;
-use shader_overloads::{AnyOverloadSet, List, MathOverloads, OverloadSet, Rule};
+use shader_arena::UniqueArena;
+use shader_ir::{MathFunction, Scalar, Type, mark, types_backward};
+use shader_overloads::utils::{list, rule};
+use shader_overloads::{AnyOverloadSet, List, MathOverloads, OverloadSet, Rule, SetCall, narrow};
 use std::alloc::{AllocError, Global};
 use std::io::Print;
 use std::process::Abort;
@@ -61,6 +62,13 @@ fn preferred<R: Abort + Print>(rt: &R, alloc: Global, set: &AnyOverloadSet) -> u
     }
 }
 
+/// Asserts that what a set tells of its first argument and its preferred rule goes on after a refusal.
+fn tells_again<R: Abort + Print>(rt: &R, alloc: Global, set: &AnyOverloadSet, rules: usize) {
+    assert_eq!(rt; listed(rt, alloc, set).len(), rules);
+    assert_eq!(rt; allowed(rt, alloc, set), rules);
+    assert_eq!(rt; preferred(rt, alloc, set), 2);
+}
+
 #[test]
 fn refused_builtins_can_be_asked_again(rt: HostRuntime) {
     let set = rules_of_refract(&rt, rt.alloc());
@@ -72,9 +80,89 @@ fn refused_combinations_can_be_asked_again(rt: HostRuntime) {
     let set = MathFunction::Dot4I8Packed
         .overloads(rt.alloc())
         .expect(&rt, WANT);
-    assert_eq!(rt; listed(&rt, rt.alloc(), &set).len(), 1);
-    assert_eq!(rt; allowed(&rt, rt.alloc(), &set), 1);
-    assert_eq!(rt; preferred(&rt, rt.alloc(), &set), 2);
+    tells_again(&rt, rt.alloc(), &set, 1);
+}
+
+/// The rules of a regular set are made when they are asked for.
+#[test]
+fn refused_regular_sets_can_be_asked_again(rt: HostRuntime) {
+    let set = MathFunction::Cross.overloads(rt.alloc()).expect(&rt, WANT);
+    tells_again(&rt, rt.alloc(), &set, 4);
+}
+
+/// How a set is made of that of a builtin.
+#[derive(Clone, Copy)]
+enum Way {
+    Copied,
+    Supplied,
+    Narrowed,
+}
+
+fn copied(alloc: Global, function: MathFunction) -> Result<AnyOverloadSet, AllocError> {
+    let set = function.overloads(alloc)?;
+    set.copy(alloc)
+}
+
+/// The set of a builtin after its second argument was an integer literal.
+fn supplied<R: Abort>(
+    rt: &R,
+    alloc: Global,
+    function: MathFunction,
+    types: &UniqueArena<Type, mark::Type>,
+) -> Result<AnyOverloadSet, AllocError> {
+    assert!(rt; types_backward(types));
+    let set = function.overloads(alloc)?;
+    set.arg(alloc, 1, &inner((SCALAR, Scalar::ABSTRACT_INT)), types)
+}
+
+/// The same by one call for all arguments, and with none abstract.
+fn narrowed<R: Abort>(
+    rt: &R,
+    alloc: Global,
+    function: MathFunction,
+    types: &UniqueArena<Type, mark::Type>,
+) -> Result<AnyOverloadSet, AllocError> {
+    assert!(rt; types_backward(types));
+    let calls = [
+        SetCall::Arg(1, inner((SCALAR, Scalar::ABSTRACT_INT))),
+        SetCall::ConcreteOnly,
+    ];
+    let set = function.overloads(alloc)?;
+    narrow(alloc, set, &calls, types)
+}
+
+fn made_of<R: Abort>(
+    rt: &R,
+    alloc: Global,
+    function: MathFunction,
+    way: Way,
+) -> Result<AnyOverloadSet, AllocError> {
+    let arenas = Arenas::new(alloc);
+    match way {
+        Way::Copied => copied(alloc, function),
+        Way::Supplied => supplied(rt, alloc, function, &arenas.types),
+        Way::Narrowed => narrowed(rt, alloc, function, &arenas.types),
+    }
+}
+
+/// Asserts that a set made so, again where it was refused, has rules of two arguments.
+fn makes_again<R: Abort + Print>(rt: &R, alloc: Global, function: MathFunction, way: Way) {
+    let set = match made_of(rt, alloc, function, way) {
+        Ok(set) => set,
+        Err(AllocError) => {
+            tell(rt, "a set");
+            made_of(rt, alloc, function, way).expect(rt, WANT)
+        }
+    };
+    assert_eq!(rt; preferred(rt, alloc, &set), 2);
+}
+
+#[test]
+fn refused_sets_can_be_made_again(rt: HostRuntime) {
+    for way in [Way::Copied, Way::Supplied, Way::Narrowed] {
+        makes_again(&rt, rt.alloc(), MathFunction::Ldexp, way);
+        makes_again(&rt, rt.alloc(), MathFunction::Max, way);
+    }
 }
 
 fn made(alloc: Global) -> Result<Rule, AllocError> {
@@ -110,27 +198,39 @@ fn refused_rules_can_be_made_again(rt: HostRuntime) {
     assert!(rt; is_rule(&copy, vector, (SCALAR, Scalar::I32), vector));
 }
 
-fn one_rule<R: Abort>(rt: &R, alloc: Global) -> Result<AnyOverloadSet, AllocError> {
+/// A list of one rule, made by one call or the other.
+fn one_rule<R: Abort>(
+    rt: &R,
+    alloc: Global,
+    is_listed: bool,
+) -> Result<AnyOverloadSet, AllocError> {
     let mut rules = Vec::new(alloc);
     rules.push(made(alloc)?)?;
     assert!(rt; List::can_hold(rules.as_slice()));
+    if is_listed {
+        return Ok(AnyOverloadSet::List(list(alloc, rules)?));
+    }
     Ok(AnyOverloadSet::List(List::from_rules(alloc, rules)?))
 }
 
-fn one_rule_again_if_refused<R: Abort + Print>(rt: &R, alloc: Global) -> AnyOverloadSet {
-    match one_rule(rt, alloc) {
+fn one_rule_again_if_refused<R: Abort + Print>(
+    rt: &R,
+    alloc: Global,
+    is_listed: bool,
+) -> AnyOverloadSet {
+    match one_rule(rt, alloc, is_listed) {
         Ok(set) => set,
         Err(AllocError) => {
-            tell(rt, "from_rules");
-            one_rule(rt, alloc).expect(rt, WANT)
+            tell(rt, "a list");
+            one_rule(rt, alloc, is_listed).expect(rt, WANT)
         }
     }
 }
 
 #[test]
 fn refused_lists_can_be_asked_again(rt: HostRuntime) {
-    let set = one_rule_again_if_refused(&rt, rt.alloc());
-    assert_eq!(rt; listed(&rt, rt.alloc(), &set).len(), 1);
-    assert_eq!(rt; allowed(&rt, rt.alloc(), &set), 1);
-    assert_eq!(rt; preferred(&rt, rt.alloc(), &set), 2);
+    let set = one_rule_again_if_refused(&rt, rt.alloc(), false);
+    tells_again(&rt, rt.alloc(), &set, 1);
+    let set = one_rule_again_if_refused(&rt, rt.alloc(), true);
+    tells_again(&rt, rt.alloc(), &set, 1);
 }

@@ -1,5 +1,5 @@
 //! Sets of bits, scalars and constructors, and what lists of rules are made with.
-use crate::tests::{MAT3X3, SCALAR, VEC2, VEC3, inner, is_rule};
+use crate::tests::{Arenas, MAT3X3, SCALAR, VEC2, VEC3, inner, is_rule, is_type};
 use bitflags::Flags;
 use shader_ir::Scalar;
 use shader_overloads::utils::{
@@ -7,6 +7,7 @@ use shader_overloads::utils::{
 };
 use shader_overloads::{ConstructorSet, List, OneBitsIter, OverloadSet, Rule, ScalarSet};
 use std::alloc::{AllocError, Global};
+use std::process::Abort;
 use std::test::Fail;
 
 #[test]
@@ -137,5 +138,31 @@ fn a_list_is_made_of_its_rules(rt: HostRuntime) -> Result<(), Fail> {
     assert!(rt; List::can_hold(rules.as_slice()));
     let set = list(rt.alloc(), rules)?;
     assert_eq!(rt; OverloadSet::min_arguments(&set), 2);
+    Ok(())
+}
+
+/// A list of one rule of five arguments, more than any builtin takes.
+fn of_five(rt: &impl Abort, alloc: Global) -> Result<List, AllocError> {
+    let scalar = inner((SCALAR, Scalar::I32));
+    let args = [
+        inner((SCALAR, Scalar::I32)),
+        inner((SCALAR, Scalar::I32)),
+        inner((SCALAR, Scalar::I32)),
+        inner((SCALAR, Scalar::I32)),
+        inner((VEC2, Scalar::F16)),
+    ];
+    let mut rules = Vec::new(alloc);
+    rules.push(rule(alloc, &args, scalar)?)?;
+    assert!(rt; List::can_hold(rules.as_slice()));
+    list(alloc, rules)
+}
+
+#[test]
+fn a_fifth_argument_is_told(rt: HostRuntime) -> Result<(), Fail> {
+    let arenas = Arenas::new(rt.alloc());
+    let set = of_five(&rt, rt.alloc())?;
+    let told = OverloadSet::allowed_args(&set, rt.alloc(), 4, arenas.ctx())?;
+    let vector = (VEC2, Scalar::F16);
+    assert!(rt; told.iter().all(|fifth| is_type(fifth, vector)) && told.len() == 1);
     Ok(())
 }
