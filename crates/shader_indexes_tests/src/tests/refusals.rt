@@ -9,12 +9,11 @@ ghost use Rattle.shader_resolve.specs.WellFormed.{IsWellFormed};
 use crate::tests::asked::{INDEX, analysis, expects_members, expects_types};
 use crate::tests::made::{Form, Over, Place, WANT, module_calling};
 use crate::tests::types::{FLOAT, FLOATS};
-use shader_arena::{Handle, HandleSet};
+use shader_arena::Handle;
 use shader_ir::{Function, Module, mark};
 use shader_typing::proc::index::{find_checked_indexes, oob_local_types};
 use shader_typing::valid::{FunctionInfo, ModuleInfo};
 use std::alloc::{AllocError, Global};
-use std::collections::HashSet;
 use std::io::Print;
 use std::process::Abort;
 
@@ -60,57 +59,64 @@ fn analyzed(rt: &(impl Abort + Print), alloc: Global, module: &Module) -> Module
     }
 }
 
-/// The checked indexes, searched again where memory was refused.
-fn checked(
+/// Asserts the checked indexes of function 1, searched again where memory was refused.
+fn expects_indexes(
     rt: &(impl Abort + Print),
     alloc: Global,
     module: &Module,
     function: &Function,
     info: &FunctionInfo,
-) -> HandleSet<mark::Expression>
+)
     requires well_formed { IsWellFormed «module».now }
     requires function { IsFunctionOf «module».now function.now }
 {
     match find_checked_indexes(alloc, module, function, info, INDEX) {
-        Ok(checked) => checked,
+        Ok(checked) => expects_members(rt, &checked, [1]),
         Err(_) => {
             say(rt, "a search for indexes");
-            find_checked_indexes(alloc, module, function, info, INDEX).expect(rt, WANT)
+            let again = find_checked_indexes(alloc, module, function, info, INDEX);
+            expects_members(rt, &again.expect(rt, WANT), [1]);
         }
     }
 }
 
-/// The types of needed locals, searched again where memory was refused.
-fn locals(
+/// Asserts the types of which function 1 needs a local, searched again where memory was refused.
+fn expects_locals(
     rt: &(impl Abort + Print),
     alloc: Global,
     module: &Module,
     function: &Function,
     info: &FunctionInfo,
-) -> HashSet<Handle<mark::Type>>
+)
     requires well_formed { IsWellFormed «module».now }
     requires function { IsFunctionOf «module».now function.now }
 {
     match oob_local_types(alloc, module, function, info, INDEX) {
-        Ok(types) => types,
+        Ok(types) => expects_types(rt, &types, [FLOAT]),
         Err(_) => {
             say(rt, "a search for types");
-            oob_local_types(alloc, module, function, info, INDEX).expect(rt, WANT)
+            let again = oob_local_types(alloc, module, function, info, INDEX);
+            expects_types(rt, &again.expect(rt, WANT), [FLOAT]);
         }
     }
 }
 
-#[test]
+/// Searches function 1 of a well-formed module by its infos.
 #[tactic(auto, using(shader_indexes::proofs::SearchLemmas::is_function_at))]
-fn of_searches(rt: HostRuntime) {
-    let module = made(&rt, rt.alloc());
-    let infos = analyzed(&rt, rt.alloc(), &module);
+fn search(rt: &(impl Abort + Print), alloc: Global, module: &Module, infos: &ModuleInfo)
+    requires well_formed { IsWellFormed «module».now }
+    requires functions { length infos.now.functions ≡ length «module».now.functions }
+{
     let caller: Handle<mark::Function> = Handle::from_index(1);
     assert!(rt; module.functions.contains_handle(caller));
     let function = &module.functions[caller];
-    let info = &infos[caller];
-    let indexes = checked(&rt, rt.alloc(), &module, function, info);
-    expects_members(&rt, &indexes, [1]);
-    let types = locals(&rt, rt.alloc(), &module, function, info);
-    expects_types(&rt, &types, [FLOAT]);
+    expects_indexes(rt, alloc, module, function, &infos[caller]);
+    expects_locals(rt, alloc, module, function, &infos[caller]);
+}
+
+#[test]
+fn of_searches(rt: HostRuntime) {
+    let module = made(&rt, rt.alloc());
+    let infos = analyzed(&rt, rt.alloc(), &module);
+    search(&rt, rt.alloc(), &module, &infos);
 }
