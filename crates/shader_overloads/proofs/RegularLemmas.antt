@@ -26,7 +26,7 @@ use Rattle.shader_overloads.specs.Masks.{IsBelow, has_place, rules_at}
 use Rattle.shader_overloads.specs.Regular.{all_rules}
 use Rattle.shader_overloads.specs.ScalarSets.{is_concrete_scalar, scalars_in}
 use Rattle.shader_overloads.specs.Rules.{regular_rules, rule_for}
-use Rattle.shader_overloads.specs.Remaining.{ArgumentFits, RuleFits, RulesFit, accepts, argument_at, some_takes, takes, leaf_scalar, is_concrete, has_concrete_arguments}
+use Rattle.shader_overloads.specs.Remaining.{ArgumentFits, RuleFits, RulesFit, accepts, some_takes, takes, leaf_scalar, is_concrete, has_concrete_arguments}
 use Rattle.shader_overloads.proofs.ListLemmas.{ElementAt, element_at, items_where-combinations, items_where-filter, length-combinations, slice_get-combinations, slice_get-within}
 use Rattle.shader_overloads.proofs.MaskLemmas.{all_bits}
 use Rattle.shader_overloads.proofs.PlaceLemmas.{below_from_high, high_from_below}

@@ -15,7 +15,6 @@ use Rattle.shader_ir.specs.TypeTree.{PointsBelow, tree_of}
 use Rattle.shader_overloads.specs.declared.overload_set.SetCall.{SetCall}
 use Rattle.shader_overloads.specs.declared.overload_set.SetCall.TheVariants.{Arg, ConcreteOnly}
 use Rattle.shader_overloads.specs.declared.rule.Rule.{Rule}
-use Rattle.shader_overloads.specs.Bits.{has_bit, items_where}
 use Rattle.shader_overloads.specs.SameType.{same_type}
 
 -- ---- abstract types
@@ -93,10 +92,6 @@ RuleFits types rule = All (ArgumentFits types) rule.arguments
 -- so it is of the arguments of all rules
 pub record RulesFit (types : List «Type») (rules : List Rule) : Type 0 where
   pub each : All (RuleFits types) rules
-
--- so it is of the rules of a list that are left
-pub record MembersFit (types : List «Type») (rules : List Rule) (members : ℕ) : Type 0 where
-  pub each : All (RuleFits types) (items_where (has_bit members) rules)
 
 -- a struct that is no type of the arena
 abbrev pub is_free_struct : TypeResolution → Bool

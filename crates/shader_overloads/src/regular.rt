@@ -155,6 +155,7 @@ impl OverloadSet for Regular {
 /// The rules of all constructors and scalars: that of the constructor of place `i` and the scalar of place `j` has the number `12 * i + j`.
 #[derive(Clone, Copy)]
 pub struct RegularRows {
+    // First, over the pointer of a list: so a set of either kind is moved by whole words.
     conclude: ConclusionRule,
     arity: usize,
 }

@@ -1,4 +1,4 @@
-use Rattle.std.proofs.Common.{◌∙◌, ◌<◌, ◌/◌, ◌%◌, ◌&&◌, ap, arith, nat_eq}
+use Rattle.std.proofs.Common.{◌∙◌, ◌<◌, ◌/◌, ◌%◌, ◌&&◌, ap, arith}
 use Rattle.shader_ir.specs.Scalars.{is_convertible}
 use Rattle.shader_overloads.specs.Bits.{has_bit}
 use Rattle.shader_overloads.specs.Constructors.{all_constructors, same_constructor}

@@ -1,5 +1,4 @@
-use Rattle.std.proofs.Common.{◌/◌, ◌%◌, ◌&&◌, ap, arith, nat_eq}
-use Rattle.shader_overloads.specs.Bits.{has_bit}
+use Rattle.std.proofs.Common.{arith}
 use Rattle.shader_overloads.proofs.GroupLemmas.{across_low, across_middle, in_high, in_low, in_middle}
 use Rattle.shader_overloads.proofs.mask.Mask.group.Goals as goal
 
