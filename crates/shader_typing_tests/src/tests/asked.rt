@@ -1,12 +1,12 @@
 //! What modules are asked, and what is told of them.
-ghost use Rattle.std.specs.Prelude.{◌≡◌, ◌<◌, length, IfOk};
+ghost use Rattle.std.specs.Prelude.{◌≡◌, ◌<◌, [], length, IfOk, OnErr};
 
 use crate::tests::infos::WANT;
 use crate::tests::telling::{add_counts, add_error, add_module, add_origins, add_uses};
 use crate::tests::written::module_of;
-use shader_arena::Handle;
+use shader_arena::{Arena, Handle};
 use shader_ir::{Module, Scalar, TypeInner, TypeResolution, mark};
-use shader_resolve::check_module;
+use shader_resolve::{ResolveContext, ResolveError, check_module};
 use shader_typing::valid::{
     AnalysisError, AnalysisPlace, Capabilities, FunctionInfo, GlobalOrArgument, ModuleInfo,
     ValidationFlags, analyze_module,
@@ -88,6 +88,24 @@ pub fn processed(
     let _function = &module.functions[first];
     let place = AnalysisPlace::Function(first);
     ModuleInfo::new(alloc).process_function(alloc, place, module, flags, capabilities)
+}
+
+/// Adds the type of the first global expression, which is there, to none.
+pub fn type_first(
+    rt: &impl Abort,
+    alloc: Global,
+    module: &Module,
+    infos: &mut ModuleInfo,
+) -> Result<(), ResolveError>
+    requires { infos.old.global_expressions ≡ [] }
+    ensures { OnErr result (infos.new ≡ infos.old) }
+{
+    assert!(rt; check_module(module).is_ok());
+    let first: Handle<mark::Expression> = Handle::from_index(0);
+    assert!(rt; module.global_expressions.contains_handle(first));
+    let locals = Arena::new(alloc);
+    let context = ResolveContext::with_locals(module, &locals, &[]);
+    infos.process_const_expression(alloc, first, &context, &module.to_ctx())
 }
 
 fn add_result(text: &mut String, info: &FunctionInfo) -> Result<(), AllocError> {

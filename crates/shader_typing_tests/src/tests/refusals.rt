@@ -2,9 +2,9 @@
 //!
 //! With ample memory nothing is refused. Where the allocator refuses the Nth request of a test's process, the test passes
 //! still, and prints a line with `was refused`. The first N at which no test prints one is past all requests.
-use crate::tests::asked::{CHECKED, PLAIN, Part, Question, add_told, processed};
+use crate::tests::asked::{CHECKED, PLAIN, Part, Question, add_told, processed, type_first};
 use crate::tests::infos::WANT;
-use shader_ir::Module;
+use shader_ir::{Expression, Literal, Module};
 use shader_samples::Sample;
 use shader_typing::valid::{
     AnalysisError, FunctionError, FunctionInfo, GlobalOrArgument, ModuleInfo,
@@ -135,4 +135,48 @@ fn of_infos(rt: HostRuntime) {
         &mut infos,
         sample_info(&rt, rt.alloc(), Sample::Counts),
     );
+}
+
+/// Adds the info of an entry point to no others, again where memory was refused: it has three expressions, and comes back.
+fn adds_entry_again(rt: &(impl Abort + Print), infos: &mut ModuleInfo, info: FunctionInfo) {
+    match infos.add_entry_point(info) {
+        Ok(()) => {}
+        Err(failed) => {
+            say(rt, "an entry point");
+            assert!(rt; failed.value.expression_count() == 3);
+            assert!(rt; infos.add_entry_point(failed.value).is_ok());
+        }
+    }
+}
+
+#[test]
+fn of_entry_points(rt: HostRuntime) {
+    let mut infos = ModuleInfo::new(rt.alloc());
+    adds_entry_again(
+        &rt,
+        &mut infos,
+        sample_info(&rt, rt.alloc(), Sample::Counts),
+    );
+}
+
+/// A module of one literal, added again where memory was refused.
+fn constant(rt: &(impl Abort + Print), alloc: Global) -> Module {
+    let mut module = Module::new(alloc);
+    assert!(rt; !module.global_expressions.is_full());
+    let literal = Expression::Literal(Literal::U32(7));
+    if let Err(failed) = module.global_expressions.append(literal) {
+        say(rt, "a literal");
+        assert!(rt; module.global_expressions.append(failed.value).is_ok());
+    }
+    module
+}
+
+#[test]
+fn of_global_expressions(rt: HostRuntime) {
+    let mut infos = ModuleInfo::new(rt.alloc());
+    let module = constant(&rt, rt.alloc());
+    if type_first(&rt, rt.alloc(), &module, &mut infos).is_err() {
+        say(&rt, "a type");
+        assert!(rt; type_first(&rt, rt.alloc(), &module, &mut infos).is_ok());
+    }
 }
