@@ -12,14 +12,24 @@ FUNCTION = re.compile(r"( *)(?:pub(?:\(\w+\))? )?(?:final |const )*fn (\w+)")
 ITEM = re.compile(r" *(pub(\(\w+\))? )?(const|static|struct|enum|impl|trait|type|mod|use|ghost use|macro_rules!)\b(?! fn)")
 OWNER = re.compile(r"(?:impl(?:<.*?>)? (?:(?:\w+::)*(\w+)(?:<.*>)? for )?&?|(?:pub(?:\(\w+\))? )?trait )(\w+)")
 CYCLE = re.compile(r" *#\[cycle\((\w+)\)\]")
+CONSTANT = re.compile(r"\bconst (\w+): [^=;{]*=([^;]*);")
 
 
 def listed():
-    """Returns for each crate of crates.txt, lowest first, its line and the crates of the repository that it uses."""
+    """Returns for each crate of crates.txt, lowest first, its line and the crates of the repository below it."""
     rows = [it.partition("#")[0].strip() for it in (TOP / "crates.txt").read_text().splitlines()]
     rows = {re.match(r"\w+", it)[0]: it for it in rows if it}
     uses = {name: [it for it in re.findall(r"\w+", row.partition(":")[2]) if it in rows] for name, row in rows.items()}
-    return {name: (rows[name], uses[name]) for name in sorted(rows, key=lambda it: len(uses[it]))}
+
+    def below(name):
+        """The crates that it names and those below them, each once and before those that use it."""
+        found = []
+        for use in uses[name]:
+            found += [it for it in (*below(use), use) if it not in found]
+        return found
+
+    all_below = {name: below(name) for name in rows}
+    return {name: (rows[name], all_below[name]) for name in sorted(rows, key=lambda it: len(all_below[it]))}
 
 
 class Ran:
@@ -98,17 +108,49 @@ class Edit:
             elif word == "new":
                 self.pairs.append((old, text))
         text = (crate / self.file).read_text()
-        self.fits = bool(self.pairs) and all(text.count(old) == 1 for old, _ in self.pairs)
+        self.fits = self.fits_in(text)
         lines = text.split("\n")
         found = [function_at(self.file, lines, text[: text.find(old)].count("\n")) for old, _ in self.pairs]
         # None where the edit changes more than functions.
         self.functions = {it.key(): it for it in found} if all(found) else {}
+        self.constants = set() if self.functions else constants_of(text, self.pairs)
         self.is_refused, self.seconds = False, 0.0
+
+    def fits_in(self, text):
+        """Returns whether each old text stands exactly once in a text, as in that of its file that other edits have changed."""
+        return bool(self.pairs) and all(text.count(old) == 1 for old, _ in self.pairs)
 
     def apply(self, text):
         for old, new in self.pairs:
             text = text.replace(old, new)
         return text
+
+
+def constants_of(text, pairs):
+    """Returns the names of the constants that the edit changes, none where it changes something else."""
+    found = set()
+    for old, _ in pairs:
+        end = text.find(old) + len(old)
+        last = [it for it in CONSTANT.finditer(text) if it.start() < end]
+        if not last or end > last[-1].end():
+            return set()
+        found.add(last[-1][1])
+    return found
+
+
+def constants_within(folder):
+    """Returns for each constant of a crate those that its value names, over any number of steps, and itself."""
+    named = {}
+    for file in folder.glob("src/**/*.rt"):
+        for name, value in CONSTANT.findall(file.read_text()):
+            named.setdefault(name, set()).update(re.findall(r"\w+", value))
+    within = {name: {name} for name in named}
+    for _ in named:
+        more = {name: found.union(*(named[it] & named.keys() for it in found)) for name, found in within.items()}
+        if more == within:
+            break
+        within = more
+    return within
 
 
 def edits_of(crate):

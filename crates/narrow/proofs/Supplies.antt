@@ -1,5 +1,6 @@
 -- Calls whose types stand in an arena that grows.
-use Rattle.std.proofs.Common.{◌≡◌, ◌∙◌, ℕ, ◌++◌, ◌||◌, All, Bool, true, false, IsTrue, List, [], ◌∷◌, Some, None, get_or, ap, sym, refl, subst, append_assoc, arith}
+use Rattle.std.proofs.Common.{◌≡◌, ◌∙◌, ℕ, ◌++◌, ◌||◌, All, Bool, true, false, IsTrue, List, []}
+use Rattle.std.proofs.Common.{◌∷◌, Some, None, get_or, ap, sym, refl, subst, append_assoc, arith}
 use Rattle.std.specs.List.{AllZip, list_any}
 use Rattle.std.proofs.lemmas.List.{append-nil}
 use Rattle.std.proofs.lemmas.List.Folds.{list_any-append}
@@ -13,7 +14,7 @@ use Rattle.shader_text.specs.Placements.{KeepsTypes}
 use Rattle.shader_text.proofs.Placing.{stays_placed}
 use Rattle.narrow.specs.declared.step.Step.{Step}
 use Rattle.narrow.specs.declared.step.Step.TheVariants.{Argument, ConcreteOnly}
-use Rattle.narrow.specs.Steps.{IsCallOf, StandsFor, has_no_step, step_of}
+use Rattle.narrow.specs.Steps.{IsCallOf, StandsFor, has_no_step, step_of_word}
 
 still_fits : (old new : List «Type») (call : SetCall) → KeepsTypes old new → CallFits old call → CallFits new call
 still_fits old new (calls.Arg i ty) keeps fits = λ k d within. omega (arith, keeps.longer, fits k d within)
@@ -47,8 +48,9 @@ AreTaken types words left made = (taken : List (List ℕ)) × (words ≡ taken +
 pub empty_taken : (types : List «Type») (words left : List (List ℕ)) → words ≡ left → AreTaken types words left []
 empty_taken types words left same = ([], same, tt)
 
-pub one_taken : (old new : List «Type») (words before after : List (List ℕ)) (word : List ℕ) (made : List SetCall) (step : Step) (call : SetCall)
-    → KeepsTypes old new → before ≡ word ∷ after → step_of word ≡ Some step → IsCallOf new step call
+pub one_taken : (old new : List «Type») (words before after : List (List ℕ)) (word : List ℕ) (made : List SetCall) (step : Step)
+    (call : SetCall)
+    → KeepsTypes old new → before ≡ word ∷ after → step_of_word word ≡ Some step → IsCallOf new step call
     → AreTaken old words before made → AreTaken new words after (made ++ call ∷ [])
 one_taken old new words before after word made step call keeps next found is are = (
   are.0 ++ word ∷ [],
@@ -68,7 +70,7 @@ at_stray false c d is stray = is ∙ stray
 
 -- a word that asks for no step stands among the words
 pub one_stray : (types : List «Type») (words before after : List (List ℕ)) (word : List ℕ) (made : List SetCall)
-    → before ≡ word ∷ after → None ≡ step_of word → AreTaken types words before made → IsTrue (list_any has_no_step words)
+    → before ≡ word ∷ after → None ≡ step_of_word word → AreTaken types words before made → IsTrue (list_any has_no_step words)
 one_stray types words before after word made next stray are =
     let stands : list_any has_no_step (word ∷ after) ≡ true = rw (← stray) refl in
     at_stray (list_any has_no_step are.0) (list_any has_no_step before) (list_any has_no_step words)

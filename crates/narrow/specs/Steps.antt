@@ -6,7 +6,7 @@ use Rattle.shader_ir.specs.declared.types.«Type».{«Type»}
 use Rattle.shader_ir.specs.declared.types.TypeInner.{TypeInner}
 use Rattle.shader_overloads.specs.declared.overload_set.SetCall.{SetCall}
 use Rattle.shader_overloads.specs.declared.overload_set.SetCall.TheVariants as calls
-use Rattle.shader_text.specs.Numbers.{number_of}
+use Rattle.shader_text.specs.Numbers.{number_of_word}
 use Rattle.shader_text.specs.Placements.{IsPlaced}
 use Rattle.shader_text.specs.Types.{type_of}
 use Rattle.narrow.specs.declared.step.Step.{Step}
@@ -15,15 +15,15 @@ use Rattle.narrow.specs.declared.step.Step.TheVariants.{Argument, ConcreteOnly}
 -- `I=TYPE`, cut at the first sign
 abbrev pub argument_of : List ℕ → Option Step
 argument_of word = option_and_then (λ at. option_and_then (λ place. option_map (Argument place)
-    (type_of (drop (at + 1) word))) (number_of (take at word))) (position (λ b. b == 61) word)
+    (type_of (drop (at + 1) word))) (number_of_word (take at word))) (position (λ b. b == 61) word)
 
 -- `concrete`, or an argument
-abbrev pub step_of : List ℕ → Option Step
-step_of word = if bytes_eq (codes "concrete") word then Some ConcreteOnly else argument_of word
+abbrev pub step_of_word : List ℕ → Option Step
+step_of_word word = if bytes_eq (codes "concrete") word then Some ConcreteOnly else argument_of word
 
 -- whether the word asks for no step
 abbrev pub has_no_step : List ℕ → Bool
-has_no_step word = is_none (step_of word)
+has_no_step word = is_none (step_of_word word)
 
 -- the call supplies the argument, of which the type stands in the arena, or asks for concrete rules alone
 abbrev pub IsCallOf : List «Type» → Step → SetCall → Type 0
@@ -32,4 +32,4 @@ IsCallOf types ConcreteOnly call = call ≡ calls.ConcreteOnly
 
 -- the call is that of the step that the word asks for
 abbrev pub StandsFor : List «Type» → List ℕ → SetCall → Type 0
-StandsFor types word call = (step : Step) × (step_of word ≡ Some step) × IsCallOf types step call
+StandsFor types word call = (step : Step) × (step_of_word word ≡ Some step) × IsCallOf types step call

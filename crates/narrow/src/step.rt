@@ -5,7 +5,7 @@ ghost use Rattle.std.specs.List.{AllZip, list_any};
 ghost use Rattle.shader_arena.specs.Places.{most_items};
 ghost use Rattle.shader_overloads.specs.Remaining.{CallFits};
 ghost use Rattle.shader_text.specs.Placements.{AreFlat, KeepsTypes};
-ghost use Rattle.narrow.specs.Steps.{IsCallOf, StandsFor, argument_of, has_no_step, step_of};
+ghost use Rattle.narrow.specs.Steps.{IsCallOf, StandsFor, argument_of, has_no_step, step_of_word};
 
 use shader_arena::UniqueArena;
 use shader_ir::{Type, mark};
@@ -35,7 +35,7 @@ impl Step {
 
     /// The step that the word asks for.
     pub fn from_word(word: &[u8]) -> Option<Step>
-        ensures { result ≡ step_of word.now }
+        ensures { result ≡ step_of_word word.now }
     {
         match word {
             b"concrete" => Some(Step::ConcreteOnly),

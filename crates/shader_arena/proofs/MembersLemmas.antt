@@ -1,5 +1,6 @@
 -- Which places a list of places has, and that they ascend.
-use Rattle.std.proofs.Common.{◌≡◌, ℕ, zero, suc, ◌+◌, ◌-◌, ◌<◌, ◌≤◌, Bool, true, false, List, [], ◌∷◌, length, get_or, Contains, IsTrue, ◌⊎◌, inl, inr, ◌↔◌, refl, subst, add-one, arith}
+use Rattle.std.proofs.Common.{◌≡◌, ℕ, zero, suc, ◌+◌, ◌-◌, ◌<◌, ◌≤◌, Bool, true, false, List, [], ◌∷◌, length}
+use Rattle.std.proofs.Common.{get_or, Contains, IsTrue, ◌⊎◌, inl, inr, ◌↔◌, refl, subst, add-one, arith}
 use Rattle.std.proofs.lemmas.Bool.{false≢true}
 use Rattle.std.specs.List.Sorted.{IsStrictlyIncreasing}
 use Rattle.shader_arena.specs.Places.{places_from, places_between, members_from, members, is_member}
@@ -16,15 +17,18 @@ Contains-tail : (x : ℕ) (xs : List ℕ) (y : ℕ) → Contains xs y → Contai
 Contains-tail x xs y found = (suc found.0, omega (arith, found.1), found.2)
 
 -- a place that is set is among the members
-found_member : (first : ℕ) (flags : List Bool) (k place : ℕ) → first + k ≡ place → IsTrue (is_member flags k) → Contains (members_from first flags) place
+found_member : (first : ℕ) (flags : List Bool) (k place : ℕ) → first + k ≡ place → IsTrue (is_member flags k) →
+    Contains (members_from first flags) place
 found_member first [] k place e set = absurd (false≢true set)
 found_member first (true ∷ flags) zero place e set = Contains-head first (members_from (first + 1) flags) place (omega arith)
 found_member first (false ∷ flags) zero place e set = absurd (false≢true set)
-found_member first (true ∷ flags) (suc k) place e set = Contains-tail first (members_from (first + 1) flags) place (found_member (first + 1) flags k place (omega arith) set)
+found_member first (true ∷ flags) (suc k) place e set = Contains-tail first (members_from (first + 1) flags) place
+    (found_member (first + 1) flags k place (omega arith) set)
 found_member first (false ∷ flags) (suc k) place e set = found_member (first + 1) flags k place (omega arith) set
 
 -- the flag of each member is set
-set_member : (first : ℕ) (flags : List Bool) (place : ℕ) → Contains (members_from first flags) place → (k : ℕ) × (first + k ≡ place) × IsTrue (is_member flags k)
+set_member : (first : ℕ) (flags : List Bool) (place : ℕ) → Contains (members_from first flags) place →
+    (k : ℕ) × (first + k ≡ place) × IsTrue (is_member flags k)
 set_member first [] place found = absurd (omega (arith, found.1))
 set_member first (false ∷ flags) place found =
     let later = set_member (first + 1) flags place found in (suc later.0, omega (arith, later.1), later.2)
@@ -67,7 +71,11 @@ within_places first (suc n) place found =
 
 -- exactly the places from start up to but without end are between them
 pub Contains-places_between : (start end place : ℕ) → Contains (places_between start end) place ↔ ((start ≤ place) × (place < end))
-Contains-places_between start end place = (by, λ ends. found_place start (end - start) place (place - start) (omega (arith, ends.0)) (omega (arith, ends.0, ends.1)))
+Contains-places_between start end place = (
+  by,
+  λ ends. found_place start (end - start) place (place - start) (omega (arith, ends.0))
+      (omega (arith, ends.0, ends.1)),
+)
   where
     by : Contains (places_between start end) place → (start ≤ place) × (place < end)
     by found = let ends = within_places start (end - start) place found in (ends.0, omega (arith, ends.0, ends.1))

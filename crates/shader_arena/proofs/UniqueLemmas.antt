@@ -1,5 +1,6 @@
 -- What follows for a list without equal items.
-use Rattle.std.proofs.Common.{◌≡◌, ℕ, ◌+◌, ◌<◌, Bool, true, false, List, [], ◌∷◌, ◌++◌, Some, length, take, get_or, slice_get, if◌then◌else◌, ap, sym, ◌∙◌, ◌⊎◌, inl, inr, true≢false, arith, refl}
+use Rattle.std.proofs.Common.{◌≡◌, ℕ, ◌+◌, ◌<◌, Bool, true, false, List, [], ◌∷◌, ◌++◌, Some, length, take, get_or}
+use Rattle.std.proofs.Common.{slice_get, if◌then◌else◌, ap, sym, ◌∙◌, ◌⊎◌, inl, inr, true≢false, arith, refl}
 use Rattle.std.specs.Cmp.{IsEquivalence}
 use Rattle.std.specs.List.{IsDistinct, list_any}
 use Rattle.std.proofs.lemmas.Bool.{cases_order}
@@ -16,7 +17,8 @@ module _ {T : Type 0} (eq : T → T → Bool) (laws : IsEquivalence eq) (items :
       let differ = apart_from_distinct eq items low high a distinct below (slice_get_within items high b at_high) in
       rw (get_or_from_slice_get items low a a at_low, get_or_from_slice_get items high b a at_high) at differ
 
-  same_place : (place other : ℕ) (item same : T) → slice_get items place ≡ Some item → slice_get items other ≡ Some same → eq item same ≡ true → place ≡ other
+  same_place : (place other : ℕ) (item same : T) → slice_get items place ≡ Some item → slice_get items other ≡ Some same →
+      eq item same ≡ true → place ≡ other
   same_place place other item same at_place at_other equal = by (cases_order place other)
     where
       by : (place ≡ other) ⊎ ((place < other) ⊎ (other < place)) → place ≡ other
@@ -28,7 +30,8 @@ module _ {T : Type 0} (eq : T → T → Bool) (laws : IsEquivalence eq) (items :
   HasNoEqualItems-from_distinct = record { same_place = same_place }
 
   -- a place that holds an item equal to value is the only one
-  pub IsOnlyPlaceOf-held : (value : T) (place : ℕ) → (held : (item : T) × (slice_get items place ≡ Some item) × (eq value item ≡ true)) → IsOnlyPlaceOf eq items value place
+  pub IsOnlyPlaceOf-held : (value : T) (place : ℕ) → (held : (item : T) × (slice_get items place ≡ Some item) × (eq value item ≡ true)) →
+      IsOnlyPlaceOf eq items value place
   IsOnlyPlaceOf-held value place held = record {
     held = held;
     only = λ other item at equal. same_place other place item held.0 at held.1 (sym (laws.congr value item held.0 equal) ∙ held.2);
@@ -54,7 +57,8 @@ module _ {T : Type 0} (items : List T) (place : ℕ) (item : T) (at : slice_get 
             let any = Any-from_list_any (eq item) (take place items) is in
             let low : any.0 < place = omega (arith, long, any.2) in
             let same : get_or items any.0 any.1 ≡ any.1 = sym (get_or-take place items any.0 any.1 low) ∙ any.3 in
-            let held : slice_get items any.0 ≡ Some any.1 = slice_get-get_or items any.0 any.1 (omega (arith, low, inside)) ∙ ap Some same in
+            let held : slice_get items any.0 ≡ Some any.1 = slice_get-get_or items any.0 any.1 (omega (arith, low, inside))
+            ∙ ap Some same in
             absurd (omega (arith, low, distinct.same_place place any.0 item any.1 at held any.4))
 
     -- one more item in a list without equal items

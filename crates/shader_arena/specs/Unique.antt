@@ -5,7 +5,8 @@ use Rattle.std.specs.List.{list_any, position_or_len}
 module _ {T : Type 0} (eq : T → T → Bool) where
   -- no two places hold equal items
   pub record HasNoEqualItems (items : List T) : Type 0 where
-    pub same_place : (place other : ℕ) (item same : T) → slice_get items place ≡ Some item → slice_get items other ≡ Some same → eq item same ≡ true → place ≡ other
+    pub same_place : (place other : ℕ) (item same : T) → slice_get items place ≡ Some item → slice_get items other ≡ Some same →
+        eq item same ≡ true → place ≡ other
 
   -- whether an item of the list equals value
   abbrev pub has_equal : List T → T → Bool

@@ -5,7 +5,10 @@ use Rattle.std.proofs.lemmas.Option.{same_Some}
 use Rattle.shader_chains.specs.Program.{Function, Module, Leaf, Call, Body, statements}
 use Rattle.shader_chains.specs.Exact.{IsExact}
 use Rattle.shader_chains.specs.FaultLaws.{FaultsAgree}
-use Rattle.shader_chains.specs.Faults.{Settings, Cause, NonUniformControlFlow, Disruptor, Source, EarlierReturn, EarlierDiscard, Passes, Around, branch, deeper, later, MayBlame, a_source, a_return, a_kill, a_call, HasFault, untyped, no_capability, bad_element, no_image_place, no_sampler_place, no_image_passed, no_sampler_passed, misplaced, count_full, StepFault, RecordsPair, IsFault, IsOriginOf, PairAt}
+use Rattle.shader_chains.specs.Faults.{Settings, Cause, NonUniformControlFlow, Disruptor, Source, EarlierReturn, EarlierDiscard, Passes}
+use Rattle.shader_chains.specs.Faults.{Around, branch, deeper, later, MayBlame, a_source, a_return, a_kill, a_call, HasFault, untyped}
+use Rattle.shader_chains.specs.Faults.{no_capability, bad_element, no_image_place, no_sampler_place, no_image_passed, no_sampler_passed}
+use Rattle.shader_chains.specs.Faults.{misplaced, count_full, StepFault, RecordsPair, IsFault, IsOriginOf, PairAt}
 use Rattle.shader_chains.specs.Flow.{At, Disrupted}
 use Rattle.shader_chains.specs.Infos.{Info, Place, EachNamed, by_call}
 use Rattle.shader_chains.specs.Kills.{Kills, KillsAt}
@@ -22,7 +25,8 @@ use Rattle.shader_chains.proofs.PairsLemmas.{HasPairs}
 use Rattle.shader_chains.proofs.Summaries.{weaker}
 
 -- Faults by one reading of what is called and by another. `S h k`: k may stand for the source h. `R c d`: the cause d may stand for c
-module _ (O O' : ℕ → ℕ → Type 0) (K K' : ℕ → Type 0) (N N' : Need → ℕ → Type 0) (P P' : ℕ → Place → Place → Type 0) (m : Module) (settings : Settings) (f : Function)
+module _ (O O' : ℕ → ℕ → Type 0) (K K' : ℕ → Type 0) (N N' : Need → ℕ → Type 0) (P P' : ℕ → Place → Place →
+    Type 0) (m : Module) (settings : Settings) (f : Function)
     (S : ℕ → ℕ → Type 0) (R : Cause → Cause → Type 0) (same : (c : Cause) → R c c)
     (stands_for : (n e h k : ℕ) → S h k → R (NonUniformControlFlow n e (Source h)) (NonUniformControlFlow n e (Source k)))
     (to_o : (e h : ℕ) → O e h → (k : ℕ) × S h k × O' e k)
@@ -39,7 +43,8 @@ module _ (O O' : ℕ → ℕ → Type 0) (K K' : ℕ → Type 0) (N N' : Need �
   to_v e (h, o) = let (k, s, o') = to_o e h o in (k, o')
 
   disrupted : (b : Body) (p : At f.body b) → Disrupted V K f.body b p → Disrupted V' K' f.body b p
-  disrupted = more_disrupted V V' K K' f.body to_v (λ c arguments result b p k. to_k c arguments result (stands_within f.body (Leaf (Call c arguments result)) b p) k)
+  disrupted = more_disrupted V V' K K' f.body to_v (λ c arguments result b p k. to_k c arguments result
+      (stands_within f.body (Leaf (Call c arguments result)) b p) k)
 
   around : (h : ℕ) (b : Body) (p : At f.body b) → Around O h f.body b p → (k : ℕ) × S h k × Around O' k f.body b p
   around h _ _ (branch {e = e} p o is) = let (k, s, is') = to_o e h is in (k, s, branch p o is')
@@ -47,20 +52,26 @@ module _ (O O' : ℕ → ℕ → Type 0) (K K' : ℕ → Type 0) (N N' : Need �
   around h _ _ (later a) = let (k, s, a') = around h _ _ a in (k, s, later a')
 
   blamed : (b : Body) (p : At f.body b) (d : Disruptor) → MayBlame O K N P m settings f b p d →
-      (d' : Disruptor) × ((n e : ℕ) → R (NonUniformControlFlow n e d) (NonUniformControlFlow n e d')) × MayBlame O' K' N' P' m settings f b p d'
+      (d' : Disruptor) × ((n e : ℕ) → R (NonUniformControlFlow n e d) (NonUniformControlFlow n e d')) ×
+      MayBlame O' K' N' P' m settings f b p d'
   blamed b p _ (a_source {h = h} a) = let (k, s, a') = around h b p a in (Source k, λ n e. stands_for n e h k s, a_source a')
   blamed b p _ (a_return q d) = (EarlierReturn, λ n e. same _, a_return q (disrupted _ q d))
   blamed b p _ (a_kill q d) = (EarlierDiscard, λ n e. same _, a_kill q (disrupted _ q d))
-  blamed b p _ (a_call {c = c} {arguments = arguments} {result = result} holds k) = (EarlierDiscard, λ n e. same _, a_call holds (to_k c arguments result holds k))
+  blamed b p _ (a_call {c = c} {arguments = arguments} {result = result} holds k) =
+      (EarlierDiscard, λ n e. same _, a_call holds (to_k c arguments result holds k))
 
-  pub moved : (cause : Cause) → HasFault O K N P m settings f cause → (other : Cause) × R cause other × HasFault O' K' N' P' m settings f other
+  pub moved : (cause : Cause) → HasFault O K N P m settings f cause →
+      (other : Cause) × R cause other × HasFault O' K' N' P' m settings f other
   moved cause (untyped refused) = (cause, same cause, untyped refused)
-  moved cause (no_capability {index = index} indexes element has lacks) = (cause, same cause, no_capability indexes element (to_v index has) lacks)
+  moved cause (no_capability {index = index} indexes element has lacks) =
+      (cause, same cause, no_capability indexes element (to_v index has) lacks)
   moved cause (bad_element indexes none) = (cause, same cause, bad_element indexes none)
   moved cause (no_image_place samples none) = (cause, same cause, no_image_place samples none)
   moved cause (no_sampler_place samples none) = (cause, same cause, no_sampler_place samples none)
-  moved cause (no_image_passed {e = e} {c = c} {i = i} passes none pair) = (cause, same cause, no_image_passed passes none (to_p c i e _ _ passes pair))
-  moved cause (no_sampler_passed {e = e} {c = c} {i = i} passes none pair) = (cause, same cause, no_sampler_passed passes none (to_p c i e _ _ passes pair))
+  moved cause (no_image_passed {e = e} {c = c} {i = i} passes none pair) =
+      (cause, same cause, no_image_passed passes none (to_p c i e _ _ passes pair))
+  moved cause (no_sampler_passed {e = e} {c = c} {i = i} passes none pair) =
+      (cause, same cause, no_sampler_passed passes none (to_p c i e _ _ passes pair))
   moved cause (misplaced {needs = n} {e = e} {disruptor = d} on grave x) =
       let (d', r, blame) = blamed _ x.at d x.blamed in (
         NonUniformControlFlow n e d',
@@ -95,12 +106,14 @@ module _ (m : Module) (infos : List Info) (f : Function) (settings : Settings) (
   has_pairs : EachNamed (HasPairs m) m infos f
   has_pairs = weaker (IsExact m) (HasPairs m) m infos f (λ r i p. p.pairs) named
 
-  kills_to : (c : ℕ) (arguments : List ℕ) (result : Option ℕ) → Contains (statements f.body) (Leaf (Call c arguments result)) → RecordsKills infos c → KillsAt m c
+  kills_to : (c : ℕ) (arguments : List ℕ) (result : Option ℕ) → Contains (statements f.body) (Leaf (Call c arguments result)) →
+      RecordsKills infos c → KillsAt m c
   kills_to c arguments result holds (info, held, may) =
       let (d, i, is_d, is_i, has) = has_kills c (by_call holds) in
       let same : info ≡ i = same_Some info i (sym held ∙ is_i) in (d, is_d, has.0 (subst (λ v. IsTrue v.may_kill) same may))
 
-  kills_from : (c : ℕ) (arguments : List ℕ) (result : Option ℕ) → Contains (statements f.body) (Leaf (Call c arguments result)) → KillsAt m c → RecordsKills infos c
+  kills_from : (c : ℕ) (arguments : List ℕ) (result : Option ℕ) → Contains (statements f.body) (Leaf (Call c arguments result)) →
+      KillsAt m c → RecordsKills infos c
   kills_from c arguments result holds (d, is_d, deadly) =
       let (d', i, is_d', is_i, has) = has_kills c (by_call holds) in
       let same : d ≡ d' = same_Some d d' (sym is_d ∙ is_d') in (i, is_i, has.1 (subst (λ v. Kills m v) same deadly))
@@ -111,7 +124,8 @@ module _ (m : Module) (infos : List Info) (f : Function) (settings : Settings) (
   pairs_to : (c i e : ℕ) (p q : Place) → Passes f c i e → RecordsPair infos c p q → PairAt m c p q
   pairs_to c i e p q passes (info, held, contains) =
       let (d, j, is_d, is_j, has) = has_pairs c (by_call passes.holds) in
-      let same : info ≡ j = same_Some info j (sym held ∙ is_j) in (d, is_d, (has p q).0 (subst (λ v. Contains v.pairs (p, q)) same contains))
+      let same : info ≡ j = same_Some info j (sym held ∙ is_j) in
+      (d, is_d, (has p q).0 (subst (λ v. Contains v.pairs (p, q)) same contains))
 
   pairs_from : (c i e : ℕ) (p q : Place) → Passes f c i e → PairAt m c p q → RecordsPair infos c p q
   pairs_from c i e p q passes (d, is_d, pair) =
@@ -120,7 +134,8 @@ module _ (m : Module) (infos : List Info) (f : Function) (settings : Settings) (
 
   to_chains : (cause : Cause) → StepFault m infos f settings cause → IsFault m f settings cause
   to_chains cause fault =
-      let (other, same, moved_fault) = moved (StepOrigin m infos f) (IsOriginOf m f) (RecordsKills infos) (KillsAt m) (StepExpressionNeed infos f)
+      let (other, same, moved_fault) = moved (StepOrigin m infos f) (IsOriginOf m f) (RecordsKills infos) (KillsAt m)
+      (StepExpressionNeed infos f)
       (λ n e. ExpressionNeeds m n f e) (RecordsPair infos) (PairAt m) m settings f (λ h k. h ≡ k) (λ c d. c ≡ d) (λ c. refl)
       (λ n e h k is. ap (λ v. NonUniformControlFlow n e (Source v)) is) (λ e h o. (h, refl, origins.of_step m infos f has_result e h o))
       kills_to needs_same pairs_to cause fault in
@@ -128,8 +143,10 @@ module _ (m : Module) (infos : List Info) (f : Function) (settings : Settings) (
 
   of_chains : (cause : Cause) → IsFault m f settings cause → (told : Cause) × StepFault m infos f settings told
   of_chains cause fault =
-      let (other, same, moved_fault) = moved (IsOriginOf m f) (StepOrigin m infos f) (KillsAt m) (RecordsKills infos) (λ n e. ExpressionNeeds m n f e)
-      (StepExpressionNeed infos f) (PairAt m) (RecordsPair infos) m settings f (λ h k. Unit {0}) (λ c d. Unit {0}) (λ c. tt) (λ n e h k is. tt)
+      let (other, same, moved_fault) = moved (IsOriginOf m f) (StepOrigin m infos f) (KillsAt m) (RecordsKills infos)
+      (λ n e. ExpressionNeeds m n f e)
+      (StepExpressionNeed infos f) (PairAt m) (RecordsPair infos) m settings f (λ h k. Unit {0}) (λ c d. Unit {0}) (λ c. tt)
+      (λ n e h k is. tt)
       (λ e h o. let (k, step) = origins.to_step m infos f has_result e h o.0 o.1 in (k, tt, step))
       kills_from (λ n e. ((needs_same n e).1, (needs_same n e).0)) pairs_from cause fault in
       (other, moved_fault)

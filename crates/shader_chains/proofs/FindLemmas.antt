@@ -2,7 +2,8 @@
 use Rattle.std.proofs.Common.{refl, ℕ, Bool, true, false, ◌&&◌, ◌||◌, inl, inr, IsTrue}
 use Rattle.std.proofs.lemmas.Bool.{or_cases, or_left, or_right}
 use Rattle.shader_chains.specs.Program.{Step, Leaf, Nested, If, Switch, Loop, Body, End, Then, Cases, NoCase, Case}
-use Rattle.shader_chains.specs.Flow.{At, start, rest, inside, Part, inner, accept, reject, body, continuing, case_of, CasesIn, from_first, after}
+use Rattle.shader_chains.specs.Flow.{At, start, rest, inside, Part, inner, accept, reject}
+use Rattle.shader_chains.specs.Flow.{body, continuing, case_of, CasesIn, from_first, after}
 use Rattle.shader_chains.specs.Sweep.{step_exits, block_exits, case_flag, part_flag, flag, found, found_within, found_in_cases, SweepFinds}
 use Rattle.shader_chains.proofs.SweepLemmas.{sweep_is_least}
 
@@ -82,10 +83,12 @@ module _ (varies killing : ℕ → Bool) (bad : Step → Bool) (root : Body) whe
   up : (b : Body) (p : At root b) → IsTrue (fd (F p) b) → IsTrue (fd false root)
   up _ start h = h
   up _ (rest {s = s} {b = b} p) h = up (Then s b) p (or_right (F p && bad s) _ (or_right (fw (F p) s) _ h))
-  up _ (inside {s = s} {b = b} {x = x} p part) h = up (Then s b) p (or_right (F p && bad s) _ (or_left (fw (F p) s) _ (up_part (F p) s x part h)))
+  up _ (inside {s = s} {b = b} {x = x} p part) h = up (Then s b) p
+      (or_right (F p && bad s) _ (or_left (fw (F p) s) _ (up_part (F p) s x part h)))
 
 pub sweep_finds : SweepFinds
 sweep_finds varies killing bad root = (
   λ h. let (s, b, p, is, f) = down varies killing bad root root start h in (s, b, p, is, ((sweep_is_least varies killing root).0 _ p).0 f),
-  λ (s, b, p, is, d). up varies killing bad root (Then s b) p (or_left _ _ (and_join _ _ (((sweep_is_least varies killing root).0 _ p).1 d) is)),
+  λ (s, b, p, is, d). up varies killing bad root (Then s b) p
+      (or_left _ _ (and_join _ _ (((sweep_is_least varies killing root).0 _ p).1 d) is)),
 )

@@ -3,10 +3,13 @@ use Rattle.std.proofs.Common.{refl, ℕ, List, Option, [], ◌++◌, ◌∷◌, 
 use Rattle.std.specs.List.{Contains}
 use Rattle.std.proofs.lemmas.List.Elements.{Contains-append_left, Contains-append_right}
 use Rattle.shader_chains.specs.Program.{Step, Leaf, Body, Then, Call, Cases, Case, statements, statements_within, case_statements}
-use Rattle.shader_chains.specs.Flow.{At, start, rest, inside, Part, inner, accept, reject, body, continuing, case_of, CasesIn, from_first, after, Disrupted, Exits, BlockExits, in_disrupted, in_branch, in_continuing, fallen_into, fallen_out, later, behind, returns, kills, calls, contains, first, further}
+use Rattle.shader_chains.specs.Flow.{At, start, rest, inside, Part, inner, accept, reject, body, continuing, case_of, CasesIn}
+use Rattle.shader_chains.specs.Flow.{from_first, after, Disrupted, Exits, BlockExits, in_disrupted, in_branch, in_continuing}
+use Rattle.shader_chains.specs.Flow.{fallen_into, fallen_out, later, behind, returns, kills, calls, contains, first, further}
 
 module _ (V V' K K' : ℕ → Type 0) (root : Body) (to_v : (e : ℕ) → V e → V' e)
-    (to_k : (c : ℕ) (arguments : List ℕ) (result : Option ℕ) (b : Body) → At root (Then (Leaf (Call c arguments result)) b) → K c → K' c) where
+    (to_k : (c : ℕ) (arguments : List ℕ) (result : Option ℕ) (b : Body) → At root (Then (Leaf (Call c arguments result)) b) →
+    K c → K' c) where
   mutual
     pub more_disrupted : (b : Body) (p : At root b) → Disrupted V K root b p → Disrupted V' K' root b p
     more_disrupted _ _ (in_disrupted d) = in_disrupted (more_disrupted _ _ d)
@@ -30,7 +33,8 @@ module _ (V V' K K' : ℕ → Type 0) (root : Body) (to_v : (e : ℕ) → V e �
 -- the statements of a later case, of a part and of a place are statements of the whole
 of_case : (all cs : Cases) (k : CasesIn all cs) (s : Step) → Contains (case_statements cs) s → Contains (case_statements all) s
 of_case all _ from_first s h = h
-of_case all cs (after {v = v} {x = x} {fall = fall} k) s h = of_case all (Case v x fall cs) k s (Contains-append_right (statements x) (case_statements cs) s h)
+of_case all cs (after {v = v} {x = x} {fall = fall} k) s h =
+    of_case all (Case v x fall cs) k s (Contains-append_right (statements x) (case_statements cs) s h)
 
 of_part : (t : Step) (x : Body) (part : Part t x) (s : Step) → Contains (statements x) s → Contains (statements_within t) s
 of_part _ x inner s h = h
@@ -52,4 +56,8 @@ of_place root x (inside {s = t} {b = b} p part) s h =
     of_place root (Then t b) p s (Contains-later t _ s (Contains-append_left (statements_within t) (statements b) s (of_part t x part s h)))
 
 pub stands_within : (root : Body) (s : Step) (b : Body) → At root (Then s b) → Contains (statements root) s
-stands_within root s b p = of_place root (Then s b) p s (Contains-append_left (s ∷ []) (statements_within s ++ statements b) s (0, omega arith, refl))
+stands_within root s b p = of_place root (Then s b) p s (Contains-append_left (s ∷ []) (statements_within s ++ statements b) s (
+  0,
+  omega arith,
+  refl,
+))

@@ -1,5 +1,6 @@
 -- The step composes over the infos held so far.
-use Rattle.std.proofs.Common.{◌≡◌, refl, sym, ◌∙◌, ap, subst, ℕ, zero, suc, ◌<◌, List, [], ◌∷◌, ◌++◌, Option, Some, None, length, get_or, ◌⊎◌, inl, inr, arith}
+use Rattle.std.proofs.Common.{◌≡◌, refl, sym, ◌∙◌, ap, subst, ℕ, zero, suc, ◌<◌, List, [], ◌∷◌}
+use Rattle.std.proofs.Common.{◌++◌, Option, Some, None, length, get_or, ◌⊎◌, inl, inr, arith}
 use Rattle.std.specs.List.{Contains, slice_get}
 use Rattle.std.proofs.lemmas.Option.{slice_get_within, slice_get-get_or, same_Some}
 use Rattle.shader_chains.specs.Program.{Function, Module, Expression, Label, expression_operands, Stands}
@@ -21,7 +22,8 @@ get_last [] y (suc i) x e = absurd (cc)
 get_last (z ∷ xs) y zero x e = inl e
 get_last (z ∷ xs) y (suc i) x e = elim (get_last xs y i x e) [ inl h ↦ inl h | inr h ↦ inr (ap suc h.0, h.1) ]
 
-pub named_within : (m : Module) (held : List Info) (f : Function) → ((c : ℕ) → Mentions f c → (c < length held) × (c < length m.functions)) →
+pub named_within : (m : Module) (held : List Info) (f : Function) →
+    ((c : ℕ) → Mentions f c → (c < length held) × (c < length m.functions)) →
     Pairwise (IsExact m) m held → EachNamed (IsExact m) m held f
 named_within m held f within exact c mention =
     let (a, b) = within c mention in
@@ -53,9 +55,11 @@ module _ (m : Module) (infos : List Info) (f : Function) (recorded : List (Optio
   abbrev Good : ℕ → Type 0
   Good e = (r : Option ℕ) → slice_get recorded e ≡ Some r → Picks (StepOrigin m infos f e) r
 
-  longer : (e o h : ℕ) (x : Expression) (c : ℕ × Label) → Stands f e x → Contains (expression_operands x) c → c.0 ≡ o → StepOrigin m infos f o h → StepOrigin m infos f e h
+  longer : (e o h : ℕ) (x : Expression) (c : ℕ × Label) → Stands f e x → Contains (expression_operands x) c → c.0 ≡ o →
+      StepOrigin m infos f o h → StepOrigin m infos f e h
   longer e o h x c s k is (Steps.own leads source) = Steps.own (through s k (subst (λ i. Leads f i h) (sym is) leads)) source
-  longer e o h x c s k is (Steps.callee {k = u} leads stands held res) = Steps.callee (through s k (subst (λ i. Leads f i u) (sym is) leads)) stands held res
+  longer e o h x c s k is (Steps.callee {k = u} leads stands held res) =
+      Steps.callee (through s k (subst (λ i. Leads f i u) (sym is) leads)) stands held res
 
   module _ (e : ℕ) (below : (o : ℕ) → o < e → Good o) where
     to_origin : (h : ℕ) → StepOperand m infos f recorded e h → StepOrigin m infos f e h
@@ -64,7 +68,8 @@ module _ (m : Module) (infos : List Info) (f : Function) (recorded : List (Optio
     to_origin h (Held.callee s held res) = Steps.callee itself s held res
 
     -- an operand that leads to an origin has one recorded
-    operand_has : (h : ℕ) (x : Expression) (o : ℕ × Label) → Stands f e x → Contains (expression_operands x) o → StepOrigin m infos f o.0 h →
+    operand_has : (h : ℕ) (x : Expression) (o : ℕ × Label) → Stands f e x → Contains (expression_operands x) o →
+        StepOrigin m infos f o.0 h →
         (k : ℕ) × StepOperand m infos f recorded e k
     operand_has h x o s k origin =
         let lt = earlier e x o s k in
@@ -77,7 +82,8 @@ module _ (m : Module) (infos : List Info) (f : Function) (recorded : List (Optio
     of_origin h (Steps.own itself source) = (e, Held.itself source)
     of_origin h (Steps.own (through {x = x} {o = o} s k leads) source) = operand_has h x o s k (Steps.own leads source)
     of_origin h (Steps.callee itself stands held res) = (h, Held.callee stands held res)
-    of_origin h (Steps.callee (through {x = x} {o = o} s k leads) stands held res) = operand_has h x o s k (Steps.callee leads stands held res)
+    of_origin h (Steps.callee (through {x = x} {o = o} s k leads) stands held res) =
+        operand_has h x o s k (Steps.callee leads stands held res)
 
     good : Good e
     good r is = Picks-same (StepOperand m infos f recorded e) (StepOrigin m infos f e) r to_origin of_origin (step e r is)
@@ -87,4 +93,5 @@ module _ (m : Module) (infos : List Info) (f : Function) (recorded : List (Optio
   all_good (suc n) e lt = good e (λ o o_lt. all_good n o (omega arith))
 
 pub operands_give_origins : OperandsGiveOrigins
-operands_give_origins m infos f recorded complete earlier step e r is = all_good m infos f recorded complete earlier step (suc e) e (omega arith) r is
+operands_give_origins m infos f recorded complete earlier step e r is =
+    all_good m infos f recorded complete earlier step (suc e) e (omega arith) r is

@@ -1,5 +1,6 @@
 -- Sets of labels as numbers, joined along a list.
-use Rattle.std.proofs.Common.{◌≡◌, refl, sym, subst, ◌∙◌, ℕ, zero, suc, ◌+◌, ◌-◌, ◌<◌, ◌≤◌, ◌⊎◌, inl, inr, List, [], ◌∷◌, Bool, true, false, fold, bit_or, nat_lt, arith}
+use Rattle.std.proofs.Common.{◌≡◌, refl, sym, subst, ◌∙◌, ℕ, zero, suc, ◌+◌, ◌-◌, ◌<◌, ◌≤◌, ◌⊎◌, inl}
+use Rattle.std.proofs.Common.{inr, List, [], ◌∷◌, Bool, true, false, fold, bit_or, nat_lt, arith}
 use borrow.Author.Tests.{ltb-true, ltb-false}
 use Rattle.std.specs.Int.{IsBitSet, bit_at}
 use Rattle.std.specs.List.{Contains}

@@ -1,5 +1,6 @@
 -- The first that a walk over a list keeps.
-use Rattle.std.proofs.Common.{◌≡◌, refl, sym, ap, subst, ◌∙◌, ℕ, ◌+◌, ◌<◌, ◌⊎◌, inl, inr, List, [], ◌∷◌, Option, Some, None, fold, slice_get, length, get_or, arith}
+use Rattle.std.proofs.Common.{◌≡◌, refl, sym, ap, subst, ◌∙◌, ℕ, ◌+◌, ◌<◌, ◌⊎◌, inl, inr, List, []}
+use Rattle.std.proofs.Common.{◌∷◌, Option, Some, None, fold, slice_get, length, get_or, arith}
 use Rattle.std.specs.List.{Contains, enumerate_from}
 use Rattle.std.proofs.lemmas.List.FromFn.{get_or-enumerate_from, length-enumerate_from}
 use Rattle.std.proofs.lemmas.Option.{slice_get_within, get_or_from_slice_get, slice_get-get_or}
@@ -31,9 +32,12 @@ module _ {X : Type 0} (step : Option ℕ → X → Option ℕ) (P : X → ℕ �
   pub kept : (xs : List X) → Picks (One xs) (fold step None xs)
   kept [] = λ h t. nowhere t.0 t.1
   kept (x ∷ xs) = at (step None x) (picks x) refl (kept xs) where
-    at : (o : Option ℕ) → Picks (P x) o → step None x ≡ o → Picks (One xs) (fold step None xs) → Picks (One (x ∷ xs)) (fold step (step None x) xs)
-    at (Some h) p e rest = let Q : Option ℕ → Type 0 = λ v. Picks (One (x ∷ xs)) v in subst Q (sym (ap (λ v. fold step v xs) e ∙ keeps_all h xs)) (x, here x xs, p)
-    at None p e rest = let Q : Option ℕ → Type 0 = λ v. Picks (One (x ∷ xs)) v in subst Q (sym (ap (λ v. fold step v xs) e)) (Picks-same (One xs) (One (x ∷ xs)) (fold step None xs)
+    at : (o : Option ℕ) → Picks (P x) o → step None x ≡ o → Picks (One xs) (fold step None xs) →
+        Picks (One (x ∷ xs)) (fold step (step None x) xs)
+    at (Some h) p e rest = let Q : Option ℕ → Type 0 = λ v. Picks (One (x ∷ xs)) v in
+        subst Q (sym (ap (λ v. fold step v xs) e ∙ keeps_all h xs)) (x, here x xs, p)
+    at None p e rest = let Q : Option ℕ → Type 0 = λ v. Picks (One (x ∷ xs)) v in
+        subst Q (sym (ap (λ v. fold step v xs) e)) (Picks-same (One xs) (One (x ∷ xs)) (fold step None xs)
         (λ h t. (t.0, there x xs t.0 t.1, t.2))
         (λ h t. elim (cases x xs t.0 t.1) [
           | inl is ↦ let R : X → Type 0 = λ v. P v h in absurd (p h (subst R (sym is) t.2))
@@ -62,5 +66,6 @@ module _ {X : Type 0} (xs : List X) where
       let zeroth : 0 + e ≡ e = omega arith in (
         e,
         omega (arith, within, length-enumerate_from 0 xs),
-        get_or-enumerate_from 0 xs e (e, x) within ∙ (ap (λ v. (v, get_or xs e x)) zeroth ∙ ap (λ v. (e, v)) (get_or_from_slice_get xs e x x s)),
+        get_or-enumerate_from 0 xs e (e, x) within ∙ (ap (λ v. (v, get_or xs e x)) zeroth
+            ∙ ap (λ v. (e, v)) (get_or_from_slice_get xs e x x s)),
       )

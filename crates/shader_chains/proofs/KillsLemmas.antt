@@ -57,13 +57,15 @@ module _ (m : Module) (infos : List Info) (f : Function) (named : EachNamed (Has
       let (r, i, is_r, is_i, has) = named call.callee (by_call call.holds) in
       let may : IsTrue i.may_kill = subst (λ o. IsTrue (recorded o)) is_i known in
       subst (Kills m) (same_Some r d (sym is_r ∙ call.calls)) (has.0 may))
-      p (more_disrupted (RecordsVaried info) (HasOrigin m f) (RecordsKills infos) (λ c. IsTrue (recorded (slice_get infos c))) f.body to_origin
+      p (more_disrupted (RecordsVaried info) (HasOrigin m f) (RecordsKills infos) (λ c. IsTrue (recorded (slice_get infos c)))
+      f.body to_origin
       (λ c arguments result b q killing. subst (λ o. IsTrue (recorded o)) (sym killing.1) killing.2) _ p d)
 
   to_step : Kills m f → StepKill infos f info
   to_step (kills (via {c = d} call chain) known all p at) =
       let (i, held, has) = info_of_call (HasKills m) m infos f named d call in callee held (has.1 (kills chain known all p at))
-  to_step (kills here known all p at) = own p (more_disrupted (HasOrigin m f) (RecordsVaried info) (λ c. IsTrue (known c)) (RecordsKills infos) f.body of_origin
+  to_step (kills here known all p at) = own p (more_disrupted (HasOrigin m f) (RecordsVaried info) (λ c. IsTrue (known c))
+      (RecordsKills infos) f.body of_origin
       (λ c arguments result b q k.
       let holds = stands_within f.body (Leaf (Call c arguments result)) b q in
       let (r, i, is_r, is_i, has) = named c (by_call holds) in

@@ -42,11 +42,14 @@ module _ (m : Module) (infos : List Info) (f : Function) (named : EachNamed (Has
       let (info, held, has) = info_of_call (HasNeeds m) m infos f named d call in callee held ((has n).1 (by_statement chain holds asks))
   to_whole (by_expression e here emitted needs) = expression e emitted (to_step e needs)
   to_whole (by_expression e (via {c = d} call chain) emitted needs) =
-      let (info, held, has) = info_of_call (HasNeeds m) m infos f named d call in callee held ((has n).1 (by_expression e chain emitted needs))
+      let (info, held, has) = info_of_call (HasNeeds m) m infos f named d call in
+      callee held ((has n).1 (by_expression e chain emitted needs))
 
-  pub exact_expression : (info : Info) (e : ℕ) → IsBitSet (slice_index info.expression_needs e) (bit_of_need n) ↔ StepExpressionNeed infos f n e →
+  pub exact_expression : (info : Info) (e : ℕ) → IsBitSet (slice_index info.expression_needs e) (bit_of_need n)
+      ↔ StepExpressionNeed infos f n e →
       IsBitSet (slice_index info.expression_needs e) (bit_of_need n) ↔ ExpressionNeeds m n f e
   exact_expression info e step = (λ h. of_step e (step.0 h), λ h. step.1 (to_step e h))
 
-  pub exact_needs : (info : Info) → IsBitSet info.needs (bit_of_need n) ↔ StepNeed infos f n → IsBitSet info.needs (bit_of_need n) ↔ Needs m n f
+  pub exact_needs : (info : Info) → IsBitSet info.needs (bit_of_need n) ↔ StepNeed infos f n →
+      IsBitSet info.needs (bit_of_need n) ↔ Needs m n f
   exact_needs info step = (λ h. of_whole (step.0 h), λ h. step.1 (to_whole h))

@@ -37,5 +37,9 @@ module _ (P : Function → Info → Type 0) (m : Module) (infos : List Info) (f 
       (r : Function) × (call : CallsTo m f r) × (call.arguments ≡ arguments) × P r info
   call_of_info {arguments} {info} call =
       let (r, info', is_r, is_info, p) = named call.callee (by_call call.holds) in
-      let e : info' ≡ info = same_Some info' info (sym is_info ∙ call.held) in
-      (r, record { callee = call.callee; arguments = arguments; result = call.result; holds = call.holds; calls = is_r }, refl, subst (λ x. P r x) e p)
+      let e : info' ≡ info = same_Some info' info (sym is_info ∙ call.held) in (
+        r,
+        record { callee = call.callee; arguments = arguments; result = call.result; holds = call.holds; calls = is_r },
+        refl,
+        subst (λ x. P r x) e p,
+      )

@@ -66,4 +66,5 @@ module _ (m : Module) (infos : List Info) (f : Function) (named : EachNamed (Has
   exact_origin e o = Picks-same (StepOrigin m infos f e) (λ h. (r : Function) × Origin m f e r h) o (of_step e) (λ h q. to_step e h q.0 q.1)
 
   pub exact_result : (info : Info) → Picks (StepResult m infos f) info.non_uniform_result → HasResult m f info
-  exact_result info = Picks-same (StepResult m infos f) (ResultFrom m f) info.non_uniform_result of_step_result (λ h q. to_step_result h q.0 q.1)
+  exact_result info = Picks-same (StepResult m infos f) (ResultFrom m f) info.non_uniform_result of_step_result
+      (λ h q. to_step_result h q.0 q.1)

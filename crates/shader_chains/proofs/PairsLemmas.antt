@@ -86,16 +86,19 @@ module _ (m : Module) (infos : List Info) (f : Function) (named : EachNamed (Has
   to_step image sampler pair = by_chain image sampler pair.reached pair.chain pair.sample pair.image_operand pair.sampler_operand
       pair.stands pair.image_place pair.sampler_place
 
-  pub exact_pairs : (info : Info) → ((image sampler : Place) → Contains info.pairs (image, sampler) ↔ StepPair infos f image sampler) → HasPairs m f info
+  pub exact_pairs : (info : Info) → ((image sampler : Place) → Contains info.pairs (image, sampler) ↔ StepPair infos f image sampler) →
+      HasPairs m f info
   exact_pairs info step image sampler =
       (λ h. of_step image sampler ((step image sampler).0 h), λ h. (step image sampler).1 (to_step image sampler h))
 
 through_cut : (f : Function) (arguments : List ℕ) (lead : Place → Option Place) (o : Option Place) →
-    option_and_then (in_caller f arguments) (option_and_then lead o) ≡ option_and_then (λ q. option_and_then (in_caller f arguments) (lead q)) o
+    option_and_then (in_caller f arguments) (option_and_then lead o)
+    ≡ option_and_then (λ q. option_and_then (in_caller f arguments) (lead q)) o
 through_cut f arguments lead None = refl
 through_cut f arguments lead (Some q) = refl
 
 pub places_lead_back_by_parts : PlacesLeadBackByParts
 places_lead_back_by_parts m f _ s here second p = sym (here_itself m f (back second p))
 places_lead_back_by_parts m f r s (via {c = c} call first) second p =
-    ap (option_and_then (in_caller f call.arguments)) (places_lead_back_by_parts m c r s first second p) ∙ through_cut f call.arguments (back first) (back second p)
+    ap (option_and_then (in_caller f call.arguments)) (places_lead_back_by_parts m c r s first second p)
+    ∙ through_cut f call.arguments (back first) (back second p)

@@ -24,15 +24,18 @@ OnZero (Switch e cs) = ⊥
 OnZero step = Unit {0}
 
 on_zero : (s : Step) (b : Body) → At parting (Then s b) → OnZero s
-on_zero s b p = three OnZero (If 0 (Then (Leaf (Return None)) End) End) (Leaf (Return None)) (Leaf (Emit 4 5)) s (stands_within parting s b p) refl tt tt
+on_zero s b p = three OnZero (If 0 (Then (Leaf (Return None)) End) End) (Leaf (Return None)) (Leaf (Emit 4 5)) s
+    (stands_within parting s b p) refl tt tt
 
 abbrev IsZero : ℕ → Type 0
 IsZero e = e ≡ 0
 
-same_branch : {c : ℕ} {x y b : Body} (p : At parting (Then (If c x y) b)) → (IsZero c → ⊥) → (takes_branch true).accepts p ≡ (takes_branch false).accepts p
+same_branch : {c : ℕ} {x y b : Body} (p : At parting (Then (If c x y) b)) → (IsZero c → ⊥) →
+    (takes_branch true).accepts p ≡ (takes_branch false).accepts p
 same_branch {c} {x} {y} {b} p steady = absurd (steady (on_zero (If c x y) b p))
 
-same_case : {e : ℕ} {cs : Cases} {b : Body} (p : At parting (Then (Switch e cs) b)) → (takes_branch true).selects p ≡ (takes_branch false).selects p
+same_case : {e : ℕ} {cs : Cases} {b : Body} (p : At parting (Then (Switch e cs) b)) →
+    (takes_branch true).selects p ≡ (takes_branch false).selects p
 same_case {e} {cs} {b} p = absurd (on_zero (Switch e cs) b p)
 
 they_are_alike : Alike (λ e. e ≡ 0) (takes_branch true) (takes_branch false)

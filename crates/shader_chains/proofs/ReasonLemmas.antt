@@ -2,14 +2,18 @@
 use Rattle.std.proofs.Common.{ℕ, Bool, true}
 use Rattle.shader_ir.specs.declared.statement.SwitchValue.{SwitchValue}
 use Rattle.shader_chains.specs.Program.{Function, Module, Step, Leaf, Switch, Call, Body, Then, Cases, Case}
-use Rattle.shader_chains.specs.Faults.{Settings, Disruptor, Source, EarlierReturn, EarlierDiscard, Around, branch, deeper, MayBlame, a_source, a_return, a_kill, a_call}
+use Rattle.shader_chains.specs.Faults.{Settings, Disruptor, Source, EarlierReturn, EarlierDiscard, Around}
+use Rattle.shader_chains.specs.Faults.{branch, deeper, MayBlame, a_source, a_return, a_kill, a_call}
 use Rattle.shader_chains.specs.Faults as faults
-use Rattle.shader_chains.specs.Flow.{At, rest, inside, case_of, CasesIn, after, selects, Disrupted, Exits, BlockExits, in_disrupted, in_branch, in_continuing, fallen_into, fallen_out, later, behind, returns, kills, calls, contains, first, further}
+use Rattle.shader_chains.specs.Flow.{At, rest, inside, case_of, CasesIn, after, selects, Disrupted, Exits}
+use Rattle.shader_chains.specs.Flow.{BlockExits, in_disrupted, in_branch, in_continuing, fallen_into, fallen_out}
+use Rattle.shader_chains.specs.Flow.{later, behind, returns, kills, calls, contains, first, further}
 use Rattle.shader_chains.specs.Infos.{Place}
 use Rattle.shader_chains.specs.Needs.{Need}
 use Rattle.shader_chains.proofs.FlowLemmas.{stands_within}
 
-module _ (O : ℕ → ℕ → Type 0) (K : ℕ → Type 0) (N : Need → ℕ → Type 0) (P : ℕ → Place → Place → Type 0) (m : Module) (settings : Settings) (f : Function) where
+module _ (O : ℕ → ℕ → Type 0) (K : ℕ → Type 0) (N : Need → ℕ → Type 0) (P : ℕ → Place → Place →
+    Type 0) (m : Module) (settings : Settings) (f : Function) where
   abbrev V : ℕ → Type 0
   V e = (h : ℕ) × O e h
 
@@ -20,14 +24,16 @@ module _ (O : ℕ → ℕ → Type 0) (K : ℕ → Type 0) (N : Need → ℕ →
   Reason b p = (d : Disruptor) × Blame b p d
 
   -- a reason at one place that is one at another, where a source around the first is around the other
-  moved : (b c : Body) (p : At f.body b) (q : At f.body c) → ((h : ℕ) → Around O h f.body b p → Around O h f.body c q) → (d : Disruptor) → Blame b p d → Blame c q d
+  moved : (b c : Body) (p : At f.body b) (q : At f.body c) → ((h : ℕ) → Around O h f.body b p → Around O h f.body c q) → (d : Disruptor) →
+      Blame b p d → Blame c q d
   moved b c p q around _ (a_source a) = a_source (around _ a)
   moved b c p q around _ (a_return r d) = a_return r d
   moved b c p q around _ (a_kill r d) = a_kill r d
   moved b c p q around _ (a_call holds k) = a_call holds k
 
   next_case : (h e : ℕ) (all cs : Cases) (t u : SwitchValue) (b x y : Body) (fall : Bool) (p : At f.body (Then (Switch e all) b))
-      (k : CasesIn all (Case t x true (Case u y fall cs))) → Around O h f.body x (inside p (case_of k)) → Around O h f.body y (inside p (case_of (after k)))
+      (k : CasesIn all (Case t x true (Case u y fall cs))) → Around O h f.body x (inside p (case_of k)) →
+      Around O h f.body y (inside p (case_of (after k)))
   next_case h e all cs t u b x y fall p k (branch _ (selects _) is) = branch p (selects (after k)) is
   next_case h e all cs t u b x y fall p k (deeper a) = deeper a
 

@@ -1,5 +1,6 @@
 -- What holds of the small functions.
-use Rattle.std.proofs.Common.{◌≡◌, refl, sym, ap, subst, ◌∙◌, ℕ, zero, suc, Bool, true, false, List, [], ◌∷◌, Option, Some, None, inl, inr, IsTrue, slice_get, nat_eq, nat_lt, arith}
+use Rattle.std.proofs.Common.{◌≡◌, refl, sym, ap, subst, ◌∙◌, ℕ, zero, suc, Bool, true, false, List, []}
+use Rattle.std.proofs.Common.{◌∷◌, Option, Some, None, inl, inr, IsTrue, slice_get, nat_eq, nat_lt, arith}
 use Rattle.std.specs.List.{Contains}
 use Rattle.std.specs.Option.{option_and_then}
 use Rattle.std.proofs.lemmas.Option.{same_Some}
@@ -16,7 +17,9 @@ use Rattle.shader_chains.specs.Kills.{HasOrigin, Kills, kills}
 use Rattle.shader_chains.specs.Needs.{Needs, by_statement, by_expression, by_form, Derivative}
 use Rattle.shader_chains.specs.Origins.{source, result, itself, IsSource, is_source}
 use Rattle.shader_chains.specs.Pairs.{place, samples, back, IsPair}
-use Rattle.shader_chains.specs.Samples.{named, stored, NamedIsQueried, taking, shared, ArgumentsVary, branching, BranchesKill, differentiating, EmittedIsNeeded, sampling, PairsAreLedBack, returning, place_of_emit, FallThroughDisrupts}
+use Rattle.shader_chains.specs.Samples.{named, stored, NamedIsQueried, taking, shared, ArgumentsVary, branching}
+use Rattle.shader_chains.specs.Samples.{BranchesKill, differentiating, EmittedIsNeeded, sampling, PairsAreLedBack}
+use Rattle.shader_chains.specs.Samples.{returning, place_of_emit, FallThroughDisrupts}
 use Rattle.shader_chains.specs.Uses.{Uses, directly, by_name, UsesDirectly, puts}
 use Rattle.shader_chains.proofs.FindLemmas.{sweep_finds}
 use Rattle.shader_chains.proofs.FlowLemmas.{more_disrupted}
@@ -25,7 +28,8 @@ use Rattle.shader_chains.proofs.SweepLemmas.{sweep_is_least}
 
 -- no Call statement stands in the body
 abbrev CallsNothing : Function → Type 0
-CallsNothing f = (callee : ℕ) (arguments : List ℕ) (found : Option ℕ) → Contains (statements f.body) (Leaf (Call callee arguments found)) → ⊥
+CallsNothing f = (callee : ℕ) (arguments : List ℕ) (found : Option ℕ) →
+    Contains (statements f.body) (Leaf (Call callee arguments found)) → ⊥
 
 -- such a function reaches itself alone
 alone : (m : Module) (f s : Function) → CallsNothing f → Chain m f s → f ≡ s
@@ -49,16 +53,24 @@ stored_calls_nothing : CallsNothing stored
 stored_calls_nothing callee arguments found h = let same = only (Leaf (Store 0 1)) (Leaf (Call callee arguments found)) h in absurd (cc)
 
 never_named : (m : Module) (s : Function) (u : Use) → Chain m named s → UsesDirectly s 0 u → ⊥
-never_named m s u chain d = let same = alone m named s named_calls_nothing chain in named_uses_nothing 0 u (subst (λ v. UsesDirectly v 0 u) (sym same) d)
+never_named m s u chain d = let same = alone m named s named_calls_nothing chain in
+    named_uses_nothing 0 u (subst (λ v. UsesDirectly v 0 u) (sym same) d)
 
 not_read : (m : Module) → Uses m named 0 Reads → ⊥
 not_read m (directly {r = s} chain d) = never_named m s Reads chain d
 
 stored_writes : UsesDirectly stored 0 Writes
-stored_writes = record { occurrence = (0, label.Write); occurs = first_of (0, label.Write) ((1, label.Read) ∷ []); root = global refl; label = refl }
+stored_writes = record {
+  occurrence = (0, label.Write);
+  occurs = first_of (0, label.Write) ((1, label.Read) ∷ []);
+  root =
+      global refl;
+  label = refl;
+}
 
 not_queried : (g : ℕ) → UsesDirectly stored g Queries → ⊥
-not_queried g d = either (λ (o : ℕ × Label). IsTrue (puts o.1 Queries) → ⊥) (0, label.Write) (1, label.Read) d.occurrence d.occurs (λ h. absurd (cc)) (λ h. absurd (cc)) d.label
+not_queried g d = either (λ (o : ℕ × Label). IsTrue (puts o.1 Queries) →
+    ⊥) (0, label.Write) (1, label.Read) d.occurrence d.occurs (λ h. absurd (cc)) (λ h. absurd (cc)) d.label
 
 stored_not_queried : (m : Module) → Uses m stored 0 Queries → ⊥
 stored_not_queried m (directly {r = s} chain d) =
@@ -103,7 +115,8 @@ is_kill step = false
 never_disrupted : (V : ℕ → Type 0) (known : ℕ → Bool) (b : Body) (p : At (Then (Leaf Kill) End) (Then (Leaf Kill) b)) →
     Disrupted V (λ c. IsTrue (known c)) (Then (Leaf Kill) End) _ p → ⊥
 never_disrupted V known b p d =
-    let wide = more_disrupted V (λ e. IsTrue true) (λ c. IsTrue (known c)) (λ c. IsTrue (known c)) (Then (Leaf Kill) End) (λ e v. refl) (λ c arguments found b q k. k) _ p d in
+    let wide = more_disrupted V (λ e. IsTrue true) (λ c. IsTrue (known c)) (λ c. IsTrue (known c)) (Then (Leaf Kill) End) (λ e v. refl)
+    (λ c arguments found b q k. k) _ p d in
     let told : false ≡ true = (sweep_finds (λ e. true) known is_kill (Then (Leaf Kill) End)).1 (Leaf Kill, b, p, refl, wide) in absurd (cc)
 
 kill_calls_nothing : CallsNothing (taking None (Then (Leaf Kill) End))
@@ -114,7 +127,8 @@ no_kill m f is (kills {r = r} {b = b} chain known all p d) =
     let same : taking None (Then (Leaf Kill) End) ≡ r = is ∙ alone m f r (subst CallsNothing is kill_calls_nothing) chain in
     at r (ap (λ (v : Function). v.body) same) p d
   where
-    at : (r : Function) → Then (Leaf Kill) End ≡ r.body → (p : At r.body (Then (Leaf Kill) b)) → Disrupted (HasOrigin m r) (λ c. IsTrue (known c)) r.body _ p → ⊥
+    at : (r : Function) → Then (Leaf Kill) End ≡ r.body → (p : At r.body (Then (Leaf Kill) b)) →
+        Disrupted (HasOrigin m r) (λ c. IsTrue (known c)) r.body _ p → ⊥
     at r is = subst (λ (v : Body). (p : At v (Then (Leaf Kill) b)) → Disrupted (HasOrigin m r) (λ c. IsTrue (known c)) v _ p → ⊥) is
         (λ p d. never_disrupted (HasOrigin m r) known b p d)
 
@@ -138,7 +152,8 @@ nothing_needed m f is (by_expression {r = r} e chain emitted needs) =
 
 pub emitted_is_needed : EmittedIsNeeded
 emitted_is_needed m = (
-  by_expression 1 here (record { start = 0; finish = 2; holds = first_of (Leaf (Emit 0 2)) []; from = omega arith; to = omega arith }) (by_form {x = form.Derivative axis.X control.None 0} refl refl),
+  by_expression 1 here (record { start = 0; finish = 2; holds = first_of (Leaf (Emit 0 2)) []; from = omega arith; to = omega arith })
+      (by_form {x = form.Derivative axis.X control.None 0} refl refl),
   λ h. nothing_needed m (differentiating End) refl h,
 )
 
@@ -158,18 +173,27 @@ no_global_pair m f is g sampler pair = at pair.reached pair.chain pair.sample pa
     at : (r : Function) (chain : Chain m f r) (e : ℕ) → samples r e ≡ Some (pair.image_operand, pair.sampler_operand) →
         option_and_then (back chain) (place r pair.image_operand) ≡ Some (InGlobal g) → ⊥
     at _ here e stands led =
-        let first : pair.image_operand ≡ 0 = sampled_by e pair.image_operand pair.sampler_operand (subst (λ v. samples v e ≡ Some (pair.image_operand, pair.sampler_operand)) (sym is) stands) in
+        let first : pair.image_operand ≡ 0 = sampled_by e pair.image_operand pair.sampler_operand
+        (subst (λ v. samples v e ≡ Some (pair.image_operand, pair.sampler_operand)) (sym is) stands) in
         let told : option_and_then (back {m = m} {f = sampling} here) (place sampling 0) ≡ Some (InGlobal g) =
         subst (λ v. option_and_then (back {m = m} {f = sampling} here) (place sampling v) ≡ Some (InGlobal g)) first
         (subst (λ v. option_and_then (back {m = m} {f = v} here) (place v pair.image_operand) ≡ Some (InGlobal g)) (sym is) led) in
         absurd (cc)
-    at r (via call chain) e stands led = absurd (subst CallsNothing is sampling_calls_nothing call.callee call.arguments call.result call.holds)
+    at r (via call chain) e stands led = absurd (subst CallsNothing is sampling_calls_nothing call.callee call.arguments
+        call.result call.holds)
 
 pub pairs_are_led_back : PairsAreLedBack
 pairs_are_led_back = (
   record {
     reached = sampling;
-    chain = via (record { callee = 0; arguments = 0 ∷ 1 ∷ []; result = None; holds = first_of (Leaf (Call 0 (0 ∷ 1 ∷ []) None)) []; calls = refl }) here;
+    chain = via (record {
+      callee = 0;
+      arguments = 0 ∷ 1 ∷ [];
+      result = None;
+      holds =
+          first_of (Leaf (Call 0 (0 ∷ 1 ∷ []) None)) [];
+      calls = refl;
+    }) here;
     sample = 2;
     image_operand = 0;
     sampler_operand = 1;
@@ -184,5 +208,6 @@ pairs_are_led_back = (
 pub fall_through_disrupts : FallThroughDisrupts
 fall_through_disrupts = (
   ((sweep_is_least (λ e. nat_eq e 0) (λ c. nat_lt c 0) (returning true)).0 _ (place_of_emit true)).0 refl,
-  λ d. let told : false ≡ true = ((sweep_is_least (λ e. nat_eq e 0) (λ c. nat_lt c 0) (returning false)).0 _ (place_of_emit false)).1 d in absurd (cc),
+  λ d. let told : false ≡ true = ((sweep_is_least (λ e. nat_eq e 0) (λ c. nat_lt c 0) (returning false)).0 _ (place_of_emit false)).1 d
+      in absurd (cc),
 )

@@ -2,8 +2,13 @@
 use Rattle.std.proofs.Common.{refl, sym, subst, ℕ, Bool, true, false, ◌&&◌, ◌||◌, inl, inr, IsTrue}
 use Rattle.std.proofs.lemmas.Bool.{or_cases}
 use Rattle.shader_ir.specs.declared.statement.SwitchValue.{SwitchValue}
-use Rattle.shader_chains.specs.Program.{Step, Leaf, Simple, Emit, Break, Continue, Return, Kill, ControlBarrier, MemoryBarrier, Store, ImageStore, Atomic, ImageAtomic, WorkGroupUniformLoad, Call, RayQuery, RayPipeline, SubgroupBallot, SubgroupGather, SubgroupCollectiveOperation, CooperativeStore, Nested, If, Switch, Loop, Body, End, Then, Cases, NoCase, Case}
-use Rattle.shader_chains.specs.Flow.{At, start, rest, inside, Part, inner, accept, reject, body, continuing, case_of, CasesIn, from_first, after, BranchOn, accepts, rejects, selects, Disrupted, Exits, BlockExits, in_disrupted, in_branch, in_continuing, fallen_into, fallen_out, later, behind, returns, kills, calls, contains, first, further}
+use Rattle.shader_chains.specs.Program.{Step, Leaf, Simple, Emit, Break, Continue, Return, Kill, ControlBarrier, MemoryBarrier}
+use Rattle.shader_chains.specs.Program.{Store, ImageStore, Atomic, ImageAtomic, WorkGroupUniformLoad, Call, RayQuery, RayPipeline}
+use Rattle.shader_chains.specs.Program.{SubgroupBallot, SubgroupGather, SubgroupCollectiveOperation, CooperativeStore}
+use Rattle.shader_chains.specs.Program.{Nested, If, Switch, Loop, Body, End, Then, Cases, NoCase, Case}
+use Rattle.shader_chains.specs.Flow.{At, start, rest, inside, Part, inner, accept, reject, body, continuing, case_of, CasesIn, from_first}
+use Rattle.shader_chains.specs.Flow.{after, BranchOn, accepts, rejects, selects, Disrupted, Exits, BlockExits, in_disrupted, in_branch}
+use Rattle.shader_chains.specs.Flow.{in_continuing, fallen_into, fallen_out, later, behind, returns, kills, calls, contains, first, further}
 use Rattle.shader_chains.specs.Sweep.{simple_exits, step_exits, block_exits, cases_exit, case_flag, part_flag, flag, SweepIsLeast}
 
 or_left : (a b : Bool) → IsTrue a → IsTrue (a || b)
@@ -55,7 +60,8 @@ module _ (varies killing : ℕ → Bool) (root : Body) where
   part_stays _ x continuing = refl
   part_stays _ x (case_of {all = all} {v = t} {fall = fall} {cs = cs} k) = case_stays all (Case t x fall cs) k
 
-  branch_flag : (e : ℕ) (d : Bool) (s : Step) (x : Body) (part : Part s x) → BranchOn e s x part → V e → IsTrue (part_flag varies killing d part)
+  branch_flag : (e : ℕ) (d : Bool) (s : Step) (x : Body) (part : Part s x) → BranchOn e s x part → V e →
+      IsTrue (part_flag varies killing d part)
   branch_flag e d _ x _ accepts v = or_right d (varies e) v
   branch_flag e d _ x _ rejects v = or_right d (varies e) v
   branch_flag e d _ x _ (selects {all = all} {v = t} {fall = fall} {cs = cs} k) v =
@@ -63,7 +69,8 @@ module _ (varies killing : ℕ → Bool) (root : Body) where
 
   cases_from : (d : Bool) (all cs : Cases) (k : CasesIn all cs) → IsTrue (cx d (case_flag varies killing d k) cs) → IsTrue (cx d d all)
   cases_from d all _ from_first h = h
-  cases_from d all cs (after {v = t} {x = x} {fall = fall} k) h = cases_from d all (Case t x fall cs) k (or_right (bx (case_flag varies killing d k) x) _ h)
+  cases_from d all cs (after {v = t} {x = x} {fall = fall} k) h =
+      cases_from d all (Case t x fall cs) k (or_right (bx (case_flag varies killing d k) x) _ h)
 
   exits_by_part : (d : Bool) (s : Step) (x : Body) (part : Part s x) → IsTrue (bx (part_flag varies killing d part) x) → IsTrue (sx d s)
   exits_by_part d _ x inner h = h
@@ -85,9 +92,11 @@ module _ (varies killing : ℕ → Bool) (root : Body) where
     of_disrupted _ _ (in_branch {s = s} {x = x} {e = e} p {part = part} o v) = branch_flag e (F p) s x part o v
     of_disrupted _ _ (in_continuing {x = x} {p = p} h) = or_right (F p) (bx (F p) x) (of_blocks _ _ h)
     of_disrupted _ _ (fallen_into {x = x} {e = e} {p = p} {k = k} d) =
-        fallen_flag (F p || varies e) (case_flag varies killing (F p || varies e) k) (bx (case_flag varies killing (F p || varies e) k) x) (or_left _ _ (of_disrupted _ _ d))
+        fallen_flag (F p || varies e) (case_flag varies killing (F p || varies e) k) (bx (case_flag varies killing (F p || varies e) k) x)
+        (or_left _ _ (of_disrupted _ _ d))
     of_disrupted _ _ (fallen_out {x = x} {e = e} {p = p} {k = k} h) =
-        fallen_flag (F p || varies e) (case_flag varies killing (F p || varies e) k) (bx (case_flag varies killing (F p || varies e) k) x) (or_right _ _ (of_blocks _ _ h))
+        fallen_flag (F p || varies e) (case_flag varies killing (F p || varies e) k) (bx (case_flag varies killing (F p || varies e) k) x)
+        (or_right _ _ (of_blocks _ _ h))
     of_disrupted _ _ (later {s = s} {p = p} d) = or_left (F p) (sx (F p) s) (of_disrupted _ _ d)
     of_disrupted _ _ (behind {s = s} {p = p} x) = or_right (F p) (sx (F p) s) (of_exits _ _ _ x)
 
@@ -106,14 +115,20 @@ module _ (varies killing : ℕ → Bool) (root : Body) where
   CaseHolds p NoCase k = Unit {0}
   CaseHolds {e} p (Case t x fall cs) k = IsTrue (case_flag varies killing (F p || varies e) k) → D x (inside p (case_of k))
 
-  next_holds : (e : ℕ) (all : Cases) (b : Body) (p : At root (Then (Switch e all) b)) (t : SwitchValue) (x : Body) (fall : Bool) (cs : Cases) (k : CasesIn all (Case t x fall cs)) →
+  next_holds : (e : ℕ) (all : Cases) (b : Body) (p : At root (Then (Switch e all) b)) (t : SwitchValue) (x : Body) (fall : Bool)
+      (cs : Cases) (k : CasesIn all (Case t x fall cs)) →
       (IsTrue (F p) → D _ p) → CaseHolds p (Case t x fall cs) k →
       (IsTrue (bx (case_flag varies killing (F p || varies e) k) x) → BX x (inside p (case_of k))) → CaseHolds p cs (after k)
   next_holds e all b p t x fall NoCase k hd hk hx = tt
   next_holds e all b p t x false (Case u y fall' cs) k hd hk hx =
-      λ h. elim (or_cases (F p || varies e) false h) [ inl f ↦ elim (or_cases (F p) (varies e) f) [ inl d ↦ in_disrupted (hd d) | inr v ↦ in_branch p (selects (after k)) v ] | inr never ↦ absurd (cc) ]
+      λ h. elim (or_cases (F p || varies e) false h) [
+        | inl f ↦ elim (or_cases (F p) (varies e) f)
+            [ inl d ↦ in_disrupted (hd d) | inr v ↦ in_branch p (selects (after k)) v ]
+        | inr never ↦ absurd (cc)
+      ]
   next_holds e all b p t x true (Case u y fall' cs) k hd hk hx =
-      λ h. elim (or_cases (F p || varies e) (case_flag varies killing (F p || varies e) k || bx (case_flag varies killing (F p || varies e) k) x) h) [
+      λ h. elim (or_cases (F p || varies e) (case_flag varies killing (F p || varies e) k
+      || bx (case_flag varies killing (F p || varies e) k) x) h) [
         | inl f ↦ elim (or_cases (F p) (varies e) f) [ inl d ↦ in_disrupted (hd d) | inr v ↦ in_branch p (selects (after k)) v ]
         | inr g ↦ elim (or_cases (case_flag varies killing (F p || varies e) k) (bx (case_flag varies killing (F p || varies e) k) x) g) [
           | inl c ↦ fallen_into (hk c)
@@ -123,9 +138,11 @@ module _ (varies killing : ℕ → Bool) (root : Body) where
 
   first_holds : (e : ℕ) (all : Cases) (b : Body) (p : At root (Then (Switch e all) b)) → (IsTrue (F p) → D _ p) → CaseHolds p all from_first
   first_holds e NoCase b p hd = tt
-  first_holds e (Case t x fall cs) b p hd = λ h. elim (or_cases (F p) (varies e) h) [ inl d ↦ in_disrupted (hd d) | inr v ↦ in_branch p (selects from_first) v ]
+  first_holds e (Case t x fall cs) b p hd = λ h. elim (or_cases (F p) (varies e) h)
+      [ inl d ↦ in_disrupted (hd d) | inr v ↦ in_branch p (selects from_first) v ]
 
-  leaf_exits : (l : Simple) (b : Body) (p : At root (Then (Leaf l) b)) → (IsTrue (F p) → D _ p) → IsTrue (simple_exits varies killing (F p) l) → X (Leaf l) b p
+  leaf_exits : (l : Simple) (b : Body) (p : At root (Then (Leaf l) b)) → (IsTrue (F p) → D _ p) →
+      IsTrue (simple_exits varies killing (F p) l) → X (Leaf l) b p
   leaf_exits (Emit from to) b p hd h = absurd (cc)
   leaf_exits Break b p hd h = absurd (cc)
   leaf_exits Continue b p hd h = absurd (cc)
@@ -151,13 +168,19 @@ module _ (varies killing : ℕ → Bool) (root : Body) where
     to_exits (Leaf simple) b p hd h = leaf_exits simple b p hd h
     to_exits (Nested x) b p hd h = contains (to_blocks x (inside p inner) (λ f. in_disrupted (hd f)) h)
     to_exits (If c x y) b p hd h = elim (or_cases (bx (F p || varies c) x) (bx (F p || varies c) y) h) [
-      | inl g ↦ contains (to_blocks x (inside p accept) (λ f. elim (or_cases (F p) (varies c) f) [ inl d ↦ in_disrupted (hd d) | inr v ↦ in_branch p accepts v ]) g)
-      | inr g ↦ contains (to_blocks y (inside p reject) (λ f. elim (or_cases (F p) (varies c) f) [ inl d ↦ in_disrupted (hd d) | inr v ↦ in_branch p rejects v ]) g)
+      | inl g ↦ contains (to_blocks x (inside p accept) (λ f. elim (or_cases (F p) (varies c) f)
+          [ inl d ↦ in_disrupted (hd d) | inr v ↦ in_branch p accepts v ]) g)
+      | inr g ↦ contains (to_blocks y (inside p reject) (λ f. elim (or_cases (F p) (varies c) f)
+          [ inl d ↦ in_disrupted (hd d) | inr v ↦ in_branch p rejects v ]) g)
     ]
     to_exits (Loop x y k) b p hd h = elim (or_cases (bx (F p) x) (bx (F p || bx (F p) x) y) h) [
       | inl g ↦ contains (to_blocks x (inside p body) (λ f. in_disrupted (hd f)) g)
       | inr g ↦ contains (to_blocks y (inside p continuing)
-          (λ f. elim (or_cases (F p) (bx (F p) x) f) [ inl d ↦ in_disrupted (hd d) | inr i ↦ in_continuing (to_blocks x (inside p body) (λ f'. in_disrupted (hd f')) i) ]) g)
+          (λ f. elim (or_cases (F p) (bx (F p) x) f) [
+            | inl d ↦ in_disrupted (hd d)
+            | inr i ↦ in_continuing
+                (to_blocks x (inside p body) (λ f'. in_disrupted (hd f')) i)
+          ]) g)
     ]
     to_exits (Switch e cs) b p hd h = to_cases cs e cs b p from_first hd (first_holds e cs b p hd) h
 
@@ -165,31 +188,43 @@ module _ (varies killing : ℕ → Bool) (root : Body) where
     to_blocks End p hd h = absurd (cc)
     to_blocks (Then s b) p hd h = elim (or_cases (sx (F p) s) (bx (F p || sx (F p) s) b) h) [
       | inl g ↦ first (to_exits s b p hd g)
-      | inr g ↦ further (to_blocks b (rest p) (λ f. elim (or_cases (F p) (sx (F p) s) f) [ inl d ↦ later (hd d) | inr i ↦ behind (to_exits s b p hd i) ]) g)
+      | inr g ↦ further (to_blocks b (rest p) (λ f. elim (or_cases (F p) (sx (F p) s) f)
+          [ inl d ↦ later (hd d) | inr i ↦ behind (to_exits s b p hd i) ]) g)
     ]
 
-    to_cases : (cs : Cases) (e : ℕ) (all : Cases) (b : Body) (p : At root (Then (Switch e all) b)) (k : CasesIn all cs) → (IsTrue (F p) → D _ p) →
+    to_cases : (cs : Cases) (e : ℕ) (all : Cases) (b : Body) (p : At root (Then (Switch e all) b)) (k : CasesIn all cs) →
+        (IsTrue (F p) → D _ p) →
         CaseHolds p cs k → IsTrue (cx (F p || varies e) (case_flag varies killing (F p || varies e) k) cs) → X (Switch e all) b p
     to_cases NoCase e all b p k hd hk h = absurd (cc)
     to_cases (Case t x fall cs) e all b p k hd hk h =
-        elim (or_cases (bx (case_flag varies killing (F p || varies e) k) x) (cx (F p || varies e) (case_flag varies killing (F p || varies e) (after k)) cs) h) [
+        elim (or_cases (bx (case_flag varies killing (F p || varies e) k) x)
+        (cx (F p || varies e) (case_flag varies killing (F p || varies e) (after k)) cs) h) [
           | inl g ↦ contains (to_blocks x (inside p (case_of k)) hk g)
-          | inr g ↦ to_cases cs e all b p (after k) hd (next_holds e all b p t x fall cs k hd hk (λ g'. to_blocks x (inside p (case_of k)) hk g')) g
+          | inr g ↦ to_cases cs e all b p (after k) hd (next_holds e all b p t x fall cs k hd hk
+              (λ g'. to_blocks x (inside p (case_of k)) hk g')) g
         ]
 
-  case_holds : (e : ℕ) (all cs : Cases) (b : Body) (p : At root (Then (Switch e all) b)) → (IsTrue (F p) → D _ p) → (k : CasesIn all cs) → CaseHolds p cs k
+  case_holds : (e : ℕ) (all cs : Cases) (b : Body) (p : At root (Then (Switch e all) b)) → (IsTrue (F p) → D _ p) → (k : CasesIn all cs) →
+      CaseHolds p cs k
   case_holds e all _ b p hd from_first = first_holds e all b p hd
   case_holds e all cs b p hd (after {v = t} {x = x} {fall = fall} k) =
       let before = case_holds e all (Case t x fall cs) b p hd k in
       next_holds e all b p t x fall cs k hd before (to_blocks x (inside p (case_of k)) before)
 
-  part_holds : (s : Step) (b x : Body) (p : At root (Then s b)) (part : Part s x) → (IsTrue (F p) → D _ p) → IsTrue (part_flag varies killing (F p) part) → D x (inside p part)
+  part_holds : (s : Step) (b x : Body) (p : At root (Then s b)) (part : Part s x) → (IsTrue (F p) → D _ p) →
+      IsTrue (part_flag varies killing (F p) part) → D x (inside p part)
   part_holds _ b x p inner hd h = in_disrupted (hd h)
   part_holds _ b x p body hd h = in_disrupted (hd h)
-  part_holds _ b x p (accept {c = c}) hd h = elim (or_cases (F p) (varies c) h) [ inl d ↦ in_disrupted (hd d) | inr v ↦ in_branch p accepts v ]
-  part_holds _ b x p (reject {c = c}) hd h = elim (or_cases (F p) (varies c) h) [ inl d ↦ in_disrupted (hd d) | inr v ↦ in_branch p rejects v ]
+  part_holds _ b x p (accept {c = c}) hd h = elim (or_cases (F p) (varies c) h)
+      [ inl d ↦ in_disrupted (hd d) | inr v ↦ in_branch p accepts v ]
+  part_holds _ b x p (reject {c = c}) hd h = elim (or_cases (F p) (varies c) h)
+      [ inl d ↦ in_disrupted (hd d) | inr v ↦ in_branch p rejects v ]
   part_holds _ b y p (continuing {x = x}) hd h =
-      elim (or_cases (F p) (bx (F p) x) h) [ inl d ↦ in_disrupted (hd d) | inr i ↦ in_continuing (to_blocks x (inside p body) (λ f. in_disrupted (hd f)) i) ]
+      elim (or_cases (F p) (bx (F p) x) h) [
+        | inl d ↦ in_disrupted (hd d)
+        | inr i ↦ in_continuing
+            (to_blocks x (inside p body) (λ f. in_disrupted (hd f)) i)
+      ]
   part_holds _ b x p (case_of {e = e} {all = all} {v = t} {fall = fall} {cs = cs} k) hd h = case_holds e all (Case t x fall cs) b p hd k h
 
   to_disrupted : (b : Body) (p : At root b) → IsTrue (F p) → D b p

@@ -37,23 +37,28 @@ type_or other (Given resolution) = resolution
 type_or other (Refused refusal) = other
 
 module _ (context : Context) (expressions : List Expression) where
-  same_row : (e : ℕ) (x y : Expression) (r s : Row) → slice_get expressions e ≡ Some x → slice_get expressions e ≡ Some y → row context x ≡ r → row context y ≡ s → r ≡ s
+  same_row : (e : ℕ) (x y : Expression) (r s : Row) → slice_get expressions e ≡ Some x → slice_get expressions e ≡ Some y →
+      row context x ≡ r → row context y ≡ s → r ≡ s
   same_row e x y r s is_x is_y is_r is_s = sym is_r ∙ (ap (row context) (same_Some x y (sym is_x ∙ is_y)) ∙ is_s)
 
   mutual
-    one_answer : (e : ℕ) (outcome other : Outcome) → Answers context expressions e outcome → Answers context expressions e other → outcome ≡ other
+    one_answer : (e : ℕ) (outcome other : Outcome) → Answers context expressions e outcome → Answers context expressions e other →
+        outcome ≡ other
     one_answer e _ _ (plain {x = x} is r) (plain {x = y} is' r') = let rows = same_row e x y _ _ is is' r r' in cc
     one_answer e _ _ (plain {x = x} is r) (by_one {x = y} is' r' told') = let rows = same_row e x y _ _ is is' r r' in absurd (cc)
     one_answer e _ _ (plain {x = x} is r) (by_two {x = y} is' r' first' second') = let rows = same_row e x y _ _ is is' r r' in absurd (cc)
     one_answer e _ _ (by_one {x = x} is r told) (plain {x = y} is' r') = let rows = same_row e x y _ _ is is' r r' in absurd (cc)
-    one_answer e _ _ (by_one {operand = o} {x = x} {answer = f} {told = t} is r told) (by_one {operand = p} {x = y} {answer = g} {told = u} is' r' told') =
+    one_answer e _ _ (by_one {operand = o} {x = x} {answer = f} {told = t} is r told)
+        (by_one {operand = p} {x = y} {answer = g} {told = u} is' r' told') =
         let rows = same_row e x y (One o f) (One p g) is is' r r' in
         let operands : o ≡ p = ap first_asked rows in
         let types : t ≡ u = one_type p t u (subst (λ v. Derives context expressions v t) operands told) told' in
         ap (λ v. answered v t t) rows ∙ ap g types
-    one_answer e _ _ (by_one {x = x} is r told) (by_two {x = y} is' r' first' second') = let rows = same_row e x y _ _ is is' r r' in absurd (cc)
+    one_answer e _ _ (by_one {x = x} is r told) (by_two {x = y} is' r' first' second') = let rows =
+        same_row e x y _ _ is is' r r' in absurd (cc)
     one_answer e _ _ (by_two {x = x} is r first second) (plain {x = y} is' r') = let rows = same_row e x y _ _ is is' r r' in absurd (cc)
-    one_answer e _ _ (by_two {x = x} is r first second) (by_one {x = y} is' r' told') = let rows = same_row e x y _ _ is is' r r' in absurd (cc)
+    one_answer e _ _ (by_two {x = x} is r first second) (by_one {x = y} is' r' told') = let rows =
+        same_row e x y _ _ is is' r r' in absurd (cc)
     one_answer e _ _ (by_two {left = l} {right = k} {x = x} {answer = f} {first = a} {second = b} is r first second)
         (by_two {left = l'} {right = k'} {x = y} {answer = g} {first = a'} {second = b'} is' r' first' second') =
         let rows = same_row e x y (Two l k f) (Two l' k' g) is is' r r' in
@@ -63,7 +68,8 @@ module _ (context : Context) (expressions : List Expression) where
         let seconds : b ≡ b' = one_type k' b b' (subst (λ v. Derives context expressions v b) rights second) second' in
         ap (λ v. answered v a b) rows ∙ (ap (λ v. g v b) firsts ∙ ap (g a') seconds)
 
-    one_type : (e : ℕ) (resolution other : TypeResolution) → Derives context expressions e resolution → Derives context expressions e other → resolution ≡ other
+    one_type : (e : ℕ) (resolution other : TypeResolution) → Derives context expressions e resolution →
+        Derives context expressions e other → resolution ≡ other
     one_type e resolution other (given {outcome = o} answers is) (given {outcome = p} answers' is') =
         ap (type_or resolution) (sym is ∙ (one_answer e o p answers answers' ∙ is'))
 
@@ -74,8 +80,10 @@ types_are_unique context expressions e resolution (given {outcome = o} answers i
 )
 
 module _ (context : Context) (expressions : List Expression) (keys : ℕ → Option Key)
-    (told_keys : (e : ℕ) (resolution : TypeResolution) → Derives context expressions e resolution → keys e ≡ Some (key_of context.types resolution)) where
-  row_at : (e : ℕ) (x y : Expression) (r : Row) → slice_get expressions e ≡ Some x → slice_get expressions e ≡ Some y → row context y ≡ r → row context x ≡ r
+    (told_keys : (e : ℕ) (resolution : TypeResolution) → Derives context expressions e resolution →
+    keys e ≡ Some (key_of context.types resolution)) where
+  row_at : (e : ℕ) (x y : Expression) (r : Row) → slice_get expressions e ≡ Some x → slice_get expressions e ≡ Some y → row context y ≡ r →
+      row context x ≡ r
   row_at e x y r is_x is_y is_r = ap (row context) (same_Some x y (sym is_x ∙ is_y)) ∙ is_r
 
   answer_key : (e : ℕ) (x : Expression) (o : Outcome) → slice_get expressions e ≡ Some x → Answers context expressions e o →
@@ -91,7 +99,8 @@ module _ (context : Context) (expressions : List Expression) (keys : ℕ → Opt
       ap (row_key context.types keys) (row_at e x y (Two l p f) is is' r)
       ∙ (ap (λ k. at_key k (λ v. at_key (keys p) (λ w. outcome_key context.types (f v w)))) (told_keys l t first)
       ∙ (ap (λ k. at_key k (λ w. outcome_key context.types (f (standing (key_of context.types t)) w))) (told_keys p u second)
-      ∙ respects (standing (key_of context.types t)) t (standing (key_of context.types u)) u (key_of-standing context.types t) (key_of-standing context.types u)))
+      ∙ respects (standing (key_of context.types t)) t (standing (key_of context.types u)) u (key_of-standing context.types t)
+      (key_of-standing context.types u)))
 
 pub derived_types_have_keys : DerivedTypesHaveKeys
 derived_types_have_keys context expressions keys told_keys e x resolution is (given {outcome = o} answers told) =
@@ -99,7 +108,8 @@ derived_types_have_keys context expressions keys told_keys e x resolution is (gi
 
 pub severities_are_unique : SeveritiesAreUnique
 severities_are_unique filters _ _ _ unfiltered unfiltered = refl
-severities_are_unique filters _ _ _ (by_filter {filter = a} is r) (by_filter {filter = b} is' r') = ap (λ (v : DiagnosticFilterNode). v.severity) (same_Some a b (sym is ∙ is'))
+severities_are_unique filters _ _ _ (by_filter {filter = a} is r) (by_filter {filter = b} is' r') =
+    ap (λ (v : DiagnosticFilterNode). v.severity) (same_Some a b (sym is ∙ is'))
 severities_are_unique filters _ _ _ (by_filter {filter = a} is r) (by_parent {filter = b} is' r' rest) =
     let same : a ≡ b = same_Some a b (sym is ∙ is') in
     let rules : rule.DerivativeUniformity ≡ rule.Other = sym r ∙ (ap (λ (v : DiagnosticFilterNode). v.rule) same ∙ r') in absurd (cc)
@@ -108,4 +118,5 @@ severities_are_unique filters _ _ _ (by_parent {filter = a} is r rest) (by_filte
     let rules : rule.Other ≡ rule.DerivativeUniformity = sym r ∙ (ap (λ (v : DiagnosticFilterNode). v.rule) same ∙ r') in absurd (cc)
 severities_are_unique filters _ grave other (by_parent {filter = a} is r rest) (by_parent {filter = b} is' r' rest') =
     let same : a ≡ b = same_Some a b (sym is ∙ is') in
-    severities_are_unique filters b.parent grave other (subst (λ (v : DiagnosticFilterNode). Governs filters v.parent grave) same rest) rest'
+    severities_are_unique filters b.parent grave other (subst (λ (v : DiagnosticFilterNode). Governs filters v.parent grave)
+    same rest) rest'

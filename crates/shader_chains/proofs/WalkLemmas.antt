@@ -1,11 +1,18 @@
 -- Two alike walks pass the same undisrupted places.
-use Rattle.std.proofs.Common.{◌≡◌, refl, sym, ◌∙◌, ℕ, ◌+◌, ◌≤◌, ◌<◌, Bool, true, false, List, Option, Some, None, ◌⊎◌, inl, inr, arith, subst, IsTrue}
+use Rattle.std.proofs.Common.{◌≡◌, refl, sym, ◌∙◌, ℕ, ◌+◌, ◌≤◌, ◌<◌, Bool, true, false, List}
+use Rattle.std.proofs.Common.{Option, Some, None, ◌⊎◌, inl, inr, arith, subst, IsTrue}
 use Rattle.std.proofs.lemmas.Option.{same_Some}
 use Rattle.std.proofs.Math.Nat.{eq-or-lt_of_le}
 use Rattle.shader_ir.specs.declared.statement.SwitchValue.{SwitchValue}
-use Rattle.shader_chains.specs.Program.{Function, Module, Step, Leaf, Simple, Emit, Break, Continue, Return, Kill, ControlBarrier, MemoryBarrier, Store, ImageStore, Atomic, ImageAtomic, WorkGroupUniformLoad, Call, RayQuery, RayPipeline, SubgroupBallot, SubgroupGather, SubgroupCollectiveOperation, CooperativeStore, Nested, If, Switch, Loop, Body, End, Then, Cases, NoCase, Case}
-use Rattle.shader_chains.specs.Flow.{At, start, rest, inside, Part, inner, accept, reject, body, continuing, case_of, CasesIn, from_first, after, BranchOn, accepts, rejects, selects, Disrupted, Exits, BlockExits, in_disrupted, in_branch, in_continuing, fallen_into, fallen_out, later, behind, returns, kills, calls, contains, first, further}
-use Rattle.shader_chains.specs.Walks.{HasNoLoop, Walk, count, number, Enters, to_inner, to_accept, to_reject, selected, fallen, Finishes, at_end, on, Leaves, simply, call, through, past, Passes, starts, into, Alike, AlikeWalksAgree}
+use Rattle.shader_chains.specs.Program.{Function, Module, Step, Leaf, Simple, Emit, Break, Continue, Return, Kill, ControlBarrier}
+use Rattle.shader_chains.specs.Program.{MemoryBarrier, Store, ImageStore, Atomic, ImageAtomic, WorkGroupUniformLoad, Call, RayQuery}
+use Rattle.shader_chains.specs.Program.{RayPipeline, SubgroupBallot, SubgroupGather, SubgroupCollectiveOperation, CooperativeStore}
+use Rattle.shader_chains.specs.Program.{Nested, If, Switch, Loop, Body, End, Then, Cases, NoCase, Case}
+use Rattle.shader_chains.specs.Flow.{At, start, rest, inside, Part, inner, accept, reject, body, continuing, case_of, CasesIn, from_first}
+use Rattle.shader_chains.specs.Flow.{after, BranchOn, accepts, rejects, selects, Disrupted, Exits, BlockExits, in_disrupted, in_branch}
+use Rattle.shader_chains.specs.Flow.{in_continuing, fallen_into, fallen_out, later, behind, returns, kills, calls, contains, first, further}
+use Rattle.shader_chains.specs.Walks.{HasNoLoop, Walk, count, number, Enters, to_inner, to_accept, to_reject, selected, fallen, Finishes}
+use Rattle.shader_chains.specs.Walks.{at_end, on, Leaves, simply, call, through, past, Passes, starts, into, Alike, AlikeWalksAgree}
 use Rattle.shader_ir.specs.declared.module.Severity.TheVariants as severity
 use Rattle.shader_chains.specs.Exact.{IsExact}
 use Rattle.shader_chains.specs.Faults.{Settings, Cause, NonUniformControlFlow, IsFault, IsOriginOf, PairAt, misplaced}
@@ -43,11 +50,13 @@ module _ (V K : ℕ → Type 0) (decided : (e : ℕ) → V e ⊎ (V e → ⊥)) 
   Why _ (rest p) = D _ p ⊎ X _ _ p
   Why _ (inside p part) = Reason _ _ _ p part
 
-  next_branch : {n e : ℕ} {all cs : Cases} {t u : SwitchValue} {x y : Body} {fall : Bool} (k : CasesIn all (Case t x true (Case u y fall cs))) →
+  next_branch : {n e : ℕ} {all cs : Cases} {t u : SwitchValue} {x y : Body} {fall : Bool}
+      (k : CasesIn all (Case t x true (Case u y fall cs))) →
       BranchOn n (Switch e all) x (case_of k) → BranchOn n (Switch e all) y (case_of (after k))
   next_branch _ (selects k) = selects (after k)
 
-  next_case : {e : ℕ} {all cs : Cases} {t u : SwitchValue} {b x y : Body} {fall : Bool} {p : At root (Then (Switch e all) b)} {k : CasesIn all (Case t x true (Case u y fall cs))} →
+  next_case : {e : ℕ} {all cs : Cases} {t u : SwitchValue} {b x y : Body} {fall : Bool} {p : At root (Then (Switch e all) b)}
+      {k : CasesIn all (Case t x true (Case u y fall cs))} →
       Reason (Switch e all) b x p (case_of k) → Reason (Switch e all) b y p (case_of (after k))
   next_case (by_statement d) = by_statement d
   next_case (by_exit x) = by_exit x
@@ -89,7 +98,8 @@ module _ (V K : ℕ → Type 0) (decided : (e : ℕ) → V e ⊎ (V e → ⊥)) 
   abbrev Varied : (s : Step) (x : Body) → Part s x → Type 0
   Varied s x part = (e : ℕ) × BranchOn e s x part × V e
 
-  steady_if : (s : Step) (x : Body) (part : Part s x) (c : ℕ) → decided_by part ≡ Some c → BranchOn c s x part → (Varied s x part → ⊥) ⊎ Varied s x part
+  steady_if : (s : Step) (x : Body) (part : Part s x) (c : ℕ) → decided_by part ≡ Some c → BranchOn c s x part →
+      (Varied s x part → ⊥) ⊎ Varied s x part
   steady_if s x part c is branch = elim (decided c) [
     | inl v ↦ inr (c, branch, v)
     | inr never ↦ inl (λ h. never (subst V (same_Some h.0 c (sym (decides h.0 s x part h.1) ∙ is)) h.2))
@@ -105,7 +115,8 @@ module _ (V K : ℕ → Type 0) (decided : (e : ℕ) → V e ⊎ (V e → ⊥)) 
 
   -- each case of the switch at p is disrupted
   abbrev EachCase : {e : ℕ} {all : Cases} {b : Body} → At root (Then (Switch e all) b) → Type 0
-  EachCase {e} {all} {b} p = (t : SwitchValue) (x : Body) (fall : Bool) (cs : Cases) (k : CasesIn all (Case t x fall cs)) → D x (inside p (case_of k))
+  EachCase {e} {all} {b} p = (t : SwitchValue) (x : Body) (fall : Bool) (cs : Cases) (k : CasesIn all (Case t x fall cs)) →
+      D x (inside p (case_of k))
 
   module _ (plain : HasNoLoop root) where
     true_or_false : (b : Bool) → (b ≡ true) ⊎ (b ≡ false)
@@ -114,10 +125,12 @@ module _ (V K : ℕ → Type 0) (decided : (e : ℕ) → V e ⊎ (V e → ⊥)) 
 
     -- a walk comes to the end of a disrupted block that doesn't exit
     module _ (v : Walk K root) where
-      call_passed : {c : ℕ} {arguments : List ℕ} {result : Option ℕ} {b : Body} (p : At root (Then (Leaf (Call c arguments result)) b)) → (X _ _ p → ⊥) → v.ends p ≡ false
+      call_passed : {c : ℕ} {arguments : List ℕ} {result : Option ℕ} {b : Body} (p : At root (Then (Leaf (Call c arguments result)) b)) →
+          (X _ _ p → ⊥) → v.ends p ≡ false
       call_passed p nx = elim (true_or_false (v.ends p)) [ inl e ↦ absurd (nx (calls p (v.ends_by_kill p e))) | inr e ↦ e ]
 
-      by_choice : {c : ℕ} {x y b : Body} (p : At root (Then (If c x y) b)) → Finishes v x (inside p accept) → Finishes v y (inside p reject) →
+      by_choice : {c : ℕ} {x y b : Body} (p : At root (Then (If c x y) b)) → Finishes v x (inside p accept) →
+          Finishes v y (inside p reject) →
           Leaves v (If c x y) b p
       by_choice p to_x to_y =
           elim (true_or_false (v.accepts p)) [ inl e ↦ through (to_accept e) to_x refl | inr e ↦ through (to_reject e) to_y refl ]
@@ -164,26 +177,31 @@ module _ (V K : ℕ → Type 0) (decided : (e : ℕ) → V e ⊎ (V e → ⊥)) 
         find NoCase e all b p k n d is le = past (omega arith)
         find (Case t x fall cs) e all b p k n d is le =
             elim (eq-or-lt_of_le le) [
-              | inl same ↦ run cs t x fall e all b p k n d (selected k (sym same)) (always x (inside p (case_of k)) (d t x fall cs k) (λ bx. n (contains bx)))
+              | inl same ↦ run cs t x fall e all b p k n d (selected k (sym same))
+                  (always x (inside p (case_of k)) (d t x fall cs k) (λ bx. n (contains bx)))
               | inr lt ↦ find cs e all b p (after k) n d (omega arith) lt
             ]
 
-        run : (cs : Cases) (t : SwitchValue) (x : Body) (fall : Bool) (e : ℕ) (all : Cases) (b : Body) (p : At root (Then (Switch e all) b)) (k : CasesIn all (Case t x fall cs)) → (X _ _ p → ⊥) →
+        run : (cs : Cases) (t : SwitchValue) (x : Body) (fall : Bool) (e : ℕ) (all : Cases) (b : Body) (p : At root (Then (Switch e all) b))
+            (k : CasesIn all (Case t x fall cs)) → (X _ _ p → ⊥) →
             EachCase p →
             Enters v _ _ x p (case_of k) → Finishes v x (inside p (case_of k)) → Leaves v (Switch e all) b p
         run NoCase t x true e all b p k n d enters finishes = through enters finishes refl
         run NoCase t x false e all b p k n d enters finishes = through enters finishes refl
         run (Case u y fall' cs) t x false e all b p k n d enters finishes = through enters finishes refl
         run (Case u y fall' cs) t x true e all b p k n d enters finishes =
-            run cs u y fall' e all b p (after k) n d (fallen enters finishes) (always y (inside p (case_of (after k))) (d u y fall' cs (after k)) (λ bx. n (contains bx)))
+            run cs u y fall' e all b p (after k) n d (fallen enters finishes)
+            (always y (inside p (case_of (after k))) (d u y fall' cs (after k)) (λ bx. n (contains bx)))
 
       -- likewise where a Switch selects by a value that varies
-      varying_switch : (e : ℕ) (all : Cases) (b : Body) (p : At root (Then (Switch e all) b)) → V e → (X _ b p → ⊥) → Leaves v (Switch e all) b p
+      varying_switch : (e : ℕ) (all : Cases) (b : Body) (p : At root (Then (Switch e all) b)) → V e → (X _ b p → ⊥) →
+          Leaves v (Switch e all) b p
       varying_switch e all b p ve nx =
           find all e all b p from_first nx (λ _ _ _ _ k. in_branch p (selects k) ve) (omega arith) (omega arith)
 
       -- and where any block is entered by such a value
-      varying_part : (s : Step) (b x : Body) (p : At root (Then s b)) (part : Part s x) (e : ℕ) → BranchOn e s x part → V e → (X s b p → ⊥) → Leaves v s b p
+      varying_part : (s : Step) (b x : Body) (p : At root (Then s b)) (part : Part s x) (e : ℕ) → BranchOn e s x part → V e →
+          (X s b p → ⊥) → Leaves v s b p
       varying_part _ b x p _ e (accepts {y = y}) ve nx =
           by_choice p (always x (inside p accept) (in_branch p accepts ve) (λ bx. nx (contains bx)))
           (always y (inside p reject) (in_branch p rejects ve) (λ bx. nx (contains bx)))
@@ -194,7 +212,8 @@ module _ (V K : ℕ → Type 0) (decided : (e : ℕ) → V e ⊎ (V e → ⊥)) 
 
     -- two alike walks
     module _ (w v : Walk K root) (alike : Alike V w v) where
-      of_past : (e : ℕ) (all : Cases) (b : Body) (p : At root (Then (Switch e all) b)) → count all ≤ w.selects p → Passes w _ p → Passes v _ p →
+      of_past : (e : ℕ) (all : Cases) (b : Body) (p : At root (Then (Switch e all) b)) → count all ≤ w.selects p → Passes w _ p →
+          Passes v _ p →
           (X _ b p → ⊥) → Leaves v (Switch e all) b p
       of_past e all b p le pw pv nx = elim (decided e) [
         | inl ve ↦ varying_switch v e all b p ve nx
@@ -211,15 +230,18 @@ module _ (V K : ℕ → Type 0) (decided : (e : ℕ) → V e ⊎ (V e → ⊥)) 
         enters_too _ _ _ p _ (selected k e) pw pv nd = selected k (sym (alike.cases p pw pv (λ ve. nd (in_branch p (selects k) ve))) ∙ e)
         enters_too _ _ _ p _ (fallen {k = k} enters finishes) pw pv nd =
             let before = enters_too _ _ _ p (case_of k) enters pw pv (λ d. nd (fallen_into d)) in
-            fallen before (finishes_too _ (inside p (case_of k)) finishes (into pw enters) (into pv before) (λ d. nd (fallen_into d)) (λ bx. nd (fallen_out bx)))
+            fallen before (finishes_too _ (inside p (case_of k)) finishes (into pw enters) (into pv before) (λ d. nd (fallen_into d))
+            (λ bx. nd (fallen_out bx)))
 
-        finishes_too : (b : Body) (q : At root b) → Finishes w b q → Passes w b q → Passes v b q → (D b q → ⊥) → (BX b q → ⊥) → Finishes v b q
+        finishes_too : (b : Body) (q : At root b) → Finishes w b q → Passes w b q → Passes v b q → (D b q → ⊥) → (BX b q → ⊥) →
+            Finishes v b q
         finishes_too _ q at_end pw pv nd nbx = at_end
         finishes_too _ q (on l f) pw pv nd nbx =
             let l' = leaves_too _ _ q l pw pv nd (λ x. nbx (first x)) in
             on l' (finishes_too _ (rest q) f (on pw l) (on pv l') (rest_stays _ _ q nd (λ x. nbx (first x))) (λ bx. nbx (further bx)))
 
-        leaves_too : (s : Step) (b : Body) (p : At root (Then s b)) → Leaves w s b p → Passes w _ p → Passes v _ p → (D _ p → ⊥) → (X s b p → ⊥) →
+        leaves_too : (s : Step) (b : Body) (p : At root (Then s b)) → Leaves w s b p → Passes w _ p → Passes v _ p → (D _ p → ⊥) →
+            (X s b p → ⊥) →
             Leaves v s b p
         leaves_too _ _ p (simply t) pw pv nd nx = simply t
         leaves_too _ _ p (call e) pw pv nd nx = call (call_passed v p nx)
@@ -249,8 +271,10 @@ module _ (V K : ℕ → Type 0) (decided : (e : ℕ) → V e ⊎ (V e → ⊥)) 
   }
 
 pub alike_walks_agree : (V K : ℕ → Type 0) → ((e : ℕ) → V e ⊎ (V e → ⊥)) → (root : Body) → HasNoLoop root → AlikeWalksAgree V K root
-alike_walks_agree V K decided root plain w v alike b p nd =
-    (λ pw. passes_too V K decided root plain w v alike b p pw nd, λ pv. passes_too V K decided root plain v w (turned V K decided root w v alike) b p pv nd)
+alike_walks_agree V K decided root plain w v alike b p nd = (
+  λ pw. passes_too V K decided root plain w v alike b p pw nd,
+  λ pv. passes_too V K decided root plain v w (turned V K decided root w v alike) b p pv nd,
+)
 
 pub disruption_means_divergence : DisruptionMeansDivergence
 disruption_means_divergence m f decided plain = alike_walks_agree (HasOrigin m f) (KillsAt m) decided f.body plain
@@ -277,8 +301,10 @@ module _ (m : Module) (settings : Settings) (f : Function) (info : Info) (exact 
   turned_origin : (e : ℕ) → HasOrigin m f e → by_source e
   turned_origin e (r, h, origin) = (h, (r, origin))
 
-  pub flow_fault : (i j e : ℕ) (n : Need) (b : Body) (p : At f.body (Then (Leaf (Emit i j)) b)) → Disrupted (HasOrigin m f) (KillsAt m) f.body _ p →
-      i ≤ e → e < j → ExpressionNeeds m n f e → IsTrue settings.checks_flow → Governs m.diagnostic_filters f.diagnostic_filter_leaf severity.Error →
+  pub flow_fault : (i j e : ℕ) (n : Need) (b : Body) (p : At f.body (Then (Leaf (Emit i j)) b)) →
+      Disrupted (HasOrigin m f) (KillsAt m) f.body _ p →
+      i ≤ e → e < j → ExpressionNeeds m n f e → IsTrue settings.checks_flow →
+      Governs m.diagnostic_filters f.diagnostic_filter_leaf severity.Error →
       (cause : Cause) × IsFault m f settings cause
   flow_fault i j e n b p d le lt needs checks grave =
       let moved : Disrupted by_source (KillsAt m) f.body _ p =

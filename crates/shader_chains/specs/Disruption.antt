@@ -17,12 +17,15 @@ OriginsDecided m f = (e : ℕ) → HasOrigin m f e ⊎ (HasOrigin m f e → ⊥)
 
 -- two walks that choose alike where the choice has no origin pass the same undisrupted places
 abbrev pub DisruptionMeansDivergence : Type 0
-DisruptionMeansDivergence = (m : Module) (f : Function) → OriginsDecided m f → HasNoLoop f.body → AlikeWalksAgree (HasOrigin m f) (KillsAt m) f.body
+DisruptionMeansDivergence = (m : Module) (f : Function) → OriginsDecided m f → HasNoLoop f.body →
+    AlikeWalksAgree (HasOrigin m f) (KillsAt m) f.body
 
--- in an accepted function, where flow is checked and the filter says Error, two such walks pass the same Emits of expressions that need undisrupted flow
+-- in an accepted function, where flow is checked and the filter says Error, two such walks pass the same Emits of expressions that need
+-- undisrupted flow
 abbrev pub AcceptedWalksAgree : Type 0
 AcceptedWalksAgree = (m : Module) (settings : Settings) (f : Function) (info : Info) → IsExact m f info → HasNoLoop f.body →
-    IsTrue settings.checks_flow → Governs m.diagnostic_filters f.diagnostic_filter_leaf severity.Error → ((cause : Cause) → IsFault m f settings cause → ⊥) →
+    IsTrue settings.checks_flow → Governs m.diagnostic_filters f.diagnostic_filter_leaf severity.Error →
+    ((cause : Cause) → IsFault m f settings cause → ⊥) →
     (w v : Walk (KillsAt m) f.body) → Alike (HasOrigin m f) w v →
     (i j e : ℕ) (n : Need) (b : Body) (p : At f.body (Then (Leaf (Emit i j)) b)) → i ≤ e → e < j → ExpressionNeeds m n f e →
     Passes w _ p ↔ Passes v _ p

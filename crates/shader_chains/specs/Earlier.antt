@@ -9,13 +9,16 @@ use Rattle.shader_chains.specs.Infos.{IsOrdered, NamesEarlier}
 
 -- the operands of each expression are earlier ones
 abbrev pub PointsBackwards : List Expression → Type 0
-PointsBackwards expressions = (e : ℕ) (x : Expression) (o : ℕ × Label) → slice_get expressions e ≡ Some x → Contains (expression_operands x) o → o.0 < e
+PointsBackwards expressions = (e : ℕ) (x : Expression) (o : ℕ × Label) → slice_get expressions e ≡ Some x →
+    Contains (expression_operands x) o → o.0 < e
 
 pub record IsBackward (m : Module) : Type 0 where
   pub functions : IsOrdered m
-  pub entry_points : (i : ℕ) (entry : EntryPoint) → slice_get m.entry_points i ≡ Some entry → NamesEarlier (length m.functions) entry.function
+  pub entry_points : (i : ℕ) (entry : EntryPoint) → slice_get m.entry_points i ≡ Some entry →
+      NamesEarlier (length m.functions) entry.function
   pub expressions : (i : ℕ) (f : Function) → slice_get m.functions i ≡ Some f → PointsBackwards f.expressions
-  pub entry_expressions : (i : ℕ) (entry : EntryPoint) → slice_get m.entry_points i ≡ Some entry → PointsBackwards entry.function.expressions
+  pub entry_expressions : (i : ℕ) (entry : EntryPoint) → slice_get m.entry_points i ≡ Some entry →
+      PointsBackwards entry.function.expressions
   pub global_expressions : PointsBackwards m.global_expressions
   pub filters : HaveEarlierParents m.diagnostic_filters
 

@@ -26,7 +26,8 @@ pub record IsExact (m : Module) (f : Function) (info : Info) : Type 0 where
       Picks (λ h. (r : Function) × Origin m f e r h) o
   pub result : Picks (λ h. (r : Function) × ResultOrigin m f r h) info.non_uniform_result
   pub kills : IsTrue info.may_kill ↔ Kills m f
-  pub expression_needs : (n : Need) (e : ℕ) → e < length f.expressions → IsBitSet (slice_index info.expression_needs e) (bit_of_need n) ↔ ExpressionNeeds m n f e
+  pub expression_needs : (n : Need) (e : ℕ) → e < length f.expressions →
+      IsBitSet (slice_index info.expression_needs e) (bit_of_need n) ↔ ExpressionNeeds m n f e
   pub needs : (n : Need) → IsBitSet info.needs (bit_of_need n) ↔ Needs m n f
 
 -- one step: where the infos of the functions that f names are exact, and f's info meets the step equations, it is exact too
@@ -45,5 +46,6 @@ pub record IsExactModule (m : Module) (global_types : List TypeResolution) (func
   pub each_function : length functions ≡ length m.functions
   pub exact_functions : Pairwise (IsExact m) m functions
   pub each_entry_point : length entry_points ≡ length m.entry_points
-  pub exact_entry_points : (i : ℕ) (entry : EntryPoint) (info : Info) → slice_get m.entry_points i ≡ Some entry → slice_get entry_points i ≡ Some info →
+  pub exact_entry_points : (i : ℕ) (entry : EntryPoint) (info : Info) → slice_get m.entry_points i ≡ Some entry →
+      slice_get entry_points i ≡ Some info →
       IsExact m entry.function info

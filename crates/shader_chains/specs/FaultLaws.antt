@@ -14,7 +14,8 @@ use Rattle.shader_chains.specs.Faults.{Settings, Cause, StepFault, IsFault}
 use Rattle.shader_chains.specs.Filters.{Governs}
 use Rattle.shader_chains.specs.Infos.{Info, EachNamed}
 
--- where the infos of the functions that f names are exact, a fault by these infos is one over all chains, and where there is one over chains
+-- where the infos of the functions that f names are exact, a fault by these infos is one over all chains, and where there is one over
+-- chains
 -- there is one by the infos; only the source that a disruptor names may be another
 abbrev pub FaultsAgree : Type 0
 FaultsAgree = (m : Module) (infos : List Info) (f : Function) (settings : Settings) → EachNamed (IsExact m) m infos f →
@@ -23,7 +24,8 @@ FaultsAgree = (m : Module) (infos : List Info) (f : Function) (settings : Settin
 
 -- an expression has one type, and none where it is refused
 abbrev pub TypesAreUnique : Type 0
-TypesAreUnique = (context : Context) (expressions : List Expression) (e : ℕ) (resolution : TypeResolution) → Derives context expressions e resolution →
+TypesAreUnique = (context : Context) (expressions : List Expression) (e : ℕ) (resolution : TypeResolution) →
+    Derives context expressions e resolution →
     ((other : TypeResolution) → Derives context expressions e other → resolution ≡ other)
     × ((refusal : Refusal) → IsRefused context expressions e refusal → ⊥)
 
@@ -36,5 +38,6 @@ DerivedTypesHaveKeys = (context : Context) (expressions : List Expression) (keys
 
 -- a chain of filters gives one severity
 abbrev pub SeveritiesAreUnique : Type 0
-SeveritiesAreUnique = (filters : List DiagnosticFilterNode) (leaf : Option ℕ) (grave other : Severity) → Governs filters leaf grave → Governs filters leaf other →
+SeveritiesAreUnique = (filters : List DiagnosticFilterNode) (leaf : Option ℕ) (grave other : Severity) → Governs filters leaf grave →
+    Governs filters leaf other →
     grave ≡ other

@@ -80,12 +80,15 @@ pub record IndexesBindings (m : Module) (f : Function) (e index element : ℕ) :
 pub data Around (OriginOf : ℕ → ℕ → Type 0) (h : ℕ) (root : Body) : (b : Body) → At root b → Type 0 where
   branch : {s : Step} {b x : Body} {e : ℕ} (p : At root (Then s b)) {part : Part s x} → BranchOn e s x part → OriginOf e h →
       Around OriginOf h root _ (inside p part)
-  deeper : {s : Step} {b x : Body} {p : At root (Then s b)} {part : Part s x} → Around OriginOf h root _ p → Around OriginOf h root _ (inside p part)
+  deeper : {s : Step} {b x : Body} {p : At root (Then s b)} {part : Part s x} → Around OriginOf h root _ p →
+      Around OriginOf h root _ (inside p part)
   later : {s : Step} {b : Body} {p : At root (Then s b)} → Around OriginOf h root _ p → Around OriginOf h root _ (rest p)
 
--- `OriginOf e h`: h is an origin of expression e. `Kills c`: the function at place c kills. `NeededBy n e`: expression e needs n of the flow.
+-- `OriginOf e h`: h is an origin of expression e. `Kills c`: the function at place c kills. `NeededBy n e`: expression e needs n of the
+-- flow.
 -- `PairOf c p q`: the function at place c samples p with q
-module _ (OriginOf : ℕ → ℕ → Type 0) (Kills : ℕ → Type 0) (NeededBy : Need → ℕ → Type 0) (PairOf : ℕ → Place → Place → Type 0) (m : Module) (settings : Settings)
+module _ (OriginOf : ℕ → ℕ → Type 0) (Kills : ℕ → Type 0) (NeededBy : Need → ℕ → Type 0) (PairOf : ℕ → Place → Place →
+    Type 0) (m : Module) (settings : Settings)
     (f : Function) where
   abbrev pub HasOriginOf : ℕ → Type 0
   HasOriginOf e = (h : ℕ) × OriginOf e h
@@ -93,9 +96,11 @@ module _ (OriginOf : ℕ → ℕ → Type 0) (Kills : ℕ → Type 0) (NeededBy 
   -- what may be told of a disrupted place
   pub data MayBlame (b : Body) (p : At f.body b) : Disruptor → Type 0 where
     a_source : {h : ℕ} → Around OriginOf h f.body b p → MayBlame b p (Source h)
-    a_return : {value : Option ℕ} {left : Body} (q : At f.body (Then (Leaf (Return value)) left)) → Disrupted HasOriginOf Kills f.body _ q → MayBlame b p EarlierReturn
+    a_return : {value : Option ℕ} {left : Body} (q : At f.body (Then (Leaf (Return value)) left)) → Disrupted HasOriginOf Kills f.body _ q →
+        MayBlame b p EarlierReturn
     a_kill : {left : Body} (q : At f.body (Then (Leaf Kill) left)) → Disrupted HasOriginOf Kills f.body _ q → MayBlame b p EarlierDiscard
-    a_call : {c : ℕ} {arguments : List ℕ} {result : Option ℕ} → Contains (statements f.body) (Leaf (Call c arguments result)) → Kills c → MayBlame b p EarlierDiscard
+    a_call : {c : ℕ} {arguments : List ℕ} {result : Option ℕ} → Contains (statements f.body) (Leaf (Call c arguments result)) → Kills c →
+        MayBlame b p EarlierDiscard
 
   -- a disrupted Emit covers the expression, which has these needs
   pub record IsMisplaced (needs expression : ℕ) (disruptor : Disruptor) : Type 0 where
@@ -118,10 +123,12 @@ module _ (OriginOf : ℕ → ℕ → Type 0) (Kills : ℕ → Type 0) (NeededBy 
     untyped : {e : ℕ} {refusal : Refusal} → IsRefused (function_context m f) f.expressions e refusal → HasFault (Untyped e refusal)
     -- a binding array of images or samplers is indexed non-uniformly without the capability
     no_capability : {e index element : ℕ} {capability : Capability} → IndexesBindings m f e index element →
-        element_capability (found_inner (slice_get m.types element)) ≡ Some capability → HasOriginOf index → allows settings capability ≡ false →
+        element_capability (found_inner (slice_get m.types element)) ≡ Some capability → HasOriginOf index →
+        allows settings capability ≡ false →
         HasFault (MissingCapability e capability)
     -- a binding array of anything else is indexed
-    bad_element : {e index element : ℕ} → IndexesBindings m f e index element → element_capability (found_inner (slice_get m.types element)) ≡ None →
+    bad_element : {e index element : ℕ} → IndexesBindings m f e index element →
+        element_capability (found_inner (slice_get m.types element)) ≡ None →
         HasFault (BindingArrayElement e)
     -- an image or a sampler that is sampled has no place
     no_image_place : {e image sampler : ℕ} → samples f e ≡ Some (image, sampler) → place f image ≡ None → HasFault (NoPlace e)
@@ -131,7 +138,8 @@ module _ (OriginOf : ℕ → ℕ → Type 0) (Kills : ℕ → Type 0) (NeededBy 
     no_sampler_passed : {e c i : ℕ} {p : Place} → Passes f c i e → place f e ≡ None → PairOf c p (InArgument i) → HasFault (NoPlace e)
     -- what needs undisrupted flow is emitted in disrupted flow, where that is checked
     misplaced : {needs e : ℕ} {disruptor : Disruptor} → IsTrue settings.checks_flow →
-        Governs m.diagnostic_filters f.diagnostic_filter_leaf severity.Error → IsMisplaced needs e disruptor → HasFault (NonUniformControlFlow needs e disruptor)
+        Governs m.diagnostic_filters f.diagnostic_filter_leaf severity.Error → IsMisplaced needs e disruptor →
+        HasFault (NonUniformControlFlow needs e disruptor)
     -- no usize holds how often an expression is named
     count_full : {e : ℕ} → 2 ^ 64 ≤ count_of f e → HasFault (CountFull e)
 
@@ -141,7 +149,8 @@ RecordsPair infos c p q = (info : Info) × (slice_get infos c ≡ Some info) × 
 
 -- a fault of f, by the infos held of the functions before it
 abbrev pub StepFault : Module → List Info → Function → Settings → Cause → Type 0
-StepFault m infos f settings = HasFault (StepOrigin m infos f) (RecordsKills infos) (StepExpressionNeed infos f) (RecordsPair infos) m settings f
+StepFault m infos f settings = HasFault (StepOrigin m infos f) (RecordsKills infos) (StepExpressionNeed infos f)
+    (RecordsPair infos) m settings f
 
 -- h is an origin of expression e of f
 abbrev pub IsOriginOf : Module → Function → ℕ → ℕ → Type 0
@@ -164,8 +173,10 @@ pub data Site : Type 0 where
 pub data ModuleFault (m : Module) (settings : Settings) : Site → Cause → Type 0 where
   in_expression : {e : ℕ} {refusal : Refusal} → IsRefused (context_of m [] []) m.global_expressions e refusal →
       ModuleFault m settings (OfGlobalExpression e) (Untyped e refusal)
-  in_function : {i : ℕ} {f : Function} {cause : Cause} → slice_get m.functions i ≡ Some f → IsFault m f settings cause → ModuleFault m settings (OfFunction i) cause
-  in_entry_point : {i : ℕ} {entry : EntryPoint} {cause : Cause} → slice_get m.entry_points i ≡ Some entry → IsFault m entry.function settings cause →
+  in_function : {i : ℕ} {f : Function} {cause : Cause} → slice_get m.functions i ≡ Some f → IsFault m f settings cause →
+      ModuleFault m settings (OfFunction i) cause
+  in_entry_point : {i : ℕ} {entry : EntryPoint} {cause : Cause} → slice_get m.entry_points i ≡ Some entry →
+      IsFault m entry.function settings cause →
       ModuleFault m settings (OfEntryPoint i) cause
 
 -- the order in which a module is analysed

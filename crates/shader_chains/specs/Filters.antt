@@ -15,4 +15,5 @@ pub data Governs (filters : List DiagnosticFilterNode) : Option ℕ → Severity
 
 -- each filter's parent is an earlier one
 abbrev pub HaveEarlierParents : List DiagnosticFilterNode → Type 0
-HaveEarlierParents filters = (i : ℕ) (filter : DiagnosticFilterNode) → slice_get filters i ≡ Some filter → IfSome filter.parent (λ parent. parent < i)
+HaveEarlierParents filters = (i : ℕ) (filter : DiagnosticFilterNode) → slice_get filters i ≡ Some filter →
+    IfSome filter.parent (λ parent. parent < i)

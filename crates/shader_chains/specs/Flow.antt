@@ -15,7 +15,8 @@ pub data Part : Step → Body → Type 0 where
   reject : {c : ℕ} {x y : Body} → Part (If c x y) y
   body : {x y : Body} {k : Option ℕ} → Part (Loop x y k) x
   continuing : {x y : Body} {k : Option ℕ} → Part (Loop x y k) y
-  case_of : {e : ℕ} {all : Cases} {v : SwitchValue} {x : Body} {fall : Bool} {cs : Cases} → CasesIn all (Case v x fall cs) → Part (Switch e all) x
+  case_of : {e : ℕ} {all : Cases} {v : SwitchValue} {x : Body} {fall : Bool} {cs : Cases} → CasesIn all (Case v x fall cs) →
+      Part (Switch e all) x
 
 -- a place in a body: the start of a block, or what is left of one after some of its statements.
 -- A statement stands at the place whose first statement it is
@@ -28,7 +29,8 @@ pub data At (root : Body) : Body → Type 0 where
 pub data BranchOn (e : ℕ) : (s : Step) (x : Body) → Part s x → Type 0 where
   accepts : {x y : Body} → BranchOn e _ _ (accept {c = e} {x = x} {y = y})
   rejects : {x y : Body} → BranchOn e _ _ (reject {c = e} {x = x} {y = y})
-  selects : {all : Cases} {v : SwitchValue} {x : Body} {fall : Bool} {cs : Cases} (k : CasesIn all (Case v x fall cs)) → BranchOn e _ _ (case_of {e = e} k)
+  selects : {all : Cases} {v : SwitchValue} {x : Body} {fall : Bool} {cs : Cases} (k : CasesIn all (Case v x fall cs)) →
+      BranchOn e _ _ (case_of {e = e} k)
 
 -- `Varies e`: expression e has an origin. `Kills c`: the function at place c kills
 module _ (Varies Kills : ℕ → Type 0) (root : Body) where
@@ -37,14 +39,18 @@ module _ (Varies Kills : ℕ → Type 0) (root : Body) where
       -- a block, where its statement is
       in_disrupted : {s : Step} {b x : Body} {p : At root (Then s b)} {part : Part s x} → Disrupted _ p → Disrupted _ (inside p part)
       -- a branch of an If or a case of a Switch on an expression that has an origin
-      in_branch : {s : Step} {b x : Body} {e : ℕ} (p : At root (Then s b)) {part : Part s x} → BranchOn e s x part → Varies e → Disrupted _ (inside p part)
+      in_branch : {s : Step} {b x : Body} {e : ℕ} (p : At root (Then s b)) {part : Part s x} → BranchOn e s x part → Varies e →
+          Disrupted _ (inside p part)
       -- the continuing block of a Loop whose body exits
-      in_continuing : {b x y : Body} {k : Option ℕ} {p : At root (Then (Loop x y k) b)} → BlockExits _ (inside p body) → Disrupted _ (inside p continuing)
+      in_continuing : {b x y : Body} {k : Option ℕ} {p : At root (Then (Loop x y k) b)} → BlockExits _ (inside p body) →
+          Disrupted _ (inside p continuing)
       -- a case, where the one before it falls through and is disrupted or exits
       fallen_into : {v w : SwitchValue} {b x y : Body} {e : ℕ} {all cs : Cases} {fall : Bool} {p : At root (Then (Switch e all) b)}
-          {k : CasesIn all (Case v x true (Case w y fall cs))} → Disrupted _ (inside p (case_of k)) → Disrupted _ (inside p (case_of (after k)))
+          {k : CasesIn all (Case v x true (Case w y fall cs))} → Disrupted _ (inside p (case_of k)) →
+          Disrupted _ (inside p (case_of (after k)))
       fallen_out : {v w : SwitchValue} {b x y : Body} {e : ℕ} {all cs : Cases} {fall : Bool} {p : At root (Then (Switch e all) b)}
-          {k : CasesIn all (Case v x true (Case w y fall cs))} → BlockExits _ (inside p (case_of k)) → Disrupted _ (inside p (case_of (after k)))
+          {k : CasesIn all (Case v x true (Case w y fall cs))} → BlockExits _ (inside p (case_of k)) →
+          Disrupted _ (inside p (case_of (after k)))
       -- a statement, where its block is, or an earlier statement of the block exits
       later : {s : Step} {b : Body} {p : At root (Then s b)} → Disrupted _ p → Disrupted _ (rest p)
       behind : {s : Step} {b : Body} {p : At root (Then s b)} → Exits _ _ p → Disrupted _ (rest p)
@@ -53,7 +59,8 @@ module _ (Varies Kills : ℕ → Type 0) (root : Body) where
     pub data Exits : (s : Step) (b : Body) → At root (Then s b) → Type 0 where
       returns : {value : Option ℕ} {b : Body} {p : At root (Then (Leaf (Return value)) b)} → Disrupted _ p → Exits _ _ p
       kills : {b : Body} {p : At root (Then (Leaf Kill) b)} → Disrupted _ p → Exits _ _ p
-      calls : {c : ℕ} {arguments : List ℕ} {result : Option ℕ} {b : Body} (p : At root (Then (Leaf (Call c arguments result)) b)) → Kills c → Exits _ _ p
+      calls : {c : ℕ} {arguments : List ℕ} {result : Option ℕ} {b : Body} (p : At root (Then (Leaf (Call c arguments result)) b)) →
+          Kills c → Exits _ _ p
       contains : {s : Step} {b x : Body} {p : At root (Then s b)} {part : Part s x} → BlockExits _ (inside p part) → Exits _ _ p
 
     -- a statement of the block exits

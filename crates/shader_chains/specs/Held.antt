@@ -21,14 +21,16 @@ EntryIsExact = (m : Module) (held : List Info) (f : Function) (info : Info) → 
 -- an expression of f itself, what is recorded of its operands, or of the result of the function whose CallResult it is
 pub data StepOperand (m : Module) (infos : List Info) (f : Function) (recorded : List (Option ℕ)) (e : ℕ) : ℕ → Type 0 where
   itself : IsSource m f e → StepOperand m infos f recorded e e
-  operand : {h : ℕ} {x : Expression} {o : ℕ × Label} → Stands f e x → Contains (expression_operands x) o → slice_get recorded o.0 ≡ Some (Some h) →
+  operand : {h : ℕ} {x : Expression} {o : ℕ × Label} → Stands f e x → Contains (expression_operands x) o →
+      slice_get recorded o.0 ≡ Some (Some h) →
       StepOperand m infos f recorded e h
   callee : {h c : ℕ} {info : Info} → Stands f e (form.CallResult c) → slice_get infos c ≡ Some info → info.non_uniform_result ≡ Some h →
       StepOperand m infos f recorded e h
 
 -- operand by operand, in order, gives what is asked of the recorded origins
 abbrev pub OperandsGiveOrigins : Type 0
-OperandsGiveOrigins = (m : Module) (infos : List Info) (f : Function) (recorded : List (Option ℕ)) → length recorded ≡ length f.expressions →
+OperandsGiveOrigins = (m : Module) (infos : List Info) (f : Function) (recorded : List (Option ℕ)) →
+    length recorded ≡ length f.expressions →
     ((e : ℕ) (x : Expression) (o : ℕ × Label) → Stands f e x → Contains (expression_operands x) o → o.0 < e) →
     ((e : ℕ) (r : Option ℕ) → slice_get recorded e ≡ Some r → Picks (StepOperand m infos f recorded e) r) →
     (e : ℕ) (r : Option ℕ) → slice_get recorded e ≡ Some r → Picks (StepOrigin m infos f e) r

@@ -4,7 +4,8 @@ use Rattle.std.specs.List.{Contains}
 use Rattle.shader_ir.specs.declared.expression.Expression.TheVariants as form
 use Rattle.shader_ir.specs.declared.expression.SampleLevel.{SampleLevel}
 use Rattle.shader_ir.specs.declared.expression.SampleLevel.TheVariants as level
-use Rattle.shader_chains.specs.Program.{Function, Module, Expression, Step, Leaf, Simple, Emit, ControlBarrier, MemoryBarrier, WorkGroupUniformLoad, CooperativeStore, Stands, statements}
+use Rattle.shader_chains.specs.Program.{Function, Module, Expression, Step, Leaf, Simple, Emit, ControlBarrier, MemoryBarrier}
+use Rattle.shader_chains.specs.Program.{WorkGroupUniformLoad, CooperativeStore, Stands, statements}
 use Rattle.shader_chains.specs.Calls.{Chain}
 
 -- what wants all invocations of a work group at once, or of a quad, or of a subgroup
@@ -26,7 +27,8 @@ is_implicit _ = false
 
 -- what an expression needs by its own form
 abbrev pub expression_asks : Expression → Need → Bool
-expression_asks (form.ImageSample image sampler gather coordinate array_index offset level depth_ref clamp_to_edge) ImplicitLevel = is_implicit level
+expression_asks (form.ImageSample image sampler gather clamp_to_edge coordinate array_index offset level depth_ref) ImplicitLevel =
+    is_implicit level
 expression_asks (form.Derivative axis ctrl expr) Derivative = true
 expression_asks (form.CooperativeLoad columns rows role tile) CooperativeOperation = true
 expression_asks (form.CooperativeMultiplyAdd a b c) CooperativeOperation = true
@@ -62,4 +64,5 @@ module _ (m : Module) (n : Need) where
     -- expression e of f does: by its own form, or as the result of a call of a function that does
     pub data ExpressionNeeds : Function → ℕ → Type 0 where
       by_form : {f : Function} {e : ℕ} {x : Expression} → Stands f e x → IsTrue (expression_asks x n) → ExpressionNeeds f e
-      by_callee : {f d : Function} {e c : ℕ} → Stands f e (form.CallResult c) → slice_get m.functions c ≡ Some d → Needs d → ExpressionNeeds f e
+      by_callee : {f d : Function} {e c : ℕ} → Stands f e (form.CallResult c) → slice_get m.functions c ≡ Some d → Needs d →
+          ExpressionNeeds f e

@@ -11,7 +11,8 @@ use Rattle.shader_ir.specs.declared.function.FunctionArgument.{FunctionArgument}
 use Rattle.shader_ir.specs.declared.module.GlobalVariable.{GlobalVariable}
 use Rattle.shader_ir.specs.declared.types.AddressSpace.{AddressSpace}
 use Rattle.shader_ir.specs.declared.types.AddressSpace.TheVariants as space
-use Rattle.shader_chains.specs.Program.{Function, Module, Expression, Label, Leaf, Return, CooperativeStore, simple_operands, expression_operands, statements, Stands}
+use Rattle.shader_chains.specs.Program.{Function, Module, Expression, Label, Leaf, Return, CooperativeStore}
+use Rattle.shader_chains.specs.Program.{simple_operands, expression_operands, statements, Stands}
 use Rattle.shader_chains.specs.Calls.{Chain}
 
 -- e is h, or leads to it through operands

@@ -24,7 +24,7 @@ place f e = expression_place f (slice_get f.expressions e)
 
 -- the image and the sampler that an expression samples
 abbrev pub sampled : Expression → Option (ℕ × ℕ)
-sampled (form.ImageSample image sampler gather coordinate array_index offset level depth_ref clamp_to_edge) = Some (image, sampler)
+sampled (form.ImageSample image sampler gather clamp_to_edge coordinate array_index offset level depth_ref) = Some (image, sampler)
 sampled _ = None
 
 -- the same of expression e of f

@@ -1,6 +1,9 @@
 -- The data that the definitions speak of, and what stands in a function.
 use Rattle.std.specs.Prelude.{◌≡◌, ℕ, Some, slice_get}
-pub use Rattle.shader_ir.specs.Body.{Body, End, Then, Step, Leaf, Nested, If, Switch, Loop, Cases, NoCase, Case, Simple, Emit, Break, Continue, Return, Kill, ControlBarrier, MemoryBarrier, Store, ImageStore, Atomic, ImageAtomic, WorkGroupUniformLoad, Call, RayQuery, RayPipeline, SubgroupBallot, SubgroupGather, SubgroupCollectiveOperation, CooperativeStore}
+pub use Rattle.shader_ir.specs.Body.{Body, End, Then, Step, Leaf, Nested, If, Switch, Loop, Cases, NoCase, Case, Simple}
+pub use Rattle.shader_ir.specs.Body.{Emit, Break, Continue, Return, Kill, ControlBarrier, MemoryBarrier, Store, ImageStore}
+pub use Rattle.shader_ir.specs.Body.{Atomic, ImageAtomic, WorkGroupUniformLoad, Call, RayQuery, RayPipeline, SubgroupBallot}
+pub use Rattle.shader_ir.specs.Body.{SubgroupGather, SubgroupCollectiveOperation, CooperativeStore}
 pub use Rattle.shader_ir.specs.Occurs.{statements, statements_within, case_statements, occurrences, Root}
 pub use Rattle.shader_ir.specs.Operands.{expression_operands, simple_operands, statement_operands}
 pub use Rattle.shader_ir.specs.declared.expression.Expression.{Expression}

@@ -11,7 +11,8 @@ use Rattle.shader_ir.specs.declared.module.GlobalVariable.{GlobalVariable}
 use Rattle.shader_ir.specs.declared.operators.DerivativeAxis.TheVariants as axis
 use Rattle.shader_ir.specs.declared.operators.DerivativeControl.TheVariants as control
 use Rattle.shader_ir.specs.declared.statement.SwitchValue.TheVariants as value
-use Rattle.shader_chains.specs.Program.{Function, Module, Expression, Body, End, Then, Leaf, If, Switch, NoCase, Case, Emit, Return, Kill, Store, Call}
+use Rattle.shader_chains.specs.Program.{Function, Module, Expression, Body, End, Then, Leaf, If}
+use Rattle.shader_chains.specs.Program.{Switch, NoCase, Case, Emit, Return, Kill, Store, Call}
 use Rattle.shader_chains.specs.Flow.{At, start, rest, inside, case_of, after, from_first, Disrupted}
 use Rattle.shader_chains.specs.Infos.{InGlobal, Place, Reads, Writes, Queries}
 use Rattle.shader_chains.specs.Kills.{HasOrigin, Kills}
@@ -82,11 +83,13 @@ abbrev pub differentiating : Body → Function
 differentiating body = function_of [] (form.Literal (literal.U32 0) ∷ form.Derivative axis.X control.None 0 ∷ []) [] body
 
 abbrev pub EmittedIsNeeded : Type 0
-EmittedIsNeeded = (m : Module) → Needs m Derivative (differentiating (Then (Leaf (Emit 0 2)) End)) × (Needs m Derivative (differentiating End) → ⊥)
+EmittedIsNeeded = (m : Module) → Needs m Derivative (differentiating (Then (Leaf (Emit 0 2)) End)) ×
+    (Needs m Derivative (differentiating End) → ⊥)
 
 -- an image and a sampler that are passed are sampled
 abbrev pub sampling : Function
-sampling = function_of [] (form.FunctionArgument 0 ∷ form.FunctionArgument 1 ∷ form.ImageSample 0 1 None 0 None None level.Zero None false ∷ []) [] End
+sampling = function_of [] (form.FunctionArgument 0 ∷ form.FunctionArgument 1
+    ∷ form.ImageSample 0 1 None false 0 None None level.Zero None ∷ []) [] End
 
 abbrev pub passing : Function
 passing = function_of [] (form.GlobalVariable 0 ∷ form.GlobalVariable 1 ∷ []) [] (Then (Leaf (Call 0 (0 ∷ 1 ∷ []) None)) End)
@@ -127,4 +130,5 @@ takes_branch first = record { accepts = λ p. first; selects = λ p. 0; ends = �
 
 -- where expression 0 varies, two alike walks part: the one passes the Emit and the other doesn't
 abbrev pub WalksPart : Type 0
-WalksPart = Alike (λ e. e ≡ 0) (takes_branch true) (takes_branch false) × Passes (takes_branch false) _ emit_at_end × (Passes (takes_branch true) _ emit_at_end → ⊥)
+WalksPart = Alike (λ e. e ≡ 0) (takes_branch true) (takes_branch false) × Passes (takes_branch false) _ emit_at_end ×
+    (Passes (takes_branch true) _ emit_at_end → ⊥)

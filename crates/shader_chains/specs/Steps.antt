@@ -57,7 +57,8 @@ RecordsKills infos c = (info : Info) × (slice_get infos c ≡ Some info) × IsT
 
 -- a Kill of f that is disrupted by what is recorded, or a call of a function that kills
 pub data StepKill (infos : List Info) (f : Function) (info : Info) : Type 0 where
-  own : {b : Body} (p : At f.body (Then (Leaf Kill) b)) → Disrupted (RecordsVaried info) (RecordsKills infos) f.body _ p → StepKill infos f info
+  own : {b : Body} (p : At f.body (Then (Leaf Kill) b)) → Disrupted (RecordsVaried info) (RecordsKills infos) f.body _ p →
+      StepKill infos f info
   callee : {arguments : List ℕ} {i : Info} → Calls infos f arguments i → IsTrue i.may_kill → StepKill infos f info
 
 -- what an expression needs by its own form or by its callee's info
@@ -82,5 +83,6 @@ pub record MeetsSteps (m : Module) (infos : List Info) (f : Function) (info : In
   pub origins : (e : ℕ) (o : Option ℕ) → slice_get info.non_uniform e ≡ Some o → Picks (StepOrigin m infos f e) o
   pub result : Picks (StepResult m infos f) info.non_uniform_result
   pub kills : IsTrue info.may_kill ↔ StepKill infos f info
-  pub expression_needs : (n : Need) (e : ℕ) → e < length f.expressions → IsBitSet (slice_index info.expression_needs e) (bit_of_need n) ↔ StepExpressionNeed infos f n e
+  pub expression_needs : (n : Need) (e : ℕ) → e < length f.expressions →
+      IsBitSet (slice_index info.expression_needs e) (bit_of_need n) ↔ StepExpressionNeed infos f n e
   pub needs : (n : Need) → IsBitSet info.needs (bit_of_need n) ↔ StepNeed infos f n

@@ -1,7 +1,9 @@
 -- Disruption decided by one recursion: what the analysis computes of one function.
 use Rattle.std.specs.Prelude.{ℕ, Bool, false, ◌&&◌, ◌||◌, IsTrue, ◌↔◌}
-use Rattle.shader_chains.specs.Program.{Step, Leaf, Simple, Nested, If, Switch, Loop, Return, Kill, Call, Body, End, Then, Cases, NoCase, Case}
-use Rattle.shader_chains.specs.Flow.{At, start, rest, inside, Part, inner, accept, reject, body, continuing, case_of, CasesIn, from_first, after, Disrupted, Exits}
+use Rattle.shader_chains.specs.Program.{Step, Leaf, Simple, Nested, If, Switch, Loop, Return}
+use Rattle.shader_chains.specs.Program.{Kill, Call, Body, End, Then, Cases, NoCase, Case}
+use Rattle.shader_chains.specs.Flow.{At, start, rest, inside, Part, inner, accept, reject, body, continuing}
+use Rattle.shader_chains.specs.Flow.{case_of, CasesIn, from_first, after, Disrupted, Exits}
 
 -- `varies` tells the expressions that have an origin, `killing` the functions that kill
 module _ (varies killing : ℕ → Bool) where
@@ -77,4 +79,5 @@ module _ (varies killing : ℕ → Bool) (bad : Step → Bool) where
 abbrev pub SweepFinds : Type 0
 SweepFinds = (varies killing : ℕ → Bool) (bad : Step → Bool) (root : Body) →
     IsTrue (found varies killing bad false root) ↔
-    ((s : Step) × (b : Body) × (p : At root (Then s b)) × IsTrue (bad s) × Disrupted (λ e. IsTrue (varies e)) (λ c. IsTrue (killing c)) root _ p)
+    ((s : Step) × (b : Body) × (p : At root (Then s b)) × IsTrue (bad s) ×
+    Disrupted (λ e. IsTrue (varies e)) (λ c. IsTrue (killing c)) root _ p)

@@ -1,7 +1,8 @@
 -- Walks through a body without loops.
 use Rattle.std.specs.Prelude.{◌≡◌, ℕ, suc, ◌≤◌, Bool, true, false, Option, List, IsTrue, ◌↔◌}
 use Rattle.shader_ir.specs.declared.statement.SwitchValue.{SwitchValue}
-use Rattle.shader_chains.specs.Program.{Step, Leaf, Simple, Nested, If, Switch, Loop, Break, Continue, Return, Kill, Call, Body, End, Then, Cases, NoCase, Case}
+use Rattle.shader_chains.specs.Program.{Step, Leaf, Simple, Nested, If, Switch, Loop, Break, Continue}
+use Rattle.shader_chains.specs.Program.{Return, Kill, Call, Body, End, Then, Cases, NoCase, Case}
 use Rattle.shader_chains.specs.Flow.{At, start, rest, inside, Part, inner, accept, reject, case_of, CasesIn, from_first, after, Disrupted}
 
 -- no Loop, Break or Continue
@@ -26,7 +27,8 @@ pub record Walk (Kills : ℕ → Type 0) (root : Body) : Type 0 where
   pub selects : {e : ℕ} {cs : Cases} {b : Body} → At root (Then (Switch e cs) b) → ℕ
   -- whether the walk ends in a Call
   pub ends : {c : ℕ} {arguments : List ℕ} {result : Option ℕ} {b : Body} → At root (Then (Leaf (Call c arguments result)) b) → Bool
-  pub ends_by_kill : {c : ℕ} {arguments : List ℕ} {result : Option ℕ} {b : Body} (p : At root (Then (Leaf (Call c arguments result)) b)) → IsTrue (ends p) → Kills c
+  pub ends_by_kill : {c : ℕ} {arguments : List ℕ} {result : Option ℕ} {b : Body} (p : At root (Then (Leaf (Call c arguments result)) b)) →
+      IsTrue (ends p) → Kills c
 
 abbrev pub count : Cases → ℕ
 count NoCase = 0
@@ -66,7 +68,8 @@ module _ {Kills : ℕ → Type 0} {root : Body} (w : Walk Kills root) where
       to_inner : {b x : Body} {p : At root (Then (Nested x) b)} → Enters _ _ _ p inner
       to_accept : {c : ℕ} {b x y : Body} {p : At root (Then (If c x y) b)} → w.accepts p ≡ true → Enters _ _ _ p accept
       to_reject : {c : ℕ} {b x y : Body} {p : At root (Then (If c x y) b)} → w.accepts p ≡ false → Enters _ _ _ p reject
-      selected : {e : ℕ} {all cs : Cases} {v : SwitchValue} {b x : Body} {fall : Bool} {p : At root (Then (Switch e all) b)} (k : CasesIn all (Case v x fall cs)) →
+      selected : {e : ℕ} {all cs : Cases} {v : SwitchValue} {b x : Body} {fall : Bool} {p : At root (Then (Switch e all) b)}
+          (k : CasesIn all (Case v x fall cs)) →
           w.selects p ≡ number k → Enters _ _ _ p (case_of k)
       fallen : {e : ℕ} {all cs : Cases} {v u : SwitchValue} {b x y : Body} {fall : Bool} {p : At root (Then (Switch e all) b)}
           {k : CasesIn all (Case v x true (Case u y fall cs))} → Enters _ _ _ p (case_of k) → Finishes _ (inside p (case_of k)) →
@@ -80,7 +83,8 @@ module _ {Kills : ℕ → Type 0} {root : Body} (w : Walk Kills root) where
     -- the walk, once at a statement, comes to its end
     pub data Leaves : (s : Step) (b : Body) → At root (Then s b) → Type 0 where
       simply : {s : Step} {b : Body} {p : At root (Then s b)} → IsTrue (is_simple s) → Leaves _ _ p
-      call : {c : ℕ} {arguments : List ℕ} {result : Option ℕ} {b : Body} {p : At root (Then (Leaf (Call c arguments result)) b)} → w.ends p ≡ false → Leaves _ _ p
+      call : {c : ℕ} {arguments : List ℕ} {result : Option ℕ} {b : Body} {p : At root (Then (Leaf (Call c arguments result)) b)} →
+          w.ends p ≡ false → Leaves _ _ p
       through : {s : Step} {b x : Body} {p : At root (Then s b)} {part : Part s x} → Enters _ _ _ p part → Finishes _ (inside p part) →
           falls part ≡ false → Leaves _ _ p
       past : {e : ℕ} {all : Cases} {b : Body} {p : At root (Then (Switch e all) b)} → count all ≤ w.selects p → Leaves _ _ p
@@ -93,8 +97,10 @@ module _ {Kills : ℕ → Type 0} {root : Body} (w : Walk Kills root) where
 
 -- two walks choose alike at every If and Switch that both pass and whose condition or selector has no origin
 pub record Alike (Varies : ℕ → Type 0) {Kills : ℕ → Type 0} {root : Body} (w v : Walk Kills root) : Type 0 where
-  pub branches : {c : ℕ} {x y b : Body} (p : At root (Then (If c x y) b)) → Passes w _ p → Passes v _ p → (Varies c → ⊥) → w.accepts p ≡ v.accepts p
-  pub cases : {e : ℕ} {cs : Cases} {b : Body} (p : At root (Then (Switch e cs) b)) → Passes w _ p → Passes v _ p → (Varies e → ⊥) → w.selects p ≡ v.selects p
+  pub branches : {c : ℕ} {x y b : Body} (p : At root (Then (If c x y) b)) → Passes w _ p → Passes v _ p → (Varies c → ⊥) →
+      w.accepts p ≡ v.accepts p
+  pub cases : {e : ℕ} {cs : Cases} {b : Body} (p : At root (Then (Switch e cs) b)) → Passes w _ p → Passes v _ p → (Varies e → ⊥) →
+      w.selects p ≡ v.selects p
 
 -- two alike walks pass the same undisrupted places, so the same undisrupted Emits
 abbrev pub AlikeWalksAgree : (Varies Kills : ℕ → Type 0) → Body → Type 0

@@ -8,7 +8,7 @@ use shader_ir::{DiagnosticFilterNode, DiagnosticRule, Severity, mark};
 /// How grave the filters from `leaf` outwards make what is about derivative uniformity (WGSL, "Diagnostic Filtering"): the innermost
 /// filter of that rule decides, and where there is none it is an error.
 ///
-/// A module's filters have earlier parents where `check_module` answers `Ok`.
+/// A module's filters have earlier parents where `check_module` returns `Ok`.
 #[tactic(auto, using(crate::proofs::FilterLemmas::leads_itself, crate::proofs::FilterLemmas::leads_to_parent, crate::proofs::FilterLemmas::governed_by, crate::proofs::FilterLemmas::governed_last, crate::proofs::FilterLemmas::parent_within, crate::proofs::FilterLemmas::parent_lower))]
 pub fn derivative_severity(
     filters: &Arena<DiagnosticFilterNode, mark::DiagnosticFilterNode>,

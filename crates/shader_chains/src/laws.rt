@@ -10,7 +10,8 @@ ghost use Rattle.shader_chains.specs.Earlier.{WellFormedModulesPointBackwards};
 ghost use Rattle.shader_chains.specs.FaultLaws.{DerivedTypesHaveKeys, FaultsAgree, SeveritiesAreUnique, TypesAreUnique};
 ghost use Rattle.shader_chains.specs.Held.{EntryIsExact, NextIsExact, OperandsGiveOrigins};
 ghost use Rattle.shader_chains.specs.Pairs.{PlacesLeadBackByParts};
-ghost use Rattle.shader_chains.specs.Samples.{ArgumentsVary, BranchesKill, EmittedIsNeeded, FallThroughDisrupts, NamedIsQueried, PairsAreLedBack, WalksPart};
+ghost use Rattle.shader_chains.specs.Samples.{ArgumentsVary, BranchesKill, EmittedIsNeeded, FallThroughDisrupts};
+ghost use Rattle.shader_chains.specs.Samples.{NamedIsQueried, PairsAreLedBack, WalksPart};
 ghost use Rattle.shader_chains.specs.Sweep.{SweepFinds, SweepIsLeast};
 
 /// One step of the analysis is exact over all chains of calls.

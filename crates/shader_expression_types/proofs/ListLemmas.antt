@@ -1,5 +1,6 @@
 -- What is left of the expressions, and what holds along a list of types that grows.
-use Rattle.std.proofs.Common.{◌≡◌, refl, ap, sym, subst, ◌∙◌, ◌⊎◌, inl, inr, ℕ, ◌+◌, ◌<◌, ◌≤◌, List, [], ◌∷◌, ◌++◌, Some, slice_get, length, get_or, length-append, All, arith}
+use Rattle.std.proofs.Common.{◌≡◌, refl, ap, sym, subst, ◌∙◌, ◌⊎◌, inl, inr, ℕ, ◌+◌, ◌<◌, ◌≤◌, List, []}
+use Rattle.std.proofs.Common.{◌∷◌, ◌++◌, Some, slice_get, length, get_or, length-append, All, arith}
 use Rattle.std.specs.List.{enumerate_from}
 use Rattle.std.proofs.lemmas.List.Elements.{All-contains_itself}
 use Rattle.std.proofs.lemmas.Bool.{cases_lt}
@@ -13,7 +14,8 @@ use Rattle.shader_sweeps.specs.InfoOf.{PointsBackwards}
 
 -- the operands of an expression are below its place
 pub operands_below : (f : Function) → PointsBackwards f → (e : ℕ) (x : Expression) → Stands f e x → OperandsBelow e x
-operands_below f below e x is = λ i d lt. below e x (get_or (expression_operands x) i d) is (All-contains_itself (expression_operands x) i d lt)
+operands_below f below e x is = λ i d lt. below e x (get_or (expression_operands x) i d) is
+    (All-contains_itself (expression_operands x) i d lt)
 
 -- some items with their places, of which the first has place n, up to a length
 pub record IsLeft {X : Type 0} (n total : ℕ) (items : List (ℕ × X)) : Type 0 where
@@ -36,14 +38,16 @@ heads x y xs ys is = (cc, cc)
 pub next_left : {X : Type 0} (n total : ℕ) (place : ℕ) (x : X) (items : List (ℕ × X)) → IsLeft n total ((place, x) ∷ items) →
     (place ≡ n) × (n < total) × IsLeft (n + 1) total items
 next_left {X} n total place x items is = at is.left is.are is.long where
-  at : (left : List X) → (place, x) ∷ items ≡ enumerate_from n left → n + length left ≡ total → (place ≡ n) × (n < total) × IsLeft (n + 1) total items
+  at : (left : List X) → (place, x) ∷ items ≡ enumerate_from n left → n + length left ≡ total →
+      (place ≡ n) × (n < total) × IsLeft (n + 1) total items
   at [] are long = absurd (cc)
   at (y ∷ ys) are long =
       let parts = heads (place, x) (n, y) items (enumerate_from (n + 1) ys) are in
       (ap (λ v. v.0) parts.0, omega (arith, long), record { left = ys; are = parts.1; long = omega (arith, long) })
 
 -- what holds at each place of a list, and of one more item, holds at each place of both
-pub one_more : {X : Type 0} (P : ℕ → X → Type 0) (xs : List X) (x : X) → ((e : ℕ) (y : X) → slice_get xs e ≡ Some y → P e y) → P (length xs) x →
+pub one_more : {X : Type 0} (P : ℕ → X → Type 0) (xs : List X) (x : X) → ((e : ℕ) (y : X) → slice_get xs e ≡ Some y → P e y) →
+    P (length xs) x →
     (e : ℕ) (y : X) → slice_get (xs ++ x ∷ []) e ≡ Some y → P e y
 one_more P xs x each last e y is = at (cases_lt e (length xs)) where
   at : (e < length xs) ⊎ (length xs ≤ e) → P e y
@@ -70,4 +74,5 @@ up_to_here P n each here e lt = at (cases_lt e n) where
 
 pub all_one_more : {X : Type 0} (P : X → Type 0) (xs : List X) (x : X) → All P xs → P x → All P (xs ++ x ∷ [])
 all_one_more P xs x all last = λ i d lt.
-    one_more (λ e y. P y) xs x (λ e y is. at_place P xs e y all is) last i (get_or (xs ++ x ∷ []) i d) (slice_get-get_or (xs ++ x ∷ []) i d lt)
+    one_more (λ e y. P y) xs x (λ e y is. at_place P xs e y all is) last i (get_or (xs ++ x ∷ []) i d)
+    (slice_get-get_or (xs ++ x ∷ []) i d lt)

@@ -1,5 +1,6 @@
 -- What a resolved expression is told to be is what the derivable types say of it.
-use Rattle.std.proofs.Common.{◌≡◌, ap, sym, subst, ◌⊎◌, inl, inr, ℕ, ◌<◌, Bool, List, Some, Result, Ok, Err, IsOkAnd, slice_get, length, get_or, None, ◌≤◌, refl, All, arith}
+use Rattle.std.proofs.Common.{◌≡◌, ap, sym, subst, ◌⊎◌, inl, inr, ℕ, ◌<◌, Bool, List, Some, Result, Ok}
+use Rattle.std.proofs.Common.{Err, IsOkAnd, slice_get, length, get_or, None, ◌≤◌, refl, All, arith}
 use Rattle.std.proofs.lemmas.List.Elements.{All-contains}
 use Rattle.std.proofs.lemmas.Option.{slice_get_cases}
 use Rattle.shader_ir.specs.declared.proc.type_resolution.TypeResolution.{TypeResolution}
@@ -16,18 +17,22 @@ use Rattle.shader_resolve.specs.Outcome.{Outcome, Given, Refused, Refusal, Meets
 use Rattle.shader_resolve.specs.Rows.{Row, Plain, One, Two, row}
 use Rattle.shader_resolve.specs.WellFormed.{OperandsBelow}
 
-module _ (context : Context) (expressions : List Expression) (types : List TypeResolution) (first : AreOfTheFirst context expressions types) where
+module _ (context : Context) (expressions : List Expression) (types : List TypeResolution)
+    (first : AreOfTheFirst context expressions types) where
   -- an earlier expression has a type
-  pub typed : (e : ℕ) → e < length types → (resolution : TypeResolution) × (slice_get types e ≡ Some resolution) × Derives context expressions e resolution
+  pub typed : (e : ℕ) → e < length types → (resolution : TypeResolution) × (slice_get types e ≡ Some resolution) ×
+      Derives context expressions e resolution
   typed e lt = at (slice_get_cases types e).1 where
-    at : ((t : TypeResolution) × (e < length types) × (slice_get types e ≡ Some t) × (get_or types e t ≡ t)) ⊎ ((length types ≤ e) × (slice_get types e ≡ None)) →
+    at : ((t : TypeResolution) × (e < length types) × (slice_get types e ≡ Some t) × (get_or types e t ≡ t)) ⊎ ((length types ≤ e) ×
+        (slice_get types e ≡ None)) →
         (resolution : TypeResolution) × (slice_get types e ≡ Some resolution) × Derives context expressions e resolution
     at (inl found) = (found.0, found.2, first e found.0 found.2)
     at (inr past) = absurd (omega (arith, past.0))
 
   module _ (e : ℕ) (x : Expression) (is : slice_get expressions e ≡ Some x) (below : OperandsBelow (length types) x) (memory : Bool) where
     -- what meets the answer of the row is told of the expression
-    concluded : (result : Result TypeResolution ResolveError) (outcome : Outcome) → Answers context expressions e outcome → Meets memory result outcome →
+    concluded : (result : Result TypeResolution ResolveError) (outcome : Outcome) → Answers context expressions e outcome →
+        Meets memory result outcome →
         IsToldOf context expressions e memory result
     concluded (Ok resolution) (Given g) answers meets = given answers (ap Given (sym meets))
     concluded (Ok resolution) (Refused refusal) answers meets = absurd meets
@@ -38,13 +43,15 @@ module _ (context : Context) (expressions : List Expression) (types : List TypeR
           expression = x;
           stands = is;
           operands = λ operand among.
-              let there = typed operand.0 (All-contains (λ (o : ℕ × Label). o.0 < length types) (expression_operands x) operand below among) in
+              let there = typed operand.0 (All-contains (λ (o : ℕ × Label). o.0 < length types) (expression_operands x) operand
+              below among) in
               (there.0, there.2);
           refused = subst P (sym same) answers;
         })
     concluded (Err failure) (Refused refusal) answers (inr wants) = inr wants
 
-    module _ (Post : ℕ → Told → Type 0) (tells : (operand : ℕ) (told : Told) → Post operand told → IsOkAnd told (λ t. slice_get types operand ≡ Some t.now))
+    module _ (Post : ℕ → Told → Type 0) (tells : (operand : ℕ) (told : Told) → Post operand told →
+        IsOkAnd told (λ t. slice_get types operand ≡ Some t.now))
         (result : Result TypeResolution ResolveError) where
       answered : (operand : ℕ) (Rest : TypeResolution → Type 0) → Answered Post result operand Rest →
           (t : TypeResolution) × Derives context expressions operand t × Rest t
@@ -67,13 +74,17 @@ module _ (context : Context) (expressions : List Expression) (types : List TypeR
 -- what is asked may be asked, and what is told fits
 pub may_ask : (context : Context) (x : Expression) (types : List TypeResolution) → OperandsBelow (length types) x → (Pre : ℕ → Type 0) →
     ((operand : ℕ) → operand < length types → Pre operand) → EachAsked Pre (row context x)
-may_ask context x types below Pre may = each-asked (λ operand. operand < length types) Pre may (row context x) (asked context x (length types) below)
+may_ask context x types below Pre may = each-asked (λ operand. operand < length types) Pre may (row context x)
+    (asked context x (length types) below)
 
-pub told_fits : (context : Context) (x : Expression) (types : List TypeResolution) → OperandsBelow (length types) x → All (FitsTypes context.types) types →
-    (Post : ℕ → Told → Type 0) → ((operand : ℕ) (told : Told) → Post operand told → IsOkAnd told (λ t. slice_get types operand ≡ Some t.now)) →
+pub told_fits : (context : Context) (x : Expression) (types : List TypeResolution) → OperandsBelow (length types) x →
+    All (FitsTypes context.types) types →
+    (Post : ℕ → Told → Type 0) → ((operand : ℕ) (told : Told) → Post operand told →
+    IsOkAnd told (λ t. slice_get types operand ≡ Some t.now)) →
     EachAsked (λ operand. (told : Told) → Post operand told → FitsTold context.types told) (row context x)
 told_fits context x types below fit Post tells =
-    may_ask context x types below (λ operand. (told : Told) → Post operand told → FitsTold context.types told) (λ operand lt told post. fits operand told (tells operand told post)) where
+    may_ask context x types below (λ operand. (told : Told) → Post operand told →
+    FitsTold context.types told) (λ operand lt told post. fits operand told (tells operand told post)) where
       fits : (operand : ℕ) (told : Told) → IsOkAnd told (λ t. slice_get types operand ≡ Some t.now) → FitsTold context.types told
       fits operand (Ok t) is = at_place (FitsTypes context.types) types operand t.now fit is
       fits operand (Err failure) is = absurd is

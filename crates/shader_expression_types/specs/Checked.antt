@@ -29,7 +29,8 @@ untyped_error e failure = error.Expression e (expression.Resolve failure)
 module _ (m : Module) (infos : List FunctionInfo) (f : Function) (capabilities : Capabilities) where
   -- the expression has a type, and indexes no binding array as it may not
   abbrev pub IsSound : ℕ → Type 0
-  IsSound e = (flags : ValidationFlags) (cause : Cause) → IsOfTyping e cause → StepFault m (infos_of infos) f (settings_of flags capabilities) cause → ⊥
+  IsSound e = (flags : ValidationFlags) (cause : Cause) → IsOfTyping e cause →
+      StepFault m (infos_of infos) f (settings_of flags capabilities) cause → ⊥
 
   -- the refusal names a fault of the function
   abbrev pub NamesFault : FunctionError → Type 0

@@ -28,14 +28,17 @@ module _ (capabilities : Capabilities) where
   abbrev pub index_refusal : Option ℕ → Option Capabilities → Option ExpressionError
   index_refusal origin None = Some expression.BindingArrayElement
   index_refusal None (Some needed) = None
-  index_refusal (Some source) (Some needed) = if bit_and capabilities.0 needed.0 == needed.0 then None else Some (expression.MissingCapabilities needed)
+  index_refusal (Some source) (Some needed) = if bit_and capabilities.0 needed.0 == needed.0 then None else Some
+      (expression.MissingCapabilities needed)
 
   -- nor among the parts of a base of this shape, where it is a binding array
   abbrev pub base_refusal : List «Type» → Option ℕ → Option TypeInner → Option ExpressionError
-  base_refusal types origin (Some (type.BindingArray element size)) = index_refusal origin (needed_for (found_inner (slice_get types element)))
+  base_refusal types origin (Some (type.BindingArray element size)) =
+      index_refusal origin (needed_for (found_inner (slice_get types element)))
   base_refusal types origin _ = None
 
   -- why an expression is refused, by the types and the origins of those before it
   abbrev pub access_refusal : List «Type» → List Fact → List TypeResolution → Expression → Option ExpressionError
-  access_refusal types facts held (form.Access base index) = base_refusal types (origin_at facts index) (option_and_then (inner_of types) (slice_get held base))
+  access_refusal types facts held (form.Access base index) =
+      base_refusal types (origin_at facts index) (option_and_then (inner_of types) (slice_get held base))
   access_refusal types facts held _ = None

@@ -10,7 +10,8 @@ use Rattle.shader_resolve.specs.Outcome.{WantsMemory, refusal_of}
 module _ (context : Context) (expressions : List Expression) where
   -- the types are those of the first expressions, in order
   abbrev pub AreOfTheFirst : List TypeResolution → Type 0
-  AreOfTheFirst types = (e : ℕ) (resolution : TypeResolution) → slice_get types e ≡ Some resolution → Derives context expressions e resolution
+  AreOfTheFirst types = (e : ℕ) (resolution : TypeResolution) → slice_get types e ≡ Some resolution →
+      Derives context expressions e resolution
 
   -- the expression has the type, or is refused so, or memory ran out where some is taken
   abbrev pub IsToldOf : ℕ → Bool → Result TypeResolution ResolveError → Type 0

@@ -29,7 +29,9 @@ pub fn type_of<'a>(
     requires names { IsInRange context.now expression.now }
     requires operands { OperandsBelow (length types.now) expression.now }
     requires fit { All (FitsTypes context.now.types) types.now }
-    ensures told { (expressions : List Expression) → slice_get expressions (length types.now) ≡ Some expression.now → AreOfTheFirst context.now expressions types.now → IsToldOf context.now expressions (length types.now) (takes_memory expression.now) result }
+    ensures told { (expressions : List Expression) → slice_get expressions (length types.now) ≡ Some expression.now →
+        AreOfTheFirst context.now expressions types.now → IsToldOf context.now expressions (length types.now)
+        (takes_memory expression.now) result }
     ensures fits { TypesInRange context.now → IfOk result (λ resolution. FitsTypes context.now.types resolution) }
 {
     context.resolve(

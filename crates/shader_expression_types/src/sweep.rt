@@ -61,10 +61,13 @@ fn next_type(
     requires there { handle < length function.now.expressions }
     requires first { AreOfTheFirst (function_context «module».now function.now) function.now.expressions types.now }
     requires fit { All (FitsTypes «module».now.types) types.now }
-    ensures derived { IfOk result (λ resolution. Derives (function_context «module».now function.now) function.now.expressions handle resolution) }
+    ensures derived { IfOk result (λ resolution. Derives (function_context «module».now function.now) function.now.expressions
+        handle resolution) }
     ensures fits { IfOk result (λ resolution. FitsTypes «module».now.types resolution) }
-    ensures sound { (infos : List FunctionInfo) → facts.now ≡ facts_found «module».now infos function.now → IfOk result (λ _. IsSound «module».now infos function.now capabilities handle) }
-    ensures named { (infos : List FunctionInfo) → facts.now ≡ facts_found «module».now infos function.now → IfErr result (λ failure. NamesFault «module».now infos function.now capabilities failure) }
+    ensures sound { (infos : List FunctionInfo) → facts.now ≡ facts_found «module».now infos function.now →
+        IfOk result (λ _. IsSound «module».now infos function.now capabilities handle) }
+    ensures named { (infos : List FunctionInfo) → facts.now ≡ facts_found «module».now infos function.now →
+        IfErr result (λ failure. NamesFault «module».now infos function.now capabilities failure) }
 {
     let expression = &function.expressions[handle];
     match access_refusal(&module.types, facts, types, capabilities, expression) {
@@ -97,8 +100,10 @@ pub fn types_of(
     requires operands { PointsBackwards function.now }
     ensures types { IfOk result (λ types. AreTypes (function_context «module».now function.now) function.now.expressions types.items) }
     ensures fit { IfOk result (λ types. All (FitsTypes «module».now.types) types.items) }
-    ensures sound { (infos : List FunctionInfo) → facts.now ≡ facts_found «module».now infos function.now → IfOk result (λ _. (e : ℕ) → IsSound «module».now infos function.now capabilities e) }
-    ensures named { (infos : List FunctionInfo) → facts.now ≡ facts_found «module».now infos function.now → IfErr result (λ failure. NamesFault «module».now infos function.now capabilities failure) }
+    ensures sound { (infos : List FunctionInfo) → facts.now ≡ facts_found «module».now infos function.now →
+        IfOk result (λ _. (e : ℕ) → IsSound «module».now infos function.now capabilities e) }
+    ensures named { (infos : List FunctionInfo) → facts.now ≡ facts_found «module».now infos function.now →
+        IfErr result (λ failure. NamesFault «module».now infos function.now capabilities failure) }
 {
     let mut types = Vec::with_capacity(alloc, function.expressions.len())?;
     for (handle, _) in function.expressions.iter() {

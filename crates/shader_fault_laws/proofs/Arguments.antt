@@ -15,7 +15,8 @@ module _ (m : Module) (f : Function) (i : ℕ) where
   abbrev Asked : Expression → Row
   Asked x = row (function_context m f) x
 
-  given_there : (o : Option FunctionArgument) (t : TypeResolution) → slice_get f.arguments i ≡ o → argument_type i o ≡ Given t → i < length f.arguments
+  given_there : (o : Option FunctionArgument) (t : TypeResolution) → slice_get f.arguments i ≡ o → argument_type i o ≡ Given t →
+      i < length f.arguments
   given_there None t is h = absurd (cc)
   given_there (Some argument) t is h = slice_get_within f.arguments i argument is
 
@@ -37,7 +38,8 @@ module _ (m : Module) (f : Function) (i : ℕ) where
       let rows = row_is e x (Two left right answer) stands is r in absurd (cc)
 
 pub typed_arguments_are_within : TypedArgumentsAreWithin
-typed_arguments_are_within m f e i resolution stands (given {outcome = outcome} answers is) = answered m f i e outcome stands answers resolution is
+typed_arguments_are_within m f e i resolution stands (given {outcome = outcome} answers is) =
+    answered m f i e outcome stands answers resolution is
 
 pub typed_functions_have_arguments : TypedFunctionsHaveArguments
 typed_functions_have_arguments m f types are e i stands =

@@ -1,5 +1,6 @@
 -- How often an expression is named, where all that is named is there.
-use Rattle.std.proofs.Common.{◌≡◌, ◌≢◌, refl, ℕ, ◌<◌, ◌≤◌, ◌^◌, List, [], ◌∷◌, ◌++◌, Bool, true, false, Option, Some, None, IfSome, All, length, nat_lt, arith}
+use Rattle.std.proofs.Common.{◌≡◌, ◌≢◌, refl, ℕ, ◌<◌, ◌≤◌, ◌^◌, List, [], ◌∷◌, ◌++◌, Bool, true}
+use Rattle.std.proofs.Common.{false, Option, Some, None, IfSome, All, length, nat_lt, arith}
 use borrow.Author.Tests.{ltb-true, ltb-false}
 use Rattle.std.specs.List.{Contains, flat_map}
 use Rattle.std.proofs.lemmas.Bool.Decides.{nat_tests}
@@ -11,9 +12,11 @@ use Rattle.shader_ir.specs.Slots.{kept, read_optional}
 use Rattle.shader_resolve.specs.Context.{context_of}
 use Rattle.shader_resolve.specs.WellFormed.{ExpressionInRange, FunctionInRange, LocalInRange, StatementInRange}
 use Rattle.shader_chains.specs.Counts.{one_of, times, count_of}
-use Rattle.shader_chains.specs.Faults.{Cause, CountFull, Settings, StepFault, untyped, no_capability, bad_element, no_image_place, no_sampler_place, no_image_passed, no_sampler_passed, misplaced, count_full}
+use Rattle.shader_chains.specs.Faults.{Cause, CountFull, Settings, StepFault, untyped, no_capability, bad_element, no_image_place}
+use Rattle.shader_chains.specs.Faults.{no_sampler_place, no_image_passed, no_sampler_passed, misplaced, count_full}
 use Rattle.shader_chains.specs.Infos.{Info}
-use Rattle.shader_chains.specs.Program.{Function, Module, Expression, Label, Step, expression_operands, statement_operands, statements, occurrences}
+use Rattle.shader_chains.specs.Program.{Function, Module, Expression, Label, Step, expression_operands}
+use Rattle.shader_chains.specs.Program.{statement_operands, statements, occurrences}
 use Rattle.shader_sweeps.specs.InfoOf.{infos_of}
 use Rattle.shader_fault_laws.specs.Refused.{CountsFit, FullCountsAreFaults}
 use Rattle.shader_fault_laws.proofs.Members.{all_flat}

@@ -1,13 +1,17 @@
 -- What is told to disrupt the flow does, and what ends the function is in it.
-use Rattle.std.proofs.Common.{◌≡◌, refl, sym, ap, ◌∙◌, ℕ, ◌⊎◌, inl, inr, List, Bool, true, false, ◌||◌, ◌&&◌, IsTrue, Option, Some, None, is_some, slice_get, unwrap_or}
+use Rattle.std.proofs.Common.{◌≡◌, refl, sym, ap, ◌∙◌, ℕ, ◌⊎◌, inl, inr, List, Bool, true, false, ◌||◌}
+use Rattle.std.proofs.Common.{◌&&◌, IsTrue, Option, Some, None, is_some, slice_get, unwrap_or}
 use Rattle.std.specs.Option.{option_and_then, option_map}
 use Rattle.std.specs.List.{Contains}
 use Rattle.std.proofs.lemmas.Bool.{or_cases}
 use Rattle.shader_ir.specs.declared.statement.SwitchValue.{SwitchValue}
-use Rattle.shader_chains.specs.Faults.{Around, branch, deeper, Disruptor, Source, EarlierReturn, EarlierDiscard, MayBlame, a_source, a_return, a_kill, a_call, RecordsPair, Settings}
+use Rattle.shader_chains.specs.Faults.{Around, branch, deeper, Disruptor, Source, EarlierReturn, EarlierDiscard}
+use Rattle.shader_chains.specs.Faults.{MayBlame, a_source, a_return, a_kill, a_call, RecordsPair, Settings}
 use Rattle.shader_chains.specs.Faults as faults
-use Rattle.shader_chains.specs.Flow.{At, rest, inside, Part, inner, accept, reject, body, continuing, case_of, CasesIn, from_first, after, BranchOn, Disrupted}
-use Rattle.shader_chains.specs.Program.{Function, Module, Simple, Return, Kill, Call, Step, Leaf, Nested, If, Switch, Loop, Body, End, Then, Cases, NoCase, Case, statements}
+use Rattle.shader_chains.specs.Flow.{At, rest, inside, Part, inner, accept, reject, body, continuing}
+use Rattle.shader_chains.specs.Flow.{case_of, CasesIn, from_first, after, BranchOn, Disrupted}
+use Rattle.shader_chains.specs.Program.{Function, Module, Simple, Return, Kill, Call, Step, Leaf, Nested}
+use Rattle.shader_chains.specs.Program.{If, Switch, Loop, Body, End, Then, Cases, NoCase, Case, statements}
 use Rattle.shader_chains.specs.Steps.{RecordsKills, StepExpressionNeed, StepOrigin}
 use Rattle.shader_chains.specs.Sweep.{flag, case_flag, step_exits, block_exits}
 use Rattle.shader_chains.proofs.FlowLemmas.{more_disrupted, stands_within}
@@ -67,14 +71,16 @@ module _ (m : Module) (infos : List FunctionInfo) (f : Function) (settings : Set
   F p = flag VB KB p
 
   abbrev pub Blamed : (b : Body) → At f.body b → Disruptor → Type 0
-  Blamed b p d = MayBlame (StepOrigin m (infos_of infos) f) (RecordsKills (infos_of infos)) (StepExpressionNeed (infos_of infos) f) (RecordsPair (infos_of infos)) m settings f b p d
+  Blamed b p d = MayBlame (StepOrigin m (infos_of infos) f) (RecordsKills (infos_of infos)) (StepExpressionNeed (infos_of infos) f)
+      (RecordsPair (infos_of infos)) m settings f b p d
 
   -- what is told at a place, if anything, may be blamed
   abbrev pub Told : (b : Body) → At f.body b → Option UniformityDisruptor → Type 0
   Told b p (Some d) = Blamed b p (disruptor_of d)
   Told b p None = Unit {0}
 
-  blamed_part : (s : Step) (b x : Body) (p : At f.body (Then s b)) (part : Part s x) (d : Disruptor) → Blamed (Then s b) p d → Blamed x (inside p part) d
+  blamed_part : (s : Step) (b x : Body) (p : At f.body (Then s b)) (part : Part s x) (d : Disruptor) → Blamed (Then s b) p d →
+      Blamed x (inside p part) d
   blamed_part s b x p part _ (a_source w) = a_source (deeper w)
   blamed_part s b x p part _ (a_return q d) = a_return q d
   blamed_part s b x p part _ (a_kill q d) = a_kill q d
@@ -86,15 +92,18 @@ module _ (m : Module) (infos : List FunctionInfo) (f : Function) (settings : Set
   blamed_rest s b p _ (a_kill q d) = a_kill q d
   blamed_rest s b p _ (a_call holds k) = a_call holds k
 
-  pub told_part : (s : Step) (b x : Body) (p : At f.body (Then s b)) (part : Part s x) (o : Option UniformityDisruptor) → Told (Then s b) p o → Told x (inside p part) o
+  pub told_part : (s : Step) (b x : Body) (p : At f.body (Then s b)) (part : Part s x) (o : Option UniformityDisruptor) →
+      Told (Then s b) p o → Told x (inside p part) o
   told_part s b x p part (Some d) w = blamed_part s b x p part (disruptor_of d) w
   told_part s b x p part None w = tt
 
-  pub told_rest : (s : Step) (b : Body) (p : At f.body (Then s b)) (o : Option UniformityDisruptor) → Told (Then s b) p o → Told b (rest p) o
+  pub told_rest : (s : Step) (b : Body) (p : At f.body (Then s b)) (o : Option UniformityDisruptor) → Told (Then s b) p o →
+      Told b (rest p) o
   told_rest s b p (Some d) w = blamed_rest s b p (disruptor_of d) w
   told_rest s b p None w = tt
 
-  pub told_branch : (s : Step) (b x : Body) (p : At f.body (Then s b)) (part : Part s x) (e : ℕ) → BranchOn e s x part → (o : Option UniformityDisruptor) →
+  pub told_branch : (s : Step) (b x : Body) (p : At f.body (Then s b)) (part : Part s x) (e : ℕ) → BranchOn e s x part →
+      (o : Option UniformityDisruptor) →
       Told (Then s b) p o → Told x (inside p part) (on_branch origin o e)
   told_branch s b x p part e is (Some d) w = blamed_part s b x p part (disruptor_of d) w
   told_branch s b x p part e is None w = at (origin e) refl where
@@ -143,14 +152,16 @@ module _ (m : Module) (infos : List FunctionInfo) (f : Function) (settings : Set
   told_behind b p None e w l = told_exit b p e.returns e.kills l.0 l.1
 
   pub disrupted_at : (b : Body) (p : At f.body b) → IsTrue (F p) → D b p
-  disrupted_at b p h = more_disrupted (λ e. IsTrue (VB e)) V (λ c. IsTrue (KB c)) K f.body (to_origin m infos f below) (λ c _ _ _ _ k. killing_to infos c k) b p
+  disrupted_at b p h = more_disrupted (λ e. IsTrue (VB e)) V (λ c. IsTrue (KB c)) K f.body (to_origin m infos f below)
+      (λ c _ _ _ _ k. killing_to infos c k) b p
       (((sweep_is_least VB KB f.body).0 b p).0 h)
 
   -- the flag is told by the disruptor
   abbrev pub Flags : {b : Body} → At f.body b → Option UniformityDisruptor → Type 0
   Flags p o = is_some o ≡ F p
 
-  pub flag_rest : (s : Step) (b : Body) (p : At f.body (Then s b)) (o : Option UniformityDisruptor) → Flags p o → Flags (rest p) (behind o (step_ends origin KB o s))
+  pub flag_rest : (s : Step) (b : Body) (p : At f.body (Then s b)) (o : Option UniformityDisruptor) → Flags p o →
+      Flags (rest p) (behind o (step_ends origin KB o s))
   flag_rest s b p o is = flag_behind origin VB (varies_is facts) infos s o ∙ ap (λ v. v || step_exits VB KB v s) is
 
   pub flag_branch : (b : Body) (s : Step) (p : At f.body (Then s b)) (o : Option UniformityDisruptor) (e : ℕ) → Flags p o →
@@ -162,14 +173,16 @@ module _ (m : Module) (infos : List FunctionInfo) (f : Function) (settings : Set
   flag_again x b s p o is = flag_continuing origin VB (varies_is facts) infos x o ∙ ap (λ v. v || block_exits VB KB v x) is
 
   pub flag_next : (v : SwitchValue) (x : Body) (fall : Bool) (e : ℕ) (all cs : Cases) (b : Body) (p : At f.body (Then (Switch e all) b))
-      (k : CasesIn all (Case v x fall cs)) (o now : Option UniformityDisruptor) → is_some o ≡ (F p || VB e) → is_some now ≡ case_flag VB KB (F p || VB e) k →
+      (k : CasesIn all (Case v x fall cs)) (o now : Option UniformityDisruptor) → is_some o ≡ (F p || VB e) →
+      is_some now ≡ case_flag VB KB (F p || VB e) k →
       Covers o now → is_some (entered o now fall (block_ends origin KB now x)) ≡ case_flag VB KB (F p || VB e) (after k)
   flag_next v x fall e all cs b p k o now is is_now le =
       flag_entered origin VB (varies_is facts) infos x fall o now le
       ∙ (ap (λ w. w || (fall && (is_some now || block_exits VB KB (is_some now) x))) is
       ∙ ap (λ w. (F p || VB e) || (fall && (w || block_exits VB KB w x))) is_now)
 
-  left_leaf : (simple : Simple) (b : Body) (p : At f.body (Then (Leaf simple) b)) (o : Option UniformityDisruptor) → Flags p o → Left (leaf_ends KB o simple)
+  left_leaf : (simple : Simple) (b : Body) (p : At f.body (Then (Leaf simple) b)) (o : Option UniformityDisruptor) → Flags p o →
+      Left (leaf_ends KB o simple)
   left_leaf (Return v) b p o is = (λ h. (v, b, p, disrupted_at (Then (Leaf (Return v)) b) p (sym is ∙ h)), λ h. absurd (cc))
   left_leaf Kill b p o is = (λ h. absurd (cc), λ h. inl (b, p, disrupted_at (Then (Leaf Kill) b) p (sym is ∙ h)))
   left_leaf (Call c arguments result) b p o is =
@@ -183,7 +196,8 @@ module _ (m : Module) (infos : List FunctionInfo) (f : Function) (settings : Set
         left_either (step_ends origin KB o s) (block_ends origin KB (behind o (step_ends origin KB o s)) b) (left_step s b p o is)
         (left_block b (rest p) (behind o (step_ends origin KB o s)) (flag_rest s b p o is))
 
-    pub left_step : (s : Step) (b : Body) (p : At f.body (Then s b)) (o : Option UniformityDisruptor) → Flags p o → Left (step_ends origin KB o s)
+    pub left_step : (s : Step) (b : Body) (p : At f.body (Then s b)) (o : Option UniformityDisruptor) → Flags p o →
+        Left (step_ends origin KB o s)
     left_step (Leaf simple) b p o is = left_leaf simple b p o is
     left_step (Nested x) b p o is = left_block x (inside p inner) o is
     left_step (If c x y) b p o is =
@@ -191,16 +205,20 @@ module _ (m : Module) (infos : List FunctionInfo) (f : Function) (settings : Set
         (left_block x (inside p accept) (on_branch origin o c) (flag_branch b (If c x y) p o c is))
         (left_block y (inside p reject) (on_branch origin o c) (flag_branch b (If c x y) p o c is))
     left_step (Loop x y k) b p o is =
-        left_either (block_ends origin KB o x) (block_ends origin KB (behind o (block_ends origin KB o x)) y) (left_block x (inside p body) o is)
+        left_either (block_ends origin KB o x) (block_ends origin KB (behind o (block_ends origin KB o x)) y)
+        (left_block x (inside p body) o is)
         (left_block y (inside p continuing) (behind o (block_ends origin KB o x)) (flag_again x b (Loop x y k) p o is))
     left_step (Switch e cs) b p o is =
-        left_cases cs e cs b p from_first (on_branch origin o e) (on_branch origin o e) (flag_branch b (Switch e cs) p o e is) (flag_branch b (Switch e cs) p o e is)
+        left_cases cs e cs b p from_first (on_branch origin o e) (on_branch origin o e) (flag_branch b (Switch e cs) p o e is)
+        (flag_branch b (Switch e cs) p o e is)
         (or_same (is_some (on_branch origin o e)))
 
-    left_cases : (cs : Cases) (e : ℕ) (all : Cases) (b : Body) (p : At f.body (Then (Switch e all) b)) (k : CasesIn all cs) (o now : Option UniformityDisruptor) →
+    left_cases : (cs : Cases) (e : ℕ) (all : Cases) (b : Body) (p : At f.body (Then (Switch e all) b)) (k : CasesIn all cs)
+        (o now : Option UniformityDisruptor) →
         is_some o ≡ (F p || VB e) → is_some now ≡ case_flag VB KB (F p || VB e) k → Covers o now → Left (cases_end origin KB o now cs)
     left_cases NoCase e all b p k o now is is_now le = left_none
     left_cases (Case v x fall cs) e all b p k o now is is_now le =
         let one = block_ends origin KB now x in
         left_either one (cases_end origin KB o (entered o now fall one) cs) (left_block x (inside p (case_of k)) now is_now)
-        (left_cases cs e all b p (after k) o (entered o now fall one) is (flag_next v x fall e all cs b p k o now is is_now le) (entered_covers o now fall one le))
+        (left_cases cs e all b p (after k) o (entered o now fall one) is (flag_next v x fall e all cs b p k o now is is_now le)
+        (entered_covers o now fall one le))

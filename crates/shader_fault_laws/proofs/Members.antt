@@ -8,5 +8,6 @@ use Rattle.shader_chains.proofs.ListLemmas.{in_flat}
 pub all_members : {X : Type 0} (P : X → Type 0) (xs : List X) → ((x : X) → Contains xs x → P x) → All P xs
 all_members P xs each = All-weaker (Contains xs) P each xs (All-contains_itself xs)
 
-pub all_flat : {X Y : Type 0} (P : Y → Type 0) (g : X → List Y) (xs : List X) → ((x : X) → Contains xs x → All P (g x)) → All P (flat_map g xs)
+pub all_flat : {X Y : Type 0} (P : Y → Type 0) (g : X → List Y) (xs : List X) → ((x : X) → Contains xs x → All P (g x)) →
+    All P (flat_map g xs)
 all_flat P g xs each = all_members P (flat_map g xs) (λ y h. let at = in_flat g xs y h in All-contains P (g at.0) y (each at.0 at.1) at.2)

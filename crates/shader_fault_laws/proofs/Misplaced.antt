@@ -1,13 +1,16 @@
 -- The first misplaced expression is emitted in disrupted flow, and what is told to disrupt it may be blamed.
-use Rattle.std.proofs.Common.{◌≡◌, refl, sym, ap, subst, ◌∙◌, ℕ, ◌⊎◌, inl, inr, List, [], ◌∷◌, Bool, true, false, ◌||◌, IsTrue, Option, Some, None, is_some}
+use Rattle.std.proofs.Common.{◌≡◌, refl, sym, ap, subst, ◌∙◌, ℕ, ◌⊎◌, inl, inr, List, [], ◌∷◌}
+use Rattle.std.proofs.Common.{Bool, true, false, ◌||◌, IsTrue, Option, Some, None, is_some}
 use Rattle.std.specs.Option.{option_or}
 use Rattle.std.specs.List.{Contains}
 use Rattle.shader_arena.specs.Places.{places_between}
 use Rattle.shader_ir.specs.declared.statement.SwitchValue.{SwitchValue}
 use Rattle.shader_chains.specs.Faults.{Disruptor, Settings}
-use Rattle.shader_chains.specs.Flow.{At, start, rest, inside, inner, accept, reject, body, continuing, case_of, CasesIn, from_first, after, accepts, rejects, selects}
+use Rattle.shader_chains.specs.Flow.{At, start, rest, inside, inner, accept, reject, body, continuing}
+use Rattle.shader_chains.specs.Flow.{case_of, CasesIn, from_first, after, accepts, rejects, selects}
 use Rattle.shader_chains.specs.Needs.{Need, bit_of_need}
-use Rattle.shader_chains.specs.Program.{Function, Module, Simple, Emit, Step, Leaf, Nested, If, Switch, Loop, Body, End, Then, Cases, NoCase, Case}
+use Rattle.shader_chains.specs.Program.{Function, Module, Simple, Emit, Step, Leaf, Nested, If}
+use Rattle.shader_chains.specs.Program.{Switch, Loop, Body, End, Then, Cases, NoCase, Case}
 use Rattle.shader_chains.specs.Steps.{StepExpressionNeed}
 use Rattle.shader_chains.specs.Sweep.{case_flag, found}
 use Rattle.shader_chains.proofs.FindLemmas.{sweep_finds}
@@ -23,7 +26,8 @@ use Rattle.shader_steps.proofs.StepKills.{of_any, of_killing}
 use Rattle.shader_sweeps.specs.declared.facts.Fact.{Fact}
 use Rattle.shader_sweeps.specs.declared.flow.Exits.{Exits}
 use Rattle.shader_sweeps.specs.declared.flow.Misplaced.{Misplaced}
-use Rattle.shader_sweeps.specs.Ends.{behind, entered, is_needy, leaf_fault, on_branch, step_ends, block_ends, needy_or, first_needy, misplaced, step_fault, block_fault, cases_fault}
+use Rattle.shader_sweeps.specs.Ends.{behind, entered, is_needy, leaf_fault, on_branch, step_ends, block_ends}
+use Rattle.shader_sweeps.specs.Ends.{needy_or, first_needy, misplaced, step_fault, block_fault, cases_fault}
 use Rattle.shader_sweeps.specs.Facts.{needs_at}
 use Rattle.shader_sweeps.specs.InfoOf.{PointsBackwards, infos_of}
 use Rattle.shader_fault_laws.specs.Refused.{HeldMisplaced, MisplacedAreFaults, misplaced_found}
@@ -35,7 +39,8 @@ use Rattle.shader_fault_laws.proofs.Varied.{of_origin}
 needy_to : (facts : List Fact) (es : List ℕ) (e : ℕ) → first_needy facts es ≡ Some e → Contains es e × IsTrue (is_needy facts e)
 needy_to facts [] e h = absurd (cc)
 needy_to facts (x ∷ xs) e h = at (is_needy facts x) refl h (λ k. needy_to facts xs e k) where
-  at : (b : Bool) → is_needy facts x ≡ b → needy_or b x (first_needy facts xs) ≡ Some e → (first_needy facts xs ≡ Some e → Contains xs e × IsTrue (is_needy facts e)) →
+  at : (b : Bool) → is_needy facts x ≡ b → needy_or b x (first_needy facts xs) ≡ Some e →
+      (first_needy facts xs ≡ Some e → Contains xs e × IsTrue (is_needy facts e)) →
       Contains (x ∷ xs) e × IsTrue (is_needy facts e)
   at true t k back =
       let same : x ≡ e = cc in
@@ -74,8 +79,10 @@ module _ (m : Module) (infos : List FunctionInfo) (f : Function) (settings : Set
   abbrev Bad : Misplaced → Type 0
   Bad x = HeldMisplaced m infos f settings x.requirements.0 x.expression (disruptor_of x.disruptor)
 
-  emitted : (begin finish : ℕ) (b : Body) (p : At f.body (Then (Leaf (Emit begin finish)) b)) (o : Option UniformityDisruptor) (r : Option ℕ) →
-      first_needy facts (places_between begin finish) ≡ r → Flags p o → Told (Then (Leaf (Emit begin finish)) b) p o → (x : Misplaced) → misplaced facts o r ≡ Some x → Bad x
+  emitted : (begin finish : ℕ) (b : Body) (p : At f.body (Then (Leaf (Emit begin finish)) b)) (o : Option UniformityDisruptor)
+      (r : Option ℕ) →
+      first_needy facts (places_between begin finish) ≡ r → Flags p o → Told (Then (Leaf (Emit begin finish)) b) p o → (x : Misplaced) →
+      misplaced facts o r ≡ Some x → Bad x
   emitted begin finish b p (Some d) (Some e) k is w x h =
       let same : record { requirements = record { 0 = needs_at facts e }; expression = e; disruptor = d } ≡ x = cc in
       let n = needy_to facts (places_between begin finish) e k in
@@ -103,63 +110,81 @@ module _ (m : Module) (infos : List FunctionInfo) (f : Function) (settings : Set
 
   -- at each of the cases
   abbrev ToldCases : (e : ℕ) (all : Cases) (b : Body) → At f.body (Then (Switch e all) b) → Option UniformityDisruptor → Type 0
-  ToldCases e all b p o = (v : SwitchValue) (x : Body) (fall : Bool) (cs : Cases) (k : CasesIn all (Case v x fall cs)) → Told x (inside p (case_of k)) o
+  ToldCases e all b p o = (v : SwitchValue) (x : Body) (fall : Bool) (cs : Cases) (k : CasesIn all (Case v x fall cs)) →
+      Told x (inside p (case_of k)) o
 
-  told_next : (e : ℕ) (all : Cases) (b : Body) (p : At f.body (Then (Switch e all) b)) (o now : Option UniformityDisruptor) (fall : Bool) (one : Exits) →
+  told_next : (e : ℕ) (all : Cases) (b : Body) (p : At f.body (Then (Switch e all) b)) (o now : Option UniformityDisruptor) (fall : Bool)
+      (one : Exits) →
       ToldCases e all b p o → ToldCases e all b p now → Left one → ToldCases e all b p (entered o now fall one)
-  told_next e all b p o now true one w w_now l v y fall cs k = flow.told_behind m infos f settings below y (inside p (case_of k)) now one (w_now v y fall cs k) l
+  told_next e all b p o now true one w w_now l v y fall cs k =
+      flow.told_behind m infos f settings below y (inside p (case_of k)) now one (w_now v y fall cs k) l
   told_next e all b p o now false one w w_now l v y fall cs k = w v y fall cs k
 
-  bad_leaf : (simple : Simple) (b : Body) (p : At f.body (Then (Leaf simple) b)) (o : Option UniformityDisruptor) → Flags p o → Told (Then (Leaf simple) b) p o →
+  bad_leaf : (simple : Simple) (b : Body) (p : At f.body (Then (Leaf simple) b)) (o : Option UniformityDisruptor) → Flags p o →
+      Told (Then (Leaf simple) b) p o →
       (x : Misplaced) → leaf_fault facts o simple ≡ Some x → Bad x
   bad_leaf (Emit begin finish) b p o is w x h = emitted begin finish b p o (first_needy facts (places_between begin finish)) refl is w x h
   bad_leaf simple b p o is w x h = absurd (cc)
 
   mutual
-    bad_block : (b : Body) (p : At f.body b) (o : Option UniformityDisruptor) → Flags p o → Told b p o → (x : Misplaced) → block_fault origin KB facts o b ≡ Some x → Bad x
+    bad_block : (b : Body) (p : At f.body b) (o : Option UniformityDisruptor) → Flags p o → Told b p o → (x : Misplaced) →
+        block_fault origin KB facts o b ≡ Some x → Bad x
     bad_block End p o is w x h = absurd (cc)
     bad_block (Then s b) p o is w x h =
         elim (either_fault (step_fault origin KB facts o s) (block_fault origin KB facts (behind o (step_ends origin KB o s)) b) x h) [
           | inl one ↦ bad_step s b p o is w x one
           | inr more ↦ bad_block b (rest p) (behind o (step_ends origin KB o s)) (flow.flag_rest m infos f settings below s b p o is)
-              (flow.told_behind m infos f settings below b (rest p) o (step_ends origin KB o s) (flow.told_rest m infos f settings below s b p o w)
+              (flow.told_behind m infos f settings below b (rest p) o (step_ends origin KB o s)
+              (flow.told_rest m infos f settings below s b p o w)
               (flow.left_step m infos f settings below s b p o is)) x more
         ]
 
-    bad_step : (s : Step) (b : Body) (p : At f.body (Then s b)) (o : Option UniformityDisruptor) → Flags p o → Told (Then s b) p o → (x : Misplaced) →
+    bad_step : (s : Step) (b : Body) (p : At f.body (Then s b)) (o : Option UniformityDisruptor) → Flags p o → Told (Then s b) p o →
+        (x : Misplaced) →
         step_fault origin KB facts o s ≡ Some x → Bad x
     bad_step (Leaf simple) b p o is w x h = bad_leaf simple b p o is w x h
-    bad_step (Nested y) b p o is w x h = bad_block y (inside p inner) o is (flow.told_part m infos f settings below (Nested y) b y p inner o w) x h
+    bad_step (Nested y) b p o is w x h = bad_block y (inside p inner) o is
+        (flow.told_part m infos f settings below (Nested y) b y p inner o w) x h
     bad_step (If c y z) b p o is w x h =
         let branched = flow.flag_branch m infos f settings below b (If c y z) p o c is in
-        elim (either_fault (block_fault origin KB facts (on_branch origin o c) y) (block_fault origin KB facts (on_branch origin o c) z) x h) [
-          | inl one ↦ bad_block y (inside p accept) (on_branch origin o c) branched (flow.told_branch m infos f settings below (If c y z) b y p accept c accepts o w) x one
-          | inr more ↦ bad_block z (inside p reject) (on_branch origin o c) branched (flow.told_branch m infos f settings below (If c y z) b z p reject c rejects o w) x more
+        elim (either_fault (block_fault origin KB facts (on_branch origin o c) y)
+        (block_fault origin KB facts (on_branch origin o c) z) x h) [
+          | inl one ↦ bad_block y (inside p accept) (on_branch origin o c) branched
+              (flow.told_branch m infos f settings below (If c y z) b y p accept c accepts o w) x one
+          | inr more ↦ bad_block z (inside p reject) (on_branch origin o c) branched
+              (flow.told_branch m infos f settings below (If c y z) b z p reject c rejects o w) x more
         ]
     bad_step (Loop y z k) b p o is w x h =
         elim (either_fault (block_fault origin KB facts o y) (block_fault origin KB facts (behind o (block_ends origin KB o y)) z) x h) [
           | inl one ↦ bad_block y (inside p body) o is (flow.told_part m infos f settings below (Loop y z k) b y p body o w) x one
-          | inr more ↦ bad_block z (inside p continuing) (behind o (block_ends origin KB o y)) (flow.flag_again m infos f settings below y b (Loop y z k) p o is)
+          | inr more ↦ bad_block z (inside p continuing) (behind o (block_ends origin KB o y))
+              (flow.flag_again m infos f settings below y b (Loop y z k) p o is)
               (flow.told_behind m infos f settings below z (inside p continuing) o (block_ends origin KB o y)
-              (flow.told_part m infos f settings below (Loop y z k) b z p continuing o w) (flow.left_block m infos f settings below y (inside p body) o is)) x more
+              (flow.told_part m infos f settings below (Loop y z k) b z p continuing o w)
+              (flow.left_block m infos f settings below y (inside p body) o is)) x more
         ]
     bad_step (Switch e cs) b p o is w x h =
         let branched = flow.flag_branch m infos f settings below b (Switch e cs) p o e is in
-        bad_cases cs e cs b p from_first (on_branch origin o e) (on_branch origin o e) branched branched (flow.or_same (is_some (on_branch origin o e)))
+        bad_cases cs e cs b p from_first (on_branch origin o e) (on_branch origin o e) branched branched
+        (flow.or_same (is_some (on_branch origin o e)))
         (λ v y fall ds k. flow.told_branch m infos f settings below (Switch e cs) b y p (case_of k) e (selects k) o w)
         (λ v y fall ds k. flow.told_branch m infos f settings below (Switch e cs) b y p (case_of k) e (selects k) o w) x h
 
-    bad_cases : (cs : Cases) (e : ℕ) (all : Cases) (b : Body) (p : At f.body (Then (Switch e all) b)) (k : CasesIn all cs) (o now : Option UniformityDisruptor) →
-        is_some o ≡ (F p || VB e) → is_some now ≡ case_flag VB KB (F p || VB e) k → Covers o now → ToldCases e all b p o → ToldCases e all b p now →
+    bad_cases : (cs : Cases) (e : ℕ) (all : Cases) (b : Body) (p : At f.body (Then (Switch e all) b)) (k : CasesIn all cs)
+        (o now : Option UniformityDisruptor) →
+        is_some o ≡ (F p || VB e) → is_some now ≡ case_flag VB KB (F p || VB e) k → Covers o now → ToldCases e all b p o →
+        ToldCases e all b p now →
         (x : Misplaced) → cases_fault origin KB facts o now cs ≡ Some x → Bad x
     bad_cases NoCase e all b p k o now is is_now le w w_now x h = absurd (cc)
     bad_cases (Case v y fall cs) e all b p k o now is is_now le w w_now x h =
         let one = block_ends origin KB now y in
         elim (either_fault (block_fault origin KB facts now y) (cases_fault origin KB facts o (entered o now fall one) cs) x h) [
           | inl at_once ↦ bad_block y (inside p (case_of k)) now is_now (w_now v y fall cs k) x at_once
-          | inr more ↦ bad_cases cs e all b p (after k) o (entered o now fall one) is (flow.flag_next m infos f settings below v y fall e all cs b p k o now is is_now le)
+          | inr more ↦ bad_cases cs e all b p (after k) o (entered o now fall one) is
+              (flow.flag_next m infos f settings below v y fall e all cs b p k o now is is_now le)
               (entered_covers o now fall one le) w
-              (told_next e all b p o now fall one w w_now (flow.left_block m infos f settings below y (inside p (case_of k)) now is_now)) x more
+              (told_next e all b p o now fall one w w_now (flow.left_block m infos f settings below y (inside p (case_of k)) now
+              is_now)) x more
         ]
 
   -- a misplaced expression is found
@@ -169,7 +194,8 @@ module _ (m : Module) (infos : List FunctionInfo) (f : Function) (settings : Set
       let set = (needs_bits m infos f e n (need_within m infos f e n needed)).1 needed in
       of_any (is_needy facts) (places_between begin finish) e h (number_needy (needs_at facts e) (bit_of_need n) set)
 
-  found_where : (needs e : ℕ) (d : Disruptor) → HeldMisplaced m infos f settings needs e d → IsTrue (found VB KB (emits_needy facts) false f.body)
+  found_where : (needs e : ℕ) (d : Disruptor) → HeldMisplaced m infos f settings needs e d →
+      IsTrue (found VB KB (emits_needy facts) false f.body)
   found_where needs e d x =
       (sweep_finds VB KB (emits_needy facts) f.body).1 (
         Leaf (Emit x.start x.finish),
@@ -182,7 +208,8 @@ module _ (m : Module) (infos : List FunctionInfo) (f : Function) (settings : Set
 
   none_found : misplaced_found m infos f ≡ None → IsTrue (found VB KB (emits_needy facts) false f.body) → ⊥
   none_found none some =
-      let is : is_some (misplaced_found m infos f) ≡ found VB KB (emits_needy facts) false f.body = block_first origin VB (flow.varies_is facts) infos facts f.body None in
+      let is : is_some (misplaced_found m infos f) ≡ found VB KB (emits_needy facts) false f.body =
+      block_first origin VB (flow.varies_is facts) infos facts f.body None in
       let never : false ≡ found VB KB (emits_needy facts) false f.body = sym (ap is_some none) ∙ is in
       absurd (cc)
 

@@ -1,5 +1,7 @@
 -- What is found that an expression asks of the flow, as a number.
-use Rattle.std.proofs.Common.{◌≡◌, ◌≢◌, refl, ap, subst, ◌∙◌, ℕ, zero, suc, ◌<◌, ◌≤◌, ◌↔◌, ◌⊎◌, inl, inr, Bool, true, false, not, IsTrue, List, [], Option, Some, None, map, nat_eq, nat_lt, slice_get, slice_index, length, get_or, unwrap_or, bit_and, arith}
+use Rattle.std.proofs.Common.{◌≡◌, ◌≢◌, refl, ap, subst, ◌∙◌, ℕ, zero, suc, ◌<◌, ◌≤◌, ◌↔◌, ◌⊎◌, inl, inr}
+use Rattle.std.proofs.Common.{Bool, true, false, not, IsTrue, List, [], Option, Some, None, map, nat_eq}
+use Rattle.std.proofs.Common.{nat_lt, slice_get, slice_index, length, get_or, unwrap_or, bit_and, arith}
 use borrow.Author.Tests.{ltb-true, ltb-false}
 use Rattle.std.specs.Int.{IsBitSet, bit_at}
 use Rattle.std.specs.Option.{option_map}
@@ -70,7 +72,7 @@ level_small (level.Bias b) = omega arith
 level_small l = omega arith
 
 form_small : (x : Expression) → form_needs x < 16
-form_small (form.ImageSample i s g c a o l d k) = level_small l
+form_small (form.ImageSample i s g k c a o l d) = level_small l
 form_small (form.Derivative a c e) = omega arith
 form_small (form.CooperativeLoad a b r t) = omega arith
 form_small (form.CooperativeMultiplyAdd a b c) = omega arith
@@ -131,7 +133,8 @@ module _ (m : Module) (infos : List FunctionInfo) (f : Function) where
         let some = slice_get-get_or facts e (entry m infos f [] 0 form.RayQueryProceedResult) (omega (arith, facts_long, lt)) in absurd (cc)
     at (Some fact) is = get_or_from_slice_get (map rq facts) e (rq fact) 0 (slice_get-map rq facts e ∙ ap (option_map rq) is)
 
-  pub needs_bits : (e : ℕ) (n : Need) → e < length f.expressions → IsBitSet (needs_at facts e) (bit_of_need n) ↔ StepExpressionNeed (infos_of infos) f n e
+  pub needs_bits : (e : ℕ) (n : Need) → e < length f.expressions →
+      IsBitSet (needs_at facts e) (bit_of_need n) ↔ StepExpressionNeed (infos_of infos) f n e
   needs_bits e n lt =
       let P : ℕ → Type 0 = λ v. IsBitSet v (bit_of_need n) ↔ StepExpressionNeed (infos_of infos) f n e in
       subst P (same_needs e lt) (expression_needs_of_the_step m infos f n e lt)

@@ -38,7 +38,8 @@ module _ (globals arguments : ℕ) where
   Both pair = IsWithin globals arguments pair.0 × IsWithin globals arguments pair.1
 
   -- the pairs of two globals and those with an argument
-  of_pairs : (known : List SamplingKey) (open_pairs : List Sampling) → All (IsKnown globals) known → All (IsOpen globals arguments) open_pairs →
+  of_pairs : (known : List SamplingKey) (open_pairs : List Sampling) → All (IsKnown globals) known →
+      All (IsOpen globals arguments) open_pairs →
       (pair : Place × Place) → Contains (pairs_in known open_pairs) pair → Both pair
   of_pairs known open_pairs all_known all_open pair h =
       let P : Place × Place → Type 0 = λ v. Both v in
@@ -53,19 +54,24 @@ module _ (globals arguments : ℕ) where
             subst P at.2 (of_place at.0.image is.0, of_place at.0.sampler is.1)
       ]
 
-  to_known : (known : List SamplingKey) (open_pairs : List Sampling) → ((pair : Place × Place) → Contains (pairs_in known open_pairs) pair → Both pair) →
+  to_known : (known : List SamplingKey) (open_pairs : List Sampling) →
+      ((pair : Place × Place) → Contains (pairs_in known open_pairs) pair → Both pair) →
       All (IsKnown globals) known
   to_known known open_pairs each = all_members (IsKnown globals) known (λ key h.
-      let both = each (key_pair key) (Contains-append_left (map key_pair known) (map sampling_pair open_pairs) (key_pair key) (of_map key_pair known key h)) in
+      let both = each (key_pair key) (Contains-append_left (map key_pair known) (map sampling_pair open_pairs) (key_pair key)
+      (of_map key_pair known key h)) in
       (both.0, both.1))
 
-  to_open : (known : List SamplingKey) (open_pairs : List Sampling) → ((pair : Place × Place) → Contains (pairs_in known open_pairs) pair → Both pair) →
+  to_open : (known : List SamplingKey) (open_pairs : List Sampling) →
+      ((pair : Place × Place) → Contains (pairs_in known open_pairs) pair → Both pair) →
       All (IsOpen globals arguments) open_pairs
   to_open known open_pairs each = all_members (IsOpen globals arguments) open_pairs (λ pair h.
-      let both = each (sampling_pair pair) (Contains-append_right (map key_pair known) (map sampling_pair open_pairs) (sampling_pair pair) (of_map sampling_pair open_pairs pair h)) in
+      let both = each (sampling_pair pair) (Contains-append_right (map key_pair known) (map sampling_pair open_pairs) (sampling_pair pair)
+      (of_map sampling_pair open_pairs pair h)) in
       (to_place pair.image both.0, to_place pair.sampler both.1))
 
-module _ (m : Module) (infos : List FunctionInfo) (f : Function) (held : FitHeld m infos) (globals : GlobalsWithin m f) (arguments : ArgumentsWithin f) where
+module _ (m : Module) (infos : List FunctionInfo) (f : Function) (held : FitHeld m infos) (globals : GlobalsWithin m f)
+    (arguments : ArgumentsWithin f) where
   abbrev Within : Place → Type 0
   Within p = IsWithin (length m.global_variables) (length f.arguments) p
 
@@ -87,7 +93,8 @@ module _ (m : Module) (infos : List FunctionInfo) (f : Function) (held : FitHeld
   place_within e o p is h = absurd (cc)
 
   -- a place of a called function, in its caller
-  caller_within : (n : ℕ) (passed : List ℕ) (p q : Place) → IsWithin (length m.global_variables) n p → in_caller f passed p ≡ Some q → Within q
+  caller_within : (n : ℕ) (passed : List ℕ) (p q : Place) → IsWithin (length m.global_variables) n p →
+      in_caller f passed p ≡ Some q → Within q
   caller_within n passed (InGlobal g) q lt h =
       let same : InGlobal g ≡ q = cc in
       let P : Place → Type 0 = λ v. Within v in subst P same lt
@@ -105,7 +112,10 @@ module _ (m : Module) (infos : List FunctionInfo) (f : Function) (held : FitHeld
       let fits = held.fits call.callee r.0 at.0 r.1 at.1 in
       let P : Info → Type 0 = λ v. Contains v.pairs (p, q) in
       let n = length r.0.arguments in
-      let both = of_pairs (length m.global_variables) n at.0.sampling_set.keys at.0.sampling.keys fits.known fits.with_arguments (p, q) (subst P (sym at.2) h) in
+      let both = of_pairs (length m.global_variables) n at.0.sampling_set.keys at.0.sampling.keys fits.known fits.with_arguments (
+        p,
+        q,
+      ) (subst P (sym at.2) h) in
       (caller_within n passed p image both.0 a, caller_within n passed q sampler both.1 b)
 
 pub found_pairs_are_within : FoundPairsAreWithin
@@ -115,7 +125,8 @@ found_pairs_are_within m infos f held globals arguments image sampler h =
 
 pub collected_pairs_fit : CollectedPairsFit
 collected_pairs_fit m infos f held globals arguments known open_pairs same =
-    let each : (pair : Place × Place) → Contains (pairs_in known open_pairs) pair → Both (length m.global_variables) (length f.arguments) pair =
+    let each : (pair : Place × Place) → Contains (pairs_in known open_pairs) pair →
+    Both (length m.global_variables) (length f.arguments) pair =
     λ pair h. found_pairs_are_within m infos f held globals arguments pair.0 pair.1 (same.to pair h) in (
       to_known (length m.global_variables) (length f.arguments) known open_pairs each,
       to_open (length m.global_variables) (length f.arguments) known open_pairs each,

@@ -2,7 +2,8 @@
 use Rattle.std.proofs.Common.{◌≡◌, refl, sym, ap, subst, ◌∙◌, ℕ, ◌⊎◌, inl, inr, List, [], Option, Some, None, fold, slice_get, unwrap_or}
 use Rattle.std.specs.Option.{option_and_then, option_map}
 use Rattle.std.specs.List.{Contains, enumerate_from}
-use Rattle.shader_chains.specs.Faults.{Cause, NoPlace, Settings, StepFault, untyped, no_capability, bad_element, no_image_place, no_sampler_place, no_image_passed, no_sampler_passed, misplaced, count_full}
+use Rattle.shader_chains.specs.Faults.{Cause, NoPlace, Settings, StepFault, untyped, no_capability, bad_element, no_image_place}
+use Rattle.shader_chains.specs.Faults.{no_sampler_place, no_image_passed, no_sampler_passed, misplaced, count_full}
 use Rattle.shader_chains.specs.Infos.{Info, Place, InGlobal, InArgument, Picks}
 use Rattle.shader_chains.specs.Pairs.{place, in_caller, sampled, samples}
 use Rattle.shader_chains.specs.Program.{Function, Module, Expression, Step, Leaf, Call, Stands, statements}
@@ -35,7 +36,8 @@ module _ (f : Function) where
 
   operands_picks : (e : ℕ) (o : Option (ℕ × ℕ)) → Picks (OperandsLack e o) (operands_missed f None e o)
   operands_picks e (Some operands) =
-      or_picks (Sought (place f operands.0) e) (Sought (place f operands.1) e) (missed_of (place f operands.0) (Some e)) (missed_of (place f operands.1) (Some e))
+      or_picks (Sought (place f operands.0) e) (Sought (place f operands.1) e) (missed_of (place f operands.0) (Some e))
+      (missed_of (place f operands.1) (Some e))
       (sought (place f operands.0) e) (sought (place f operands.1) e)
   operands_picks e None = λ h t. t
 
@@ -57,7 +59,8 @@ module _ (f : Function) where
     passed_picks : (p : Place) → Picks (Passed p) (missed_of (in_caller f arguments p) (passed_for arguments p))
     passed_picks (InGlobal g) = λ h t. let never = t.1 in absurd (cc)
     passed_picks (InArgument i) = at (slice_get arguments i) refl where
-      placed : (e : ℕ) (o : Option Place) → slice_get arguments i ≡ Some e → place f e ≡ o → Picks (Passed (InArgument i)) (missed_of o (Some e))
+      placed : (e : ℕ) (o : Option Place) → slice_get arguments i ≡ Some e → place f e ≡ o →
+          Picks (Passed (InArgument i)) (missed_of o (Some e))
       placed e None a b = (i, refl, a, b)
       placed e (Some p) a b = λ h t.
           let number : i ≡ t.0 = let is = t.1 in cc in
@@ -84,7 +87,8 @@ module _ (f : Function) where
 
   module _ (infos : List FunctionInfo) where
     abbrev CallLacks : Step → ℕ → Type 0
-    CallLacks (Leaf (Call c arguments result)) h = (pair : Place × Place) × Contains (recorded_pairs infos c) pair × PairLacks arguments pair h
+    CallLacks (Leaf (Call c arguments result)) h = (pair : Place × Place) × Contains (recorded_pairs infos c) pair ×
+        PairLacks arguments pair h
     CallLacks s h = ⊥
 
     call_picks : (s : Step) → Picks (CallLacks s) (call_missed infos f None s)
@@ -104,15 +108,18 @@ module _ (f : Function) where
     Missing h = OwnMissing h ⊎ ((s : Step) × Contains (statements f.body) s × CallLacks s h)
 
     missing_picks : Picks Missing (unplaced_found infos f)
-    missing_picks = kept_after (call_missed infos f) CallLacks call_keeps call_picks OwnMissing (fold (sample_missed f) None (enumerate_from 0 f.expressions))
+    missing_picks = kept_after (call_missed infos f) CallLacks call_keeps call_picks OwnMissing
+        (fold (sample_missed f) None (enumerate_from 0 f.expressions))
         (kept (sample_missed f) Lacks sample_keeps sample_picks (enumerate_from 0 f.expressions)) (statements f.body)
 
-    pairs_held : (c : ℕ) (o : Option FunctionInfo) (pair : Place × Place) → slice_get infos c ≡ o → Contains (unwrap_or (option_map info_pairs o) []) pair →
+    pairs_held : (c : ℕ) (o : Option FunctionInfo) (pair : Place × Place) → slice_get infos c ≡ o →
+        Contains (unwrap_or (option_map info_pairs o) []) pair →
         (i : Info) × (slice_get (infos_of infos) c ≡ Some i) × Contains i.pairs pair
     pairs_held c None pair e h = absurd (nowhere pair h)
     pairs_held c (Some info) pair e h = (info_of info, held_of infos c info e, h)
 
-    of_pairs_held : (c : ℕ) (i : Info) (pair : Place × Place) → slice_get (infos_of infos) c ≡ Some i → Contains i.pairs pair → Contains (recorded_pairs infos c) pair
+    of_pairs_held : (c : ℕ) (i : Info) (pair : Place × Place) → slice_get (infos_of infos) c ≡ Some i → Contains i.pairs pair →
+        Contains (recorded_pairs infos c) pair
     of_pairs_held c i pair e h =
         let at = of_held infos c i e in
         let P : Info → Type 0 = λ v. Contains v.pairs pair in
@@ -123,7 +130,8 @@ module _ (f : Function) where
       abbrev Fault : Cause → Type 0
       Fault cause = StepFault m (infos_of infos) f settings cause
 
-      lacks_to : (e : ℕ) (x : Expression) (h : ℕ) → Stands f e x → (o : Option (ℕ × ℕ)) → sampled x ≡ o → OperandsLack e o h → Fault (NoPlace h)
+      lacks_to : (e : ℕ) (x : Expression) (h : ℕ) → Stands f e x → (o : Option (ℕ × ℕ)) → sampled x ≡ o → OperandsLack e o h →
+          Fault (NoPlace h)
       lacks_to e x h stands None is t = absurd t
       lacks_to e x h stands (Some (image, sampler)) is t =
           let told : samples f e ≡ Some (image, sampler) = ap (option_and_then sampled) stands ∙ is in
@@ -139,11 +147,18 @@ module _ (f : Function) where
           elim t.2 [
             | inl one ↦
                 let P : Place → Type 0 = λ v. Contains held.0.pairs (v, t.0.1) in
-                no_image_passed {c = c} {i = one.0} {q = t.0.1} (record { arguments = arguments; result = result; holds = k; passed = one.2 }) one.3
+                no_image_passed {c = c} {i = one.0} {q = t.0.1} (record {
+                  arguments = arguments;
+                  result = result;
+                  holds = k;
+                  passed =
+                      one.2;
+                }) one.3
                 (held.0, held.1, subst P one.1 held.2)
             | inr other ↦
                 let P : Place → Type 0 = λ v. Contains held.0.pairs (t.0.0, v) in
-                no_sampler_passed {c = c} {i = other.0} {p = t.0.0} (record { arguments = arguments; result = result; holds = k; passed = other.2 }) other.3
+                no_sampler_passed {c = c} {i = other.0} {p = t.0.0}
+                (record { arguments = arguments; result = result; holds = k; passed = other.2 }) other.3
                 (held.0, held.1, subst P other.1 held.2)
           ]
       call_to s h k t = absurd t
@@ -154,7 +169,8 @@ module _ (f : Function) where
 
       sampled_stands : (e : ℕ) (o : ℕ × ℕ) → samples f e ≡ Some o → (x : Expression) × Stands f e x × (sampled x ≡ Some o)
       sampled_stands e o told = at (slice_get f.expressions e) refl told where
-        at : (v : Option Expression) → slice_get f.expressions e ≡ v → option_and_then sampled v ≡ Some o → (x : Expression) × Stands f e x × (sampled x ≡ Some o)
+        at : (v : Option Expression) → slice_get f.expressions e ≡ v → option_and_then sampled v ≡ Some o →
+            (x : Expression) × Stands f e x × (sampled x ≡ Some o)
         at None is t = absurd (cc)
         at (Some x) is t = (x, is, t)
 
@@ -173,17 +189,28 @@ module _ (f : Function) where
       of_fault _ (untyped refused) = tt
       of_fault _ (no_capability indexes element has lacks) = tt
       of_fault _ (bad_element indexes none) = tt
-      of_fault _ (no_image_place {e = e} {image = image} {sampler = sampler} told none) = own_missing e (image, sampler) told (inl (refl, none))
-      of_fault _ (no_sampler_place {e = e} {image = image} {sampler = sampler} told none) = own_missing e (image, sampler) told (inr (refl, none))
+      of_fault _ (no_image_place {e = e} {image = image} {sampler = sampler} told none) =
+          own_missing e (image, sampler) told (inl (refl, none))
+      of_fault _ (no_sampler_place {e = e} {image = image} {sampler = sampler} told none) =
+          own_missing e (image, sampler) told (inr (refl, none))
       of_fault _ (no_image_passed {c = c} {i = i} {q = q} passes none (info, held, pair)) =
-          inr (Leaf (Call c passes.arguments passes.result), passes.holds, ((InArgument i, q), of_pairs_held c info (InArgument i, q) held pair, inl (i, refl, passes.passed, none)))
+          inr (
+            Leaf (Call c passes.arguments passes.result),
+            passes.holds,
+            ((InArgument i, q), of_pairs_held c info (InArgument i, q) held pair, inl (i, refl, passes.passed, none)),
+          )
       of_fault _ (no_sampler_passed {c = c} {i = i} {p = p} passes none (info, held, pair)) =
-          inr (Leaf (Call c passes.arguments passes.result), passes.holds, ((p, InArgument i), of_pairs_held c info (p, InArgument i) held pair, inr (i, refl, passes.passed, none)))
+          inr (
+            Leaf (Call c passes.arguments passes.result),
+            passes.holds,
+            ((p, InArgument i), of_pairs_held c info (p, InArgument i) held pair, inr (i, refl, passes.passed, none)),
+          )
       of_fault _ (misplaced on grave x) = tt
       of_fault _ (count_full most) = tt
 
       places_picked : Picks (λ e. Fault (NoPlace e)) (unplaced_found infos f)
-      places_picked = Picks-same Missing (λ e. Fault (NoPlace e)) (unplaced_found infos f) missing_to (λ h t. (h, of_fault (NoPlace h) t)) missing_picks
+      places_picked = Picks-same Missing (λ e. Fault (NoPlace e)) (unplaced_found infos f) missing_to
+          (λ h t. (h, of_fault (NoPlace h) t)) missing_picks
 
 pub unplaced_are_faults : UnplacedAreFaults
 unplaced_are_faults m infos f settings =

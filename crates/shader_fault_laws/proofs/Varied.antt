@@ -35,7 +35,8 @@ module _ (m : Module) (infos : List FunctionInfo) (f : Function) (below : Points
     at : (o : Option Fact) → slice_get facts e ≡ o → option_and_then (λ fact. fact.origin) o ≡ Some h → O e h
     at None is t = absurd (cc)
     at (Some fact) is t =
-        origins_of_the_step m infos f below e (Some h) (slice_get-map nu facts e ∙ (ap (option_map nu) is ∙ ap (λ (v : Option ℕ). Some v) t))
+        origins_of_the_step m infos f below e (Some h) (slice_get-map nu facts e
+        ∙ (ap (option_map nu) is ∙ ap (λ (v : Option ℕ). Some v) t))
 
   pub to_origin : (e : ℕ) → IsTrue (varies facts e) → (h : ℕ) × O e h
   to_origin e t = let r = varied_to facts e t in (r.0, origins_of_the_step m infos f below e (Some r.0) r.1)
@@ -48,5 +49,6 @@ module _ (m : Module) (infos : List FunctionInfo) (f : Function) (below : Points
     at : (o : Option ℕ) → get_or (map nu facts) e None ≡ o → IsTrue (varies facts e)
     at (Some k) is = of_varied facts e k (slice_get-get_or (map nu facts) e None lt ∙ ap (λ (v : Option ℕ). Some v) is)
     at None is =
-        let picks = origins_of_the_step m infos f below e None (slice_get-get_or (map nu facts) e None lt ∙ ap (λ (v : Option ℕ). Some v) is) in
+        let picks = origins_of_the_step m infos f below e None (slice_get-get_or (map nu facts) e None lt
+        ∙ ap (λ (v : Option ℕ). Some v) is) in
         absurd (picks h step)

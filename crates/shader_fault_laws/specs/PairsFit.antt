@@ -33,7 +33,8 @@ TypedArgumentsAreWithin = (m : Module) (f : Function) (e i : ℕ) (resolution : 
     Derives (function_context m f) f.expressions e resolution → i < length f.arguments
 
 abbrev pub TypedFunctionsHaveArguments : Type 0
-TypedFunctionsHaveArguments = (m : Module) (f : Function) (types : List TypeResolution) → AreTypes (function_context m f) f.expressions types → ArgumentsWithin f
+TypedFunctionsHaveArguments = (m : Module) (f : Function) (types : List TypeResolution) →
+    AreTypes (function_context m f) f.expressions types → ArgumentsWithin f
 
 abbrev pub FoundPairsAreWithin : Type 0
 FoundPairsAreWithin = (m : Module) (infos : List FunctionInfo) (f : Function) → FitHeld m infos → GlobalsWithin m f → ArgumentsWithin f →

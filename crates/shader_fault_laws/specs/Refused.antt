@@ -31,7 +31,8 @@ module _ (m : Module) (infos : List FunctionInfo) (f : Function) (settings : Set
   -- the same of an expression and what is blamed
   abbrev pub HeldMisplaced : (needs expression : ℕ) → Disruptor → Type 0
   HeldMisplaced needs e disruptor =
-      IsMisplaced (StepOrigin m (infos_of infos) f) (RecordsKills (infos_of infos)) (StepExpressionNeed (infos_of infos) f) (RecordsPair (infos_of infos)) m settings f needs e disruptor
+      IsMisplaced (StepOrigin m (infos_of infos) f) (RecordsKills (infos_of infos)) (StepExpressionNeed (infos_of infos) f)
+      (RecordsPair (infos_of infos)) m settings f needs e disruptor
 
 abbrev pub UnplacedAreFaults : Type 0
 UnplacedAreFaults = (m : Module) (infos : List FunctionInfo) (f : Function) (settings : Settings) →
@@ -49,5 +50,6 @@ FullCountsAreFaults = (m : Module) (infos : List FunctionInfo) (f : Function) (s
 
 abbrev pub MisplacedAreFaults : Type 0
 MisplacedAreFaults = (m : Module) (infos : List FunctionInfo) (f : Function) (settings : Settings) → PointsBackwards f →
-    ((x : Misplaced) → misplaced_found m infos f ≡ Some x → HeldMisplaced m infos f settings x.requirements.0 x.expression (disruptor_of x.disruptor))
+    ((x : Misplaced) → misplaced_found m infos f ≡ Some x →
+    HeldMisplaced m infos f settings x.requirements.0 x.expression (disruptor_of x.disruptor))
     × (misplaced_found m infos f ≡ None → (needs e : ℕ) (disruptor : Disruptor) → HeldMisplaced m infos f settings needs e disruptor → ⊥)

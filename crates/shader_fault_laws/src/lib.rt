@@ -2,7 +2,8 @@
 //! function that does nothing.
 #![tactic(auto)]
 
-ghost use Rattle.shader_fault_laws.specs.PairsFit.{CollectedPairsFit, FoundPairsAreWithin, TypedArgumentsAreWithin, TypedFunctionsHaveArguments};
+ghost use Rattle.shader_fault_laws.specs.PairsFit.{CollectedPairsFit, FoundPairsAreWithin, TypedArgumentsAreWithin};
+ghost use Rattle.shader_fault_laws.specs.PairsFit.{TypedFunctionsHaveArguments};
 ghost use Rattle.shader_fault_laws.specs.Refused.{FullCountsAreFaults, MisplacedAreFaults, UnplacedAreFaults};
 
 /// An expression that is found to have no place where one is wanted; where none is found, there is none.

@@ -1,5 +1,6 @@
 -- No expression has a free-standing array for its type.
-use Rattle.std.proofs.Common.{subst, ℕ, ◌<◌, Bool, true, false, List, [], Option, Some, None, Result, Ok, Err, slice_get, is_some, if◌then◌else◌, arith}
+use Rattle.std.proofs.Common.{subst, ℕ, ◌<◌, Bool, true, false, List, [], Option, Some, None}
+use Rattle.std.proofs.Common.{Result, Ok, Err, slice_get, is_some, if◌then◌else◌, arith}
 use Rattle.std.specs.List.{filter}
 use Rattle.std.proofs.lemmas.List.Elements.{All-head, All-nil}
 use Rattle.shader_chains.specs.Derivable.{Answers, Derives, by_one, by_two, given, plain}
@@ -48,10 +49,14 @@ use Rattle.shader_resolve.proofs.BuiltinLemmas.{first-fits}
 use Rattle.shader_resolve.specs.Builtins.{concluded, first_conclusion, ruled}
 use Rattle.shader_resolve.specs.Context.{Context}
 use Rattle.shader_resolve.specs.Images.{bool_scalar, extent, extent_type, gather_type, sample_type, texel}
-use Rattle.shader_resolve.specs.Operations.{AsLeft, AsRight, Made, NoProduct, Product, cast_type, left_type, logical_type, product, product_of, product_type, test_type}
+use Rattle.shader_resolve.specs.Operations.{AsLeft, AsRight, Made, NoProduct, Product, cast_type, left_type}
+use Rattle.shader_resolve.specs.Operations.{logical_type, product, product_of, product_type, test_type}
 use Rattle.shader_resolve.specs.Outcome.{Given, IncompatibleOperands, InvalidAccess, InvalidSubAccess, Outcome, Refusal, Refused, at_inner}
 use Rattle.shader_resolve.specs.Part.{lifted, part, part_outcome, part_pointer, part_value, pointed_outcome}
-use Rattle.shader_resolve.specs.Rows.{One, Plain, Row, Two, argument_type, binary_row, call_type, constant_type, global_type, load_type, local_type, math_row, matrix_type, on_shape, override_type, pointed_scalar, pointed_type, query_row, relational_row, result_type, row, sample_row, special_type, splat_type, swizzle_type, tile_type, variable_type}
+use Rattle.shader_resolve.specs.Rows.{One, Plain, Row, Two, argument_type, binary_row, call_type, constant_type, global_type}
+use Rattle.shader_resolve.specs.Rows.{load_type, local_type, math_row, matrix_type, on_shape, override_type, pointed_scalar}
+use Rattle.shader_resolve.specs.Rows.{pointed_type, query_row, relational_row, result_type, row, sample_row, special_type}
+use Rattle.shader_resolve.specs.Rows.{splat_type, swizzle_type, tile_type, variable_type}
 use Rattle.shader_resolve.specs.declared.resolve.access.NoPart.{NoPart}
 use Rattle.shader_resolve.specs.declared.resolve.access.NoPart.TheVariants.{PastEnd, NotIndexable}
 use Rattle.shader_resolve.specs.declared.resolve.access.Part.{Part}
@@ -74,13 +79,16 @@ IsFree (Refused refusal) = Unit {0}
 abbrev RowIsFree : Row → Type 0
 RowIsFree (Plain outcome) = IsFree outcome
 RowIsFree (One operand answer) = (told : TypeResolution) → HoldsNoArray told → IsFree (answer told)
-RowIsFree (Two left right answer) = (first second : TypeResolution) → HoldsNoArray first → HoldsNoArray second → IsFree (answer first second)
+RowIsFree (Two left right answer) = (first second : TypeResolution) → HoldsNoArray first → HoldsNoArray second →
+    IsFree (answer first second)
 
-at_inner-free : (found : Option TypeInner) (answer : TypeInner → Outcome) → ((inner : TypeInner) → IsFree (answer inner)) → IsFree (at_inner found answer)
+at_inner-free : (found : Option TypeInner) (answer : TypeInner → Outcome) → ((inner : TypeInner) → IsFree (answer inner)) →
+    IsFree (at_inner found answer)
 at_inner-free (Some inner) answer free = free inner
 at_inner-free None answer free = tt
 
-shape-free : (types : List «Type») (operand : ℕ) (answer : TypeInner → Outcome) → ((inner : TypeInner) → IsFree (answer inner)) → RowIsFree (on_shape types operand answer)
+shape-free : (types : List «Type») (operand : ℕ) (answer : TypeInner → Outcome) → ((inner : TypeInner) → IsFree (answer inner)) →
+    RowIsFree (on_shape types operand answer)
 shape-free types operand answer free told told_free = at_inner-free (inner_of types told) answer free
 
 texel-free : (class : ImageClass) → IsNoArray (texel class)
@@ -145,10 +153,12 @@ product_of-free (type.Vector size scalar) (type.Matrix columns rows right_scalar
 product_of-free (type.Scalar scalar) right = tt
 product_of-free left (type.Scalar scalar) = tt
 product_of-free (type.Vector size scalar) (type.Vector right_size right_scalar) = tt
-product_of-free (type.CooperativeMatrix columns rows scalar role) (type.CooperativeMatrix right_columns right_rows right_scalar right_role) = tt
+product_of-free (type.CooperativeMatrix columns rows scalar role)
+    (type.CooperativeMatrix right_columns right_rows right_scalar right_role) = tt
 product_of-free left right = tt
 
-product_type-free : (made : Product) → ProductIsFree made → (left right : TypeResolution) → HoldsNoArray left → HoldsNoArray right → IsFree (product_type made left right)
+product_type-free : (made : Product) → ProductIsFree made → (left right : TypeResolution) → HoldsNoArray left → HoldsNoArray right →
+    IsFree (product_type made left right)
 product_type-free AsLeft free left right left_free right_free = left_free
 product_type-free AsRight free left right left_free right_free = right_free
 product_type-free (Made inner) free left right left_free right_free = free
@@ -199,21 +209,25 @@ pointer-free at (part_kind.Scalar scalar) = tt
 pointer-free at (part_kind.Vector size scalar) = tt
 pointer-free at (part_kind.Type handle) = tt
 
-outcome-free : (base : ℕ) (refusal : Refusal) (answer : Part → TypeResolution) → ((reached : Part) → HoldsNoArray (answer reached)) → (reached : Result Part NoPart) →
+outcome-free : (base : ℕ) (refusal : Refusal) (answer : Part → TypeResolution) → ((reached : Part) → HoldsNoArray (answer reached)) →
+    (reached : Result Part NoPart) →
     IsFree (part_outcome base refusal answer reached)
 outcome-free base refusal answer free (Ok reached) = free reached
 outcome-free base refusal answer free (Err (PastEnd index)) = tt
 outcome-free base refusal answer free (Err NotIndexable) = tt
 
-pointed_outcome-free : (base : ℕ) (index : Option ℕ) (pointed : ℕ) (at : AddressSpace) (found : Option TypeInner) → IsFree (pointed_outcome base index pointed at found)
+pointed_outcome-free : (base : ℕ) (index : Option ℕ) (pointed : ℕ) (at : AddressSpace) (found : Option TypeInner) →
+    IsFree (pointed_outcome base index pointed at found)
 pointed_outcome-free base index pointed at (Some inner) =
-    outcome-free base (InvalidSubAccess pointed (is_some index)) (λ reached. Value (part_pointer at reached)) (pointer-free at) (part index inner)
+    outcome-free base (InvalidSubAccess pointed (is_some index)) (λ reached. Value (part_pointer at reached)) (pointer-free at)
+    (part index inner)
 pointed_outcome-free base index pointed at None = tt
 
 lifted-free : (types : List «Type») (base : ℕ) (index : Option ℕ) (inner : TypeInner) → IsFree (lifted types base index inner)
 lifted-free types base index (type.Pointer pointed at) = pointed_outcome-free base index pointed at (found_inner (slice_get types pointed))
 lifted-free types base index (type.ValuePointer (Some size) scalar at) =
-    outcome-free base (InvalidAccess base (is_some index)) (λ reached. Value (part_pointer at reached)) (pointer-free at) (part index (type.Vector size scalar))
+    outcome-free base (InvalidAccess base (is_some index)) (λ reached. Value (part_pointer at reached)) (pointer-free at)
+    (part index (type.Vector size scalar))
 lifted-free types base index inner = outcome-free base (InvalidAccess base (is_some index)) part_value value-free (part index inner)
 
 pointed-free : (pointer base : ℕ) (found : Option TypeInner) → IsFree (pointed_type pointer base found)
@@ -227,7 +241,8 @@ load-free types pointer (type.ValuePointer (Some size) scalar at) = tt
 load-free types pointer (type.ValuePointer None scalar at) = tt
 load-free types pointer inner = tt
 
-tile-free : (pointer : ℕ) (columns rows : CooperativeSize) (role : CooperativeRole) (found : Option Scalar) → IsFree (matrix_type pointer columns rows role found)
+tile-free : (pointer : ℕ) (columns rows : CooperativeSize) (role : CooperativeRole) (found : Option Scalar) →
+    IsFree (matrix_type pointer columns rows role found)
 tile-free pointer columns rows role (Some scalar) = tt
 tile-free pointer columns rows role None = tt
 
@@ -269,8 +284,10 @@ special-free None = tt
 
 -- a type that fits the empty arena names none, so it is no array
 fits_nothing : (inner : TypeInner) → FitsTypes [] (Value inner) → IsNoArray inner
-fits_nothing (type.Array base size stride) fits = let below = All-head (λ handle. handle < 0) base [] fits.0 in absurd (omega (arith, below))
-fits_nothing (type.BindingArray base size) fits = let below = All-head (λ handle. handle < 0) base [] fits.0 in absurd (omega (arith, below))
+fits_nothing (type.Array base size stride) fits = let below = All-head (λ handle. handle < 0) base [] fits.0 in
+    absurd (omega (arith, below))
+fits_nothing (type.BindingArray base size) fits = let below = All-head (λ handle. handle < 0) base [] fits.0 in
+    absurd (omega (arith, below))
 fits_nothing inner fits = tt
 
 -- no predeclared type is registered
@@ -286,7 +303,8 @@ registered-free (Some handle) = tt
 registered-free None = tt
 
 module _ (special : SpecialTypes) where
-  concluded-free : (made : Conclusion) → FitsNothing (concluded (resolution_of (bare special) made)) → IsFree (concluded (resolution_of special made))
+  concluded-free : (made : Conclusion) → FitsNothing (concluded (resolution_of (bare special) made)) →
+      IsFree (concluded (resolution_of special made))
   concluded-free (conclusion.Value inner) fits = fits_nothing inner fits
   concluded-free (conclusion.Predeclared predeclared) fits = registered-free (registered special predeclared)
 
@@ -295,10 +313,12 @@ module _ (special : SpecialTypes) where
   ruled-free None fits = tt
 
 first-free : (special : SpecialTypes) (p : Rule → Bool) (fun : MathFunction) → IsFree (first_conclusion special (filter p (rules_of fun)))
-first-free special p fun = ruled-free special (slice_get (filter p (rules_of fun)) 0) (first-fits [] (bare special) (All-nil (λ (entry : PredeclaredType × ℕ). entry.1 < 0)) p fun)
+first-free special p fun = ruled-free special (slice_get (filter p (rules_of fun)) 0)
+    (first-fits [] (bare special) (All-nil (λ (entry : PredeclaredType × ℕ). entry.1 < 0)) p fun)
 
 math-free : (context : Context) (fun : MathFunction) (arg : ℕ) (arg1 : Option ℕ) → RowIsFree (math_row context fun arg arg1)
-math-free context fun arg None = λ told free. at_inner-free (inner_of context.types told) _ (λ inner. first-free context.special_types _ fun)
+math-free context fun arg None = λ told free. at_inner-free (inner_of context.types told) _
+    (λ inner. first-free context.special_types _ fun)
 math-free context fun arg (Some arg1) = λ first second first_free second_free.
     at_inner-free (inner_of context.types first) _ (λ first_inner.
     at_inner-free (inner_of context.types second) _ (λ second_inner. first-free context.special_types _ fun))
@@ -309,16 +329,20 @@ row-free context (form.Constant constant) = constant-free (slice_get context.con
 row-free context (form.Override override) = override-free (slice_get context.overrides override)
 row-free context (form.ZeroValue ty) = tt
 row-free context (form.Compose ty components) = tt
-row-free context (form.Access base index) = shape-free context.types base (lifted context.types base None) (lifted-free context.types base None)
-row-free context (form.AccessIndex base index) = shape-free context.types base (lifted context.types base (Some index)) (lifted-free context.types base (Some index))
+row-free context (form.Access base index) = shape-free context.types base (lifted context.types base None)
+    (lifted-free context.types base None)
+row-free context (form.AccessIndex base index) = shape-free context.types base (lifted context.types base (Some index))
+    (lifted-free context.types base (Some index))
 row-free context (form.Splat size value) = shape-free context.types value (splat_type value size) (splat-free value size)
 row-free context (form.Swizzle size vector pattern) = shape-free context.types vector (swizzle_type vector size) (swizzle-free vector size)
 row-free context (form.FunctionArgument index) = argument-free index (slice_get context.arguments index)
 row-free context (form.GlobalVariable variable) = global-free (slice_get context.globals variable)
 row-free context (form.LocalVariable variable) = local-free (slice_get context.locals variable)
 row-free context (form.Load pointer) = shape-free context.types pointer (load_type pointer context.types) (load-free context.types pointer)
-row-free context (form.ImageSample image sampler gather coordinate array_index offset level depth_ref clamp_to_edge) = sampled-free context.types image gather
-row-free context (form.ImageLoad image coordinate array_index sample level) = shape-free context.types image (sample_type image) (sample-free image)
+row-free context (form.ImageSample image sampler gather clamp_to_edge coordinate array_index offset level depth_ref) =
+    sampled-free context.types image gather
+row-free context (form.ImageLoad image coordinate array_index sample level) =
+    shape-free context.types image (sample_type image) (sample-free image)
 row-free context (form.ImageQuery image asked) = query-free context.types image asked
 row-free context (form.Unary op expr) = λ told free. free
 row-free context (form.Binary op left right) = binary-free context.types op left right
@@ -337,7 +361,8 @@ row-free context (form.RayQueryGetIntersection query committed) = special-free c
 row-free context form.SubgroupBallotResult = tt
 row-free context (form.SubgroupOperationResult ty) = tt
 row-free context (form.CooperativeLoad columns rows role tile) =
-    shape-free context.types tile.pointer (tile_type tile.pointer context.types columns rows role) (λ inner. tile-free tile.pointer columns rows role (pointed_scalar context.types inner))
+    shape-free context.types tile.pointer (tile_type tile.pointer context.types columns rows role)
+    (λ inner. tile-free tile.pointer columns rows role (pointed_scalar context.types inner))
 row-free context (form.CooperativeMultiplyAdd a b c) = λ told free. free
 
 module _ (context : Context) (expressions : List Expression) where
@@ -347,7 +372,8 @@ module _ (context : Context) (expressions : List Expression) where
     answers-free e _ (by_one {operand = o} {x = x} {answer = f} {told = t} is r told) =
         let free : RowIsFree (One o f) = subst RowIsFree r (row-free context x) in free t (derived-free o t told)
     answers-free e _ (by_two {left = l} {right = k} {x = x} {answer = f} {first = a} {second = b} is r first second) =
-        let free : RowIsFree (Two l k f) = subst RowIsFree r (row-free context x) in free a b (derived-free l a first) (derived-free k b second)
+        let free : RowIsFree (Two l k f) = subst RowIsFree r (row-free context x) in
+        free a b (derived-free l a first) (derived-free k b second)
 
     -- the type of an expression is no free-standing array
     pub derived-free : (e : ℕ) (resolution : TypeResolution) → Derives context expressions e resolution → HoldsNoArray resolution

@@ -1,5 +1,7 @@
 -- What sets gain.
-use Rattle.std.proofs.Common.{◌≡◌, ◌≢◌, refl, sym, subst, ap, ◌∙◌, ℕ, zero, suc, ◌<◌, ◌↔◌, ◌⊎◌, inl, inr, Bool, true, false, not, List, [], ◌∷◌, Option, Some, None, Result, Ok, Err, IfOk, OnOk, slice_set, length, arith, get_or-set_same, get_or-set_other}
+use Rattle.std.proofs.Common.{◌≡◌, ◌≢◌, refl, sym, subst, ap, ◌∙◌, ℕ, zero, suc, ◌<◌, ◌↔◌, ◌⊎◌, inl, inr}
+use Rattle.std.proofs.Common.{Bool, true, false, not, List, [], ◌∷◌, Option, Some, None, Result, Ok, Err}
+use Rattle.std.proofs.Common.{IfOk, OnOk, slice_set, length, arith, get_or-set_same, get_or-set_other}
 use Rattle.std.specs.Bool.{MatchBool}
 use Rattle.std.specs.HashSet.{HashSet, contains}
 use Rattle.std.specs.List.{Contains, zip}
@@ -66,7 +68,8 @@ pub gains_some_of : (P Q : ℕ → Type 0) (i : ℕ) → Gains P Q (λ e. i ≡ 
 gains_some_of P Q i g = gains_as P Q (λ e. i ≡ e) (λ e. Some i ≡ Some e) (λ e. (λ is. cc, λ is. cc)) g
 
 -- the operands of an image load, one after another
-pub gains_load : (P Q R S T : ℕ → Type 0) (coordinate : ℕ) (array_index sample level : Option ℕ) → Gains P Q (λ e. coordinate ≡ e) → Gains Q R (λ e. array_index ≡ Some e) →
+pub gains_load : (P Q R S T : ℕ → Type 0) (coordinate : ℕ) (array_index sample level : Option ℕ) → Gains P Q (λ e. coordinate ≡ e) →
+    Gains Q R (λ e. array_index ≡ Some e) →
     Gains R S (λ e. sample ≡ Some e) → Gains S T (λ e. level ≡ Some e) → Gains P T (IsLoadIndex coordinate array_index sample level)
 gains_load P Q R S T coordinate array_index sample level first second third fourth =
     let is_coordinate : ℕ → Type 0 = λ e. coordinate ≡ e in
@@ -82,7 +85,8 @@ Brings {X} W items e = (x : X) × Contains items x × W x e
 
 module _ {X : Type 0} (W : X → ℕ → Type 0) where
   -- where the set and what the items bring are the whole, so they are after one more item
-  pub brought : (x : X) (rest : List X) (All S T : ℕ → Type 0) → Gains (Brings W (x ∷ rest)) All S → Gains S T (W x) → Gains (Brings W rest) All T
+  pub brought : (x : X) (rest : List X) (All S T : ℕ → Type 0) → Gains (Brings W (x ∷ rest)) All S → Gains S T (W x) →
+      Gains (Brings W rest) All T
   brought x rest All S T whole more = record {
     to = λ e h. elim (whole.to e h) [
       | inl brings ↦ elim (cases x rest brings.0 brings.1) [
@@ -100,7 +104,11 @@ module _ {X : Type 0} (W : X → ℕ → Type 0) where
 
   -- at the end the set is the whole
   pub whole_of : (All S : ℕ → Type 0) → Gains (Brings W []) All S → (e : ℕ) → S e ↔ All e
-  whole_of All S whole e = (λ h. whole.added e h, λ h. elim (whole.to e h) [ inl brings ↦ absurd (nowhere brings.0 brings.1) | inr in_set ↦ in_set ])
+  whole_of All S whole e = (
+    λ h. whole.added e h,
+    λ h. elim (whole.to e h)
+        [ inl brings ↦ absurd (nowhere brings.0 brings.1) | inr in_set ↦ in_set ],
+  )
 
   -- at the start the items are
   pub nothing_yet : (items : List X) (S : ℕ → Type 0) → ((e : ℕ) → S e → ⊥) → Gains (Brings W items) (Brings W items) S
@@ -126,7 +134,8 @@ none_set (suc count) zero h = absurd (false≢true h)
 none_set (suc count) (suc e) h = none_set count e h
 
 -- a key more
-pub key_put : {S : Type 0} {same : ℕ → ℕ → Bool} (s : HashSet ℕ S) (keys : List ℕ) (k : ℕ) (added : Bool) → MatchBool added (IsPermutation (k ∷ s.keys) keys) (keys ≡ s.keys) →
+pub key_put : {S : Type 0} {same : ℕ → ℕ → Bool} (s : HashSet ℕ S) (keys : List ℕ) (k : ℕ) (added : Bool) →
+    MatchBool added (IsPermutation (k ∷ s.keys) keys) (keys ≡ s.keys) →
     added ≡ not (contains same s k) → ((x y : ℕ) → same x y ≡ true → x ≡ y) → Gains (Contains s.keys) (Contains keys) (λ e. k ≡ e)
 key_put s keys k added put told is =
     let members = puts is k s.keys keys added put told in
@@ -138,7 +147,8 @@ key_put s keys k added put told is =
 
 module _ {X : Type 0} (W : X → ℕ → Type 0) where
   -- one more item of what is left
-  pub brought_at : (items : List X) (x : X) (rest : List X) (All S T : ℕ → Type 0) → items ≡ x ∷ rest → Gains (Brings W items) All S → Gains S T (W x) → Gains (Brings W rest) All T
+  pub brought_at : (items : List X) (x : X) (rest : List X) (All S T : ℕ → Type 0) → items ≡ x ∷ rest → Gains (Brings W items) All S →
+      Gains S T (W x) → Gains (Brings W rest) All T
   brought_at items x rest All S T is whole more =
       let P : List X → Type 0 = λ v. Gains (Brings W v) All S in
       brought W x rest All S T (subst P is whole) more
@@ -148,15 +158,18 @@ module _ {X : Type 0} (W : X → ℕ → Type 0) where
   whole_at items All S is whole = let P : List X → Type 0 = λ v. Gains (Brings W v) All S in whole_of W All S (subst P is whole)
 
   -- all that items bring has come
-  pub gained_at : (items left : List X) (S T : ℕ → Type 0) → left ≡ [] → Gains (Brings W left) (λ e. S e ⊎ Brings W items e) T → Gains S T (Brings W items)
-  gained_at items left S T is whole = let P : List X → Type 0 = λ v. Gains (Brings W v) (λ e. S e ⊎ Brings W items e) T in gained_all W items S T (subst P is whole)
+  pub gained_at : (items left : List X) (S T : ℕ → Type 0) → left ≡ [] → Gains (Brings W left) (λ e. S e ⊎ Brings W items e) T →
+      Gains S T (Brings W items)
+  gained_at items left S T is whole = let P : List X → Type 0 = λ v. Gains (Brings W v) (λ e. S e ⊎ Brings W items e) T in
+      gained_all W items S T (subst P is whole)
 
 -- where nothing was there, what is wanted is there
 pub from_nothing : (S T W : ℕ → Type 0) → ((e : ℕ) → S e → ⊥) → Gains S T W → (e : ℕ) → T e ↔ W e
 from_nothing S T W none g e = (λ h. elim (g.to e h) [ inl old ↦ absurd (none e old) | inr wanted ↦ wanted ], λ wanted. g.added e wanted)
 
 -- the pairs of two lists, from the first on
-pub zip_step : {X Y : Type 0} (xs xs' : List X) (ys ys' : List Y) (x : X) (y : Y) → xs ≡ x ∷ xs' → ys ≡ y ∷ ys' → zip xs ys ≡ (x, y) ∷ zip xs' ys'
+pub zip_step : {X Y : Type 0} (xs xs' : List X) (ys ys' : List Y) (x : X) (y : Y) → xs ≡ x ∷ xs' → ys ≡ y ∷ ys' →
+    zip xs ys ≡ (x, y) ∷ zip xs' ys'
 zip_step xs xs' ys ys' x y is_x is_y = ap (λ v. zip v ys) is_x ∙ ap (λ v. zip (x ∷ xs') v) is_y
 
 zip_none : {X Y : Type 0} (xs : List X) (ys : List Y) → ys ≡ [] → zip xs ys ≡ []

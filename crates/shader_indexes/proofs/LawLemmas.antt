@@ -1,5 +1,6 @@
 -- Checks by the types that can be derived, and lengths of what is accessed.
-use Rattle.std.proofs.Common.{◌≡◌, refl, sym, subst, ap, ◌∙◌, ℕ, ◌<◌, ◌⊎◌, inl, inr, List, Option, Some, None, Err, IsOk, IfSome, length, slice_get, get_or, is_some, arith}
+use Rattle.std.proofs.Common.{◌≡◌, refl, sym, subst, ap, ◌∙◌, ℕ, ◌<◌, ◌⊎◌, inl, inr, List, Option, Some}
+use Rattle.std.proofs.Common.{None, Err, IsOk, IfSome, length, slice_get, get_or, is_some, arith}
 use Rattle.std.specs.Option.{option_and_then}
 use Rattle.std.proofs.lemmas.Option.{get_or_from_slice_get, same_Some, slice_get-get_or, slice_get-map, slice_get_within}
 use Rattle.shader_chains.proofs.TypeLemmas.{types_are_unique}
@@ -16,7 +17,8 @@ use Rattle.shader_ir.specs.declared.types.ArraySize.TheVariants as array_size
 use Rattle.shader_ir.specs.declared.types.TypeInner.{TypeInner}
 use Rattle.shader_ir.specs.declared.types.TypeInner.TheVariants as type
 use Rattle.shader_lengths.proofs.KnownLemmas.{known_sizes_give_lengths}
-use Rattle.shader_lengths.specs.Lengths.{AreSizesKnown, HasKnownSize, found_length, indexable_length, inner_length, length_of_size, own_length}
+use Rattle.shader_lengths.specs.Lengths.{AreSizesKnown, HasKnownSize, found_length, indexable_length}
+use Rattle.shader_lengths.specs.Lengths.{inner_length, length_of_size, own_length}
 use Rattle.shader_lengths.specs.declared.error.IndexableLengthError.TheVariants.{TypeNotIndexable}
 use Rattle.shader_resolve.specs.Context.{Context}
 use Rattle.shader_resolve.specs.Outcome.{Given, InvalidAccess, InvalidSubAccess, Outcome, Refusal, at_inner, at_shape}
@@ -24,7 +26,8 @@ use Rattle.shader_resolve.specs.Part.{lifted, part, part_outcome, part_pointer, 
 use Rattle.shader_resolve.specs.declared.resolve.access.Part.{Part}
 use Rattle.shader_resolve.specs.Rows.{One, Plain, Row, Two, row}
 use Rattle.shader_indexes.proofs.FreeLemmas.{HoldsNoArray, IsNoArray, derived-free}
-use Rattle.shader_indexes.specs.Checked.{AccessNeedsCheck, ChainNeedsCheck, Checks, IsCheckedIndex, NeedsCheck, ReadsZero, StepsIntoNoStruct, accessed, before, itself}
+use Rattle.shader_indexes.specs.Checked.{AccessNeedsCheck, ChainNeedsCheck, Checks, IsCheckedIndex, NeedsCheck}
+use Rattle.shader_indexes.specs.Checked.{ReadsZero, StepsIntoNoStruct, accessed, before, itself}
 use Rattle.shader_indexes.specs.Laws.{AccessesHaveLengths, ChecksAreOfDerived, RecordsDerived}
 use Rattle.shader_indexes.specs.Locals.{CallPasses, IsOutOfBoundsType, StepPasses}
 use Rattle.shader_indexes.specs.Typed.{Records, type_at}
@@ -38,7 +41,12 @@ use Rattle.shader_sweeps.specs.InfoOf.{info_of}
 -- what is checked by some types is checked by others, where these have them
 module _ (m : Module) (f : Function) (P Q : ℕ → TypeResolution → Type 0) (has : (e : ℕ) (r : TypeResolution) → P e r → Q e r) where
   check_to : (base : ℕ) (index : GuardedIndex) → NeedsCheck m f P base index → NeedsCheck m f Q base index
-  check_to base index check = record { resolution = check.resolution; typed = has base check.resolution check.typed; unknown = check.unknown }
+  check_to base index check = record {
+    resolution = check.resolution;
+    typed = has base check.resolution check.typed;
+    unknown =
+        check.unknown;
+  }
 
   zero_to : (policies : BoundsCheckPolicies) (base : ℕ) → ReadsZero m P policies base → ReadsZero m Q policies base
   zero_to policies base zero = record { resolution = zero.resolution; typed = has base zero.resolution zero.typed; chosen = zero.chosen }
@@ -83,7 +91,8 @@ module _ (m : Module) (f : Function) (P Q : ℕ → TypeResolution → Type 0) (
   type_to policies ty needed = let local = needed.1 in (needed.0, (local.0, local.1, passes_to ty local.0 local.2))
 
 -- an expression that has a type is there
-stands_of : (context : Context) (expressions : List Expression) (e : ℕ) (outcome : Outcome) → Answers context expressions e outcome → e < length expressions
+stands_of : (context : Context) (expressions : List Expression) (e : ℕ) (outcome : Outcome) → Answers context expressions e outcome →
+    e < length expressions
 stands_of context expressions e outcome (plain {x = x} is r) = slice_get_within expressions e x is
 stands_of context expressions e _ (by_one {x = x} is r told) = slice_get_within expressions e x is
 stands_of context expressions e _ (by_two {x = x} is r first second) = slice_get_within expressions e x is
@@ -110,7 +119,8 @@ module _ (m : Module) (f : Function) (info : FunctionInfo) (derived : RecordsDer
           let complete : length recorded_types ≡ length f.expressions = derived.complete in
           let there : e < length recorded_types = omega (arith, within, complete) in
           let found : slice_get recorded_types e ≡ Some (get_or recorded_types e r) = slice_get-get_or recorded_types e r there in
-          let same : r ≡ get_or recorded_types e r = (types_are_unique context f.expressions e r derives).0 (get_or recorded_types e r) (derived.derived e (get_or recorded_types e r) found) in
+          let same : r ≡ get_or recorded_types e r = (types_are_unique context f.expressions e r derives).0 (get_or recorded_types e r)
+          (derived.derived e (get_or recorded_types e r) found) in
           sym (recorded e) ∙ (found ∙ ap (λ (t : TypeResolution). Some t) (sym same))
 
 pub checks_are_of_derived : ChecksAreOfDerived
@@ -118,8 +128,10 @@ checks_are_of_derived m f info policies derived =
     let P : ℕ → TypeResolution → Type 0 = Records info in
     let Q : ℕ → TypeResolution → Type 0 = Derives (function_context m f) f.expressions in
     let to : (e : ℕ) (r : TypeResolution) → P e r → Q e r = to_derived m f info derived in
-    let from : (e : ℕ) (r : TypeResolution) → Q e r → P e r = of_derived m f info derived in
-    (λ e. (index_to m f P Q to policies e, index_to m f Q P from policies e), λ ty. (type_to m f P Q to policies ty, type_to m f Q P from policies ty))
+    let from : (e : ℕ) (r : TypeResolution) → Q e r → P e r = of_derived m f info derived in (
+      λ e. (index_to m f P Q to policies e, index_to m f Q P from policies e),
+      λ ty. (type_to m f P Q to policies ty, type_to m f Q P from policies ty),
+    )
 
 -- ---- lengths
 
@@ -135,13 +147,15 @@ answered (Two left right answer) told = answer told told
 
 module _ (m : Module) (f : Function) (info : FunctionInfo) (derived : RecordsDerived m f info) where
   -- an expression that asks one operand has a type by that operand's
-  given_by : (e operand : ℕ) (x : Expression) (answer : TypeResolution → Outcome) (r : TypeResolution) → Stands f e x → row (context m f info derived) x ≡ One operand answer →
+  given_by : (e operand : ℕ) (x : Expression) (answer : TypeResolution → Outcome) (r : TypeResolution) → Stands f e x →
+      row (context m f info derived) x ≡ One operand answer →
       Records info operand r → (t : TypeResolution) × (answer r ≡ Given t)
   given_by e operand x answer r stands asks is =
       let within : e < length f.expressions = slice_get_within f.expressions e x stands in
       let complete : length (recorded_types m f info derived) ≡ length f.expressions = derived.complete in
       let there : e < length (recorded_types m f info derived) = omega (arith, within, complete) in
-      let found : slice_get (recorded_types m f info derived) e ≡ Some (get_or (recorded_types m f info derived) e r) = slice_get-get_or (recorded_types m f info derived) e r there in
+      let found : slice_get (recorded_types m f info derived) e ≡ Some (get_or (recorded_types m f info derived) e r) =
+      slice_get-get_or (recorded_types m f info derived) e r there in
       at (get_or (recorded_types m f info derived) e r) (derived.derived e (get_or (recorded_types m f info derived) e r) found)
     where
       same : (y : Expression) (s : Row) → slice_get f.expressions e ≡ Some y → row (context m f info derived) y ≡ s → One operand answer ≡ s
@@ -152,10 +166,13 @@ module _ (m : Module) (f : Function) (info : FunctionInfo) (derived : RecordsDer
       by _ (by_one {operand = p} {x = y} {answer = g} {told = u} is_y asks_y told) =
           let rows = same y (One p g) is_y asks_y in
           let operands : p ≡ operand = sym (ap asked rows) in
-          let told_there : Derives (context m f info derived) f.expressions operand u = subst (λ v. Derives (context m f info derived) f.expressions v u) operands told in
-          let types : r ≡ u = (types_are_unique (context m f info derived) f.expressions operand r (to_derived m f info derived operand r is)).0 u told_there in
+          let told_there : Derives (context m f info derived) f.expressions operand u =
+          subst (λ v. Derives (context m f info derived) f.expressions v u) operands told in
+          let types : r ≡ u = (types_are_unique (context m f info derived) f.expressions operand r
+          (to_derived m f info derived operand r is)).0 u told_there in
           ap (λ row. answered row r) rows ∙ ap g types
-      by _ (by_two {left = l} {right = k} {x = y} {answer = g} is_y asks_y first second) = let rows = same y (Two l k g) is_y asks_y in absurd (cc)
+      by _ (by_two {left = l} {right = k} {x = y} {answer = g} is_y asks_y first second) = let rows =
+          same y (Two l k g) is_y asks_y in absurd (cc)
 
       at : (t : TypeResolution) → Derives (context m f info derived) f.expressions e t → (t : TypeResolution) × (answer r ≡ Given t)
       at t (given {outcome = o} answers given_is) = (t, by o answers ∙ given_is)
@@ -167,24 +184,28 @@ sized array_size.Dynamic e = absurd (cc)
 
 -- what has a part has a length, members of structs aside
 part_has : (base : ℕ) (refusal : Refusal) (answer : Part → TypeResolution) (t : TypeResolution) (index : Option ℕ) (inner : TypeInner) →
-    part_outcome base refusal answer (part index inner) ≡ Given t → (index ≡ None) ⊎ IsNoStruct inner → own_length inner ≡ Err TypeNotIndexable → ⊥
+    part_outcome base refusal answer (part index inner) ≡ Given t → (index ≡ None) ⊎ IsNoStruct inner →
+    own_length inner ≡ Err TypeNotIndexable → ⊥
 part_has base refusal answer t index (type.Vector size scalar) e apart h = absurd (cc)
 part_has base refusal answer t index (type.Matrix columns rows scalar) e apart h = absurd (cc)
 part_has base refusal answer t index (type.Array item size stride) e apart h = sized size h
 part_has base refusal answer t index (type.BindingArray item size) e apart h = sized size h
-part_has base refusal answer t None (type.Struct members span) e apart h = absurd (cc)
-part_has base refusal answer t (Some index) (type.Struct members span) e (inl none) h = absurd (cc)
-part_has base refusal answer t (Some index) (type.Struct members span) e (inr apart) h = absurd apart
+part_has base refusal answer t None (type.Struct span members) e apart h = absurd (cc)
+part_has base refusal answer t (Some index) (type.Struct span members) e (inl none) h = absurd (cc)
+part_has base refusal answer t (Some index) (type.Struct span members) e (inr apart) h = absurd apart
 part_has base refusal answer t index inner e apart h = absurd (cc)
 
-lifted_has : (types : List «Type») (base : ℕ) (index : Option ℕ) (inner : TypeInner) (t : TypeResolution) → lifted types base index inner ≡ Given t →
+lifted_has : (types : List «Type») (base : ℕ) (index : Option ℕ) (inner : TypeInner) (t : TypeResolution) →
+    lifted types base index inner ≡ Given t →
     (index ≡ None) ⊎ IfSome (accessed types inner) IsNoStruct → indexable_length types inner ≡ Err TypeNotIndexable → ⊥
 lifted_has types base index (type.Pointer pointed space) t e apart h = at (slice_get types pointed) e apart h
   where
-    at : (found : Option «Type») → pointed_outcome base index pointed space (found_inner found) ≡ Given t → (index ≡ None) ⊎ IfSome (found_inner found) IsNoStruct →
+    at : (found : Option «Type») → pointed_outcome base index pointed space (found_inner found) ≡ Given t →
+        (index ≡ None) ⊎ IfSome (found_inner found) IsNoStruct →
         found_length found ≡ Err TypeNotIndexable → ⊥
     at (Some found) e apart h =
-        part_has base (InvalidSubAccess pointed (is_some index)) (λ reached. Value (part_pointer space reached)) t index found.inner e apart h
+        part_has base (InvalidSubAccess pointed (is_some index)) (λ reached. Value (part_pointer space reached)) t index
+        found.inner e apart h
     at None e apart h = absurd (cc)
 lifted_has types base index (type.ValuePointer (Some size) scalar space) t e apart h = absurd (cc)
 lifted_has types base index (type.ValuePointer None scalar space) t e apart h = absurd (cc)
@@ -206,7 +227,8 @@ module _ (m : Module) (all : AreSizesKnown m) where
           subst P (get_or_from_slice_get m.types handle found found e) (all handle found (slice_get_within m.types handle found e))
       at None e = tt
 
-  length_found : (base : ℕ) (index : Option ℕ) (t : TypeResolution) (found : Option TypeInner) → IfSome found (HasKnownSize m) → at_inner found (lifted m.types base index) ≡ Given t →
+  length_found : (base : ℕ) (index : Option ℕ) (t : TypeResolution) (found : Option TypeInner) → IfSome found (HasKnownSize m) →
+      at_inner found (lifted m.types base index) ≡ Given t →
       (index ≡ None) ⊎ IfSome (option_and_then (accessed m.types) found) IsNoStruct → IsOk (inner_length m found)
   length_found base index t (Some inner) known e apart = elim (known_sizes_give_lengths m inner all known) [
     | inl ok ↦ ok

@@ -1,5 +1,6 @@
 -- What a well-formed module tells of a function's expressions, and what a call passes.
-use Rattle.std.proofs.Common.{◌≡◌, refl, sym, subst, ap, ◌∙◌, ℕ, zero, suc, ◌<◌, ◌↔◌, inl, inr, All, List, [], ◌∷◌, Option, Some, None, IfSome, length, slice_get}
+use Rattle.std.proofs.Common.{◌≡◌, refl, sym, subst, ap, ◌∙◌, ℕ, zero, suc, ◌<◌, ◌↔◌, inl, inr}
+use Rattle.std.proofs.Common.{All, List, [], ◌∷◌, Option, Some, None, IfSome, length, slice_get}
 use Rattle.std.specs.List.{Contains, zip}
 use Rattle.std.proofs.lemmas.List.Elements.{All-contains, All-head, All-tail}
 use Rattle.std.proofs.lemmas.Option.{same_Some}
@@ -26,7 +27,8 @@ module _ (m : Module) (well : IsWellFormed m) (f : Function) where
   in_range (inl at) = well.handles.functions.functions at.0 f at.1
   in_range (inr at) =
       let P : Function → Type 0 = λ v. FunctionInRange m v in
-      let within : FunctionInRange m (at.1).function = All-contains (λ (entry : EntryPoint). FunctionInRange m entry.function) m.entry_points at.1 well.handles.functions.entry_points (is_item m.entry_points at.0 at.1 at.2) in
+      let within : FunctionInRange m (at.1).function = All-contains (λ (entry : EntryPoint). FunctionInRange m entry.function)
+      m.entry_points at.1 well.handles.functions.entry_points (is_item m.entry_points at.0 at.1 at.2) in
       subst P at.3 within
 
   -- the operands of its expressions are earlier ones
@@ -35,13 +37,15 @@ module _ (m : Module) (well : IsWellFormed m) (f : Function) where
   operands_earlier (inr at) =
       let P : Function → Type 0 = λ v. AtEach OperandsBelow v.expressions in
       let earlier : AtEach OperandsBelow (at.1).function.expressions =
-      All-contains (λ (entry : EntryPoint). AtEach OperandsBelow entry.function.expressions) m.entry_points at.1 well.operands.functions.entry_points (is_item m.entry_points at.0 at.1 at.2) in
+      All-contains (λ (entry : EntryPoint). AtEach OperandsBelow entry.function.expressions) m.entry_points at.1
+      well.operands.functions.entry_points (is_item m.entry_points at.0 at.1 at.2) in
       subst P at.3 earlier
 
   -- and are there
   pub operands_there : IsFunctionOf m f → (x : Expression) → Contains f.expressions x → OperandsBelow (length f.expressions) x
   operands_there of x holds =
-      (All-contains (ExpressionInRange m (context_of m f.local_variables f.arguments) f.expressions) f.expressions x (in_range of).expressions holds).operands
+      (All-contains (ExpressionInRange m (context_of m f.local_variables f.arguments) f.expressions) f.expressions x
+      (in_range of).expressions holds).operands
 
 -- operands of a list of slots
 module _ (bound : ℕ) where
@@ -67,7 +71,8 @@ module _ (bound : ℕ) where
       let all : OperandsBelow bound (form.Access base index) = subst P is below in
       first_slot (read index) [] (other_slots (Some (base, Part)) (read index ∷ []) all)
 
-  module _ (x : Expression) (image coordinate : ℕ) (array_index sample level : Option ℕ) (is : x ≡ form.ImageLoad image coordinate array_index sample level) (below : OperandsBelow bound x) where
+  module _ (x : Expression) (image coordinate : ℕ) (array_index sample level : Option ℕ)
+      (is : x ≡ form.ImageLoad image coordinate array_index sample level) (below : OperandsBelow bound x) where
     after_image : All Below (kept (read coordinate ∷ read_optional array_index ∷ read_optional sample ∷ read_optional level ∷ []))
     after_image =
         let P : Expression → Type 0 = λ v. OperandsBelow bound v in
@@ -75,26 +80,31 @@ module _ (bound : ℕ) where
         other_slots (read image) (read coordinate ∷ read_optional array_index ∷ read_optional sample ∷ read_optional level ∷ []) all
 
     after_coordinate : All Below (kept (read_optional array_index ∷ read_optional sample ∷ read_optional level ∷ []))
-    after_coordinate = other_slots (read coordinate) (read_optional array_index ∷ read_optional sample ∷ read_optional level ∷ []) after_image
+    after_coordinate = other_slots (read coordinate) (read_optional array_index ∷ read_optional sample ∷ read_optional level
+        ∷ []) after_image
 
     after_array_index : All Below (kept (read_optional sample ∷ read_optional level ∷ []))
     after_array_index = other_slots (read_optional array_index) (read_optional sample ∷ read_optional level ∷ []) after_coordinate
 
     -- those of an image load
     pub coordinate_below : coordinate < bound
-    coordinate_below = first_slot (read coordinate) (read_optional array_index ∷ read_optional sample ∷ read_optional level ∷ []) after_image
+    coordinate_below = first_slot (read coordinate) (read_optional array_index ∷ read_optional sample ∷ read_optional level
+        ∷ []) after_image
 
     pub array_index_below : IfSome array_index (λ e. e < bound)
-    array_index_below = optional_slot array_index (first_slot (read_optional array_index) (read_optional sample ∷ read_optional level ∷ []) after_coordinate)
+    array_index_below = optional_slot array_index (first_slot (read_optional array_index) (read_optional sample ∷ read_optional level ∷ [])
+        after_coordinate)
 
     pub sample_below : IfSome sample (λ e. e < bound)
     sample_below = optional_slot sample (first_slot (read_optional sample) (read_optional level ∷ []) after_array_index)
 
     pub level_below : IfSome level (λ e. e < bound)
-    level_below = optional_slot level (first_slot (read_optional level) [] (other_slots (read_optional sample) (read_optional level ∷ []) after_array_index))
+    level_below = optional_slot level (first_slot (read_optional level) []
+        (other_slots (read_optional sample) (read_optional level ∷ []) after_array_index))
 
 -- the pairs of two lists
-zip_at : {X Y : Type 0} (xs : List X) (ys : List Y) (x : X) (y : Y) → Contains (zip xs ys) (x, y) → (i : ℕ) × (slice_get xs i ≡ Some x) × (slice_get ys i ≡ Some y)
+zip_at : {X Y : Type 0} (xs : List X) (ys : List Y) (x : X) (y : Y) → Contains (zip xs ys) (x, y) →
+    (i : ℕ) × (slice_get xs i ≡ Some x) × (slice_get ys i ≡ Some y)
 zip_at [] ys x y h = absurd (nowhere (x, y) h)
 zip_at (a ∷ xs) [] x y h = absurd (nowhere (x, y) h)
 zip_at {X = X} {Y = Y} (a ∷ xs) (b ∷ ys) x y h = elim (cases (a, b) (zip xs ys) (x, y) h) [
@@ -102,7 +112,8 @@ zip_at {X = X} {Y = Y} (a ∷ xs) (b ∷ ys) x y h = elim (cases (a, b) (zip xs 
   | inr rest ↦ let later = zip_at xs ys x y rest in (suc later.0, later.1, later.2)
 ]
 
-at_zip : {X Y : Type 0} (xs : List X) (ys : List Y) (x : X) (y : Y) (i : ℕ) → slice_get xs i ≡ Some x → slice_get ys i ≡ Some y → Contains (zip xs ys) (x, y)
+at_zip : {X Y : Type 0} (xs : List X) (ys : List Y) (x : X) (y : Y) (i : ℕ) → slice_get xs i ≡ Some x → slice_get ys i ≡ Some y →
+    Contains (zip xs ys) (x, y)
 at_zip [] ys x y i e g = absurd (cc)
 at_zip (a ∷ xs) [] x y i e g = absurd (cc)
 at_zip {X = X} {Y = Y} (a ∷ xs) (b ∷ ys) x y zero e g =
@@ -112,11 +123,15 @@ at_zip (a ∷ xs) (b ∷ ys) x y (suc i) e g = there (a, b) (zip xs ys) (x, y) (
 
 -- the arguments of a call in turn
 module _ (m : Module) (f : Function) (P : ℕ → TypeResolution → Type 0) where
-  pub passes_gain : (ty : ℕ) (parameter : FunctionArgument) (argument : ℕ) (S T : ℕ → Type 0) → pointed_at m.types parameter.ty ≡ Some ty → ChainNeedsCheck m f P argument →
+  pub passes_gain : (ty : ℕ) (parameter : FunctionArgument) (argument : ℕ) (S T : ℕ → Type 0) → pointed_at m.types parameter.ty ≡ Some ty →
+      ChainNeedsCheck m f P argument →
       Gains S T (λ e. ty ≡ e) → Gains S T (λ e. PassesUnchecked m f P e parameter argument)
   passes_gain ty parameter argument S T points chain g =
       gains_as S T (λ e. ty ≡ e) (λ e. PassesUnchecked m f P e parameter argument)
-      (λ e. (λ is. record { points = points ∙ ap (λ (v : ℕ). Some v) is; chain = chain }, λ passes. same_Some ty e (sym points ∙ passes.points))) g
+      (λ e. (
+        λ is. record { points = points ∙ ap (λ (v : ℕ). Some v) is; chain = chain },
+        λ passes. same_Some ty e (sym points ∙ passes.points),
+      )) g
 
   pub pairs_pass : (callee : ℕ) (arguments : List ℕ) (called : Function) → slice_get m.functions callee ≡ Some called → (ty : ℕ) →
       PairsPass m f P (zip called.arguments arguments) ty ↔ CallPasses m f P ty callee arguments
@@ -140,19 +155,27 @@ module _ (m : Module) (f : Function) (P : ℕ → TypeResolution → Type 0) whe
       from call =
           let same : call.called ≡ called = same_Some call.called called (sym call.stands ∙ stands) in
           let Q : Function → Type 0 = λ v. slice_get v.arguments call.place ≡ Some call.parameter in
-          let taken : slice_get called.arguments call.place ≡ Some call.parameter = subst Q same call.taken in
-          ((call.parameter, call.argument), at_zip called.arguments arguments call.parameter call.argument call.place taken call.given, call.passes)
+          let taken : slice_get called.arguments call.place ≡ Some call.parameter = subst Q same call.taken in (
+            (call.parameter, call.argument),
+            at_zip called.arguments arguments call.parameter call.argument call.place taken
+                call.given,
+            call.passes,
+          )
 
-  pub call_gains : (callee : ℕ) (arguments : List ℕ) (called : Function) (S T : ℕ → Type 0) → slice_get m.functions callee ≡ Some called → Gains S T (PairsPass m f P (zip called.arguments arguments)) →
+  pub call_gains : (callee : ℕ) (arguments : List ℕ) (called : Function) (S T : ℕ → Type 0) → slice_get m.functions callee ≡ Some called →
+      Gains S T (PairsPass m f P (zip called.arguments arguments)) →
       Gains S T (λ ty. CallPasses m f P ty callee arguments)
   call_gains callee arguments called S T stands g =
-      gains_as S T (PairsPass m f P (zip called.arguments arguments)) (λ ty. CallPasses m f P ty callee arguments) (λ ty. pairs_pass callee arguments called stands ty) g
+      gains_as S T (PairsPass m f P (zip called.arguments arguments)) (λ ty. CallPasses m f P ty callee arguments)
+      (λ ty. pairs_pass callee arguments called stands ty) g
 
   no_callee : (callee : ℕ) (arguments : List ℕ) (ty : ℕ) → slice_get m.functions callee ≡ None → CallPasses m f P ty callee arguments → ⊥
   no_callee callee arguments ty none call = let never : None ≡ Some call.called = sym none ∙ call.stands in absurd (cc)
 
-  pub call_of_none : (callee : ℕ) (arguments : List ℕ) (S : ℕ → Type 0) → slice_get m.functions callee ≡ None → Gains S S (λ ty. CallPasses m f P ty callee arguments)
-  call_of_none callee arguments S none = gains_none S (λ ty. CallPasses m f P ty callee arguments) (λ ty call. no_callee callee arguments ty none call)
+  pub call_of_none : (callee : ℕ) (arguments : List ℕ) (S : ℕ → Type 0) → slice_get m.functions callee ≡ None →
+      Gains S S (λ ty. CallPasses m f P ty callee arguments)
+  call_of_none callee arguments S none = gains_none S (λ ty. CallPasses m f P ty callee arguments)
+      (λ ty call. no_callee callee arguments ty none call)
 
 -- what stands at a place among the module's functions is one of them
 pub is_function_at : (m : Module) (i : ℕ) (f : Function) → slice_get m.functions i ≡ Some f → IsFunctionOf m f

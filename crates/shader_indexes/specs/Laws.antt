@@ -20,12 +20,14 @@ RecordsDerived m f info = AreTypes (function_context m f) f.expressions (info_of
 abbrev pub ChecksAreOfDerived : Type 0
 ChecksAreOfDerived = (m : Module) (f : Function) (info : FunctionInfo) (policies : BoundsCheckPolicies) → RecordsDerived m f info →
     ((e : ℕ) → IsCheckedIndex m f (Records info) policies e ↔ IsCheckedIndex m f (Derives (function_context m f) f.expressions) policies e)
-    × ((ty : ℕ) → IsOutOfBoundsType m f (Records info) policies ty ↔ IsOutOfBoundsType m f (Derives (function_context m f) f.expressions) policies ty)
+    × ((ty : ℕ) → IsOutOfBoundsType m f (Records info) policies ty
+    ↔ IsOutOfBoundsType m f (Derives (function_context m f) f.expressions) policies ty)
 
 module _ (m : Module) (f : Function) (info : FunctionInfo) where
   -- the base of each access has a length, steps into structs aside
   pub record HaveLengths : Type 0 where
-    pub computed : (e base index : ℕ) (resolution : TypeResolution) → Stands f e (Access base index) → Records info base resolution → IsOk (base_length m resolution)
+    pub computed : (e base index : ℕ) (resolution : TypeResolution) → Stands f e (Access base index) → Records info base resolution →
+        IsOk (base_length m resolution)
     pub numbered : (e base index : ℕ) (resolution : TypeResolution) → Stands f e (AccessIndex base index) → Records info base resolution →
         IsNoMember m.types resolution → IsOk (base_length m resolution)
 

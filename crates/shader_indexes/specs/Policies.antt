@@ -36,4 +36,5 @@ module _ (policies : BoundsCheckPolicies) where
 
   -- one of the four is this policy
   abbrev pub IsAmong : BoundsCheckPolicy → Type 0
-  IsAmong policy = (policies.index ≡ policy) ⊎ (policies.buffer ≡ policy) ⊎ (policies.image_load ≡ policy) ⊎ (policies.binding_array ≡ policy)
+  IsAmong policy = (policies.index ≡ policy) ⊎ (policies.buffer ≡ policy) ⊎ (policies.image_load ≡ policy)
+      ⊎ (policies.binding_array ≡ policy)

@@ -3,7 +3,8 @@ ghost use Rattle.std.specs.Prelude.{◌≡◌, ◌↔◌, IsTrue, IfSome, slice_
 ghost use Rattle.std.specs.Option.{option_copied};
 ghost use Rattle.shader_ir.specs.Key.{IsNoStruct};
 ghost use Rattle.shader_resolve.specs.WellFormed.{AtEach, OperandsBelow};
-ghost use Rattle.shader_indexes.specs.Checked.{AccessNeedsCheck, ChainNeedsCheck, IsNoMember, NeedsCheck, StepsIntoNoStruct, accessed, base_of};
+ghost use Rattle.shader_indexes.specs.Checked.{AccessNeedsCheck, ChainNeedsCheck, IsNoMember, NeedsCheck};
+ghost use Rattle.shader_indexes.specs.Checked.{StepsIntoNoStruct, accessed, base_of};
 ghost use Rattle.shader_indexes.specs.Typed.{Records};
 
 use crate::GuardedIndex;

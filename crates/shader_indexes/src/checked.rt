@@ -80,7 +80,8 @@ fn add_checked(
 )
     requires { OperandsBelow (length checked.old) expression.now }
     ensures count { length checked.new ≡ length checked.old }
-    ensures gains { Gains (IsIn checked.old) (IsIn checked.new) (Checks «module».now function.now (Records info.now) policies expression.now) }
+    ensures gains { Gains (IsIn checked.old) (IsIn checked.new)
+        (Checks «module».now function.now (Records info.now) policies expression.now) }
 {
     match expression {
         Expression::Access { base, index } => {
@@ -110,12 +111,12 @@ fn add_checked(
 /// dropped: of each `Access` whose policy says so, where the index isn't known to be below the length, and with that policy for
 /// `image_load` of each `ImageLoad`.
 ///
-/// The module is well formed where `check_module` answers `Ok`. By an info of the analysis the lengths are known where
+/// The module is well formed where `check_module` returns `Ok`. By an info of the analysis the lengths are known where
 /// `sizes_known` says so, and where one isn't, its index is checked.
 ///
 /// # Errors
 ///
-/// Want of memory for a flag an expression.
+/// If allocation fails: a flag an expression is asked for.
 pub fn find_checked_indexes(
     alloc: Global,
     module: &Module,
@@ -125,7 +126,8 @@ pub fn find_checked_indexes(
 ) -> Result<HandleSet<mark::Expression>, AllocError>
     requires well_formed { IsWellFormed «module».now }
     requires function { IsFunctionOf «module».now function.now }
-    ensures { IfOk result (λ checked. (e : ℕ) → IsTrue (is_member checked e) ↔ IsCheckedIndex «module».now function.now (Records info.now) policies e) }
+    ensures { IfOk result (λ checked. (e : ℕ) → IsTrue (is_member checked e)
+        ↔ IsCheckedIndex «module».now function.now (Records info.now) policies e) }
 {
     let mut checked = HandleSet::for_arena(alloc, &function.expressions)?;
     for (_, expression) in function.expressions.iter() {

@@ -95,7 +95,8 @@ pub fn access_needs_check(
     info: &FunctionInfo,
 ) -> Option<IndexableLength>
     requires { IsOk (length_at «module».now (type_at info.now base)) }
-    ensures none { IsNone result ↔ IsBelow (guarded_index «module».now expressions.now index) (length_at «module».now (type_at info.now base)) }
+    ensures none { IsNone result ↔ IsBelow (guarded_index «module».now expressions.now index)
+        (length_at «module».now (type_at info.now base)) }
     ensures some { IfSome result (λ length. length_at «module».now (type_at info.now base) ≡ Ok length) }
 {
     let length = some_length(base, module, info);

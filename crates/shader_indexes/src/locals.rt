@@ -7,7 +7,8 @@ ghost use Rattle.shader_ir.specs.Occurs.{statements};
 ghost use Rattle.shader_sweeps.specs.Gathered.{listed};
 ghost use Rattle.shader_resolve.specs.WellFormed.{AtEach, IsWellFormed, OperandsBelow};
 ghost use Rattle.shader_indexes.specs.Gains.{Gains};
-ghost use Rattle.shader_indexes.specs.Locals.{AllPass, CallPasses, IsOutOfBoundsType, NeedsLocal, PairsPass, PassesUnchecked, StepPasses, pointed, pointed_at};
+ghost use Rattle.shader_indexes.specs.Locals.{AllPass, CallPasses, IsOutOfBoundsType, NeedsLocal, PairsPass};
+ghost use Rattle.shader_indexes.specs.Locals.{PassesUnchecked, StepPasses, pointed, pointed_at};
 ghost use Rattle.shader_indexes.specs.Typed.{IsFunctionOf, Records};
 
 use crate::chains::chain_needs_check;
@@ -60,7 +61,8 @@ fn add_passed(
     locals: &mut HashSet<Handle<mark::Type>>,
 ) -> Result<(), AllocError>
     requires { AtEach OperandsBelow function.now.expressions }
-    ensures { OnOk result (Gains (Contains locals.old.keys) (Contains locals.new.keys) (λ ty. PassesUnchecked «module».now function.now (Records info.now) ty parameter.now argument)) }
+    ensures { OnOk result (Gains (Contains locals.old.keys) (Contains locals.new.keys)
+        (λ ty. PassesUnchecked «module».now function.now (Records info.now) ty parameter.now argument)) }
 {
     match pointed_at(&module.types, parameter.ty) {
         Some(ty) => {
@@ -83,7 +85,8 @@ fn add_arguments(
     locals: &mut HashSet<Handle<mark::Type>>,
 ) -> Result<(), AllocError>
     requires { AtEach OperandsBelow function.now.expressions }
-    ensures { OnOk result (Gains (Contains locals.old.keys) (Contains locals.new.keys) (PairsPass «module».now function.now (Records info.now) (zip parameters.now arguments.now))) }
+    ensures { OnOk result (Gains (Contains locals.old.keys) (Contains locals.new.keys)
+        (PairsPass «module».now function.now (Records info.now) (zip parameters.now arguments.now))) }
 {
     for (parameter, argument) in parameters.iter().zip(arguments.iter()) {
         add_passed(module, function, info, parameter, *argument, locals)?;
@@ -112,7 +115,8 @@ fn add_call(
     locals: &mut HashSet<Handle<mark::Type>>,
 ) -> Result<(), AllocError>
     requires { AtEach OperandsBelow function.now.expressions }
-    ensures { OnOk result (Gains (Contains locals.old.keys) (Contains locals.new.keys) (λ ty. CallPasses «module».now function.now (Records info.now) ty callee arguments.now)) }
+    ensures { OnOk result (Gains (Contains locals.old.keys) (Contains locals.new.keys)
+        (λ ty. CallPasses «module».now function.now (Records info.now) ty callee arguments.now)) }
 {
     match called(module, callee) {
         Some(called) => {
@@ -132,7 +136,8 @@ fn add_statement(
     locals: &mut HashSet<Handle<mark::Type>>,
 ) -> Result<(), AllocError>
     requires { AtEach OperandsBelow function.now.expressions }
-    ensures { OnOk result (Gains (Contains locals.old.keys) (Contains locals.new.keys) (λ ty. StepPasses «module».now function.now (Records info.now) ty (step_of statement.now))) }
+    ensures { OnOk result (Gains (Contains locals.old.keys) (Contains locals.new.keys)
+        (λ ty. StepPasses «module».now function.now (Records info.now) ty (step_of statement.now))) }
 {
     match statement {
         Statement::Call {
@@ -160,7 +165,8 @@ fn add_statements(
     locals: &mut HashSet<Handle<mark::Type>>,
 ) -> Result<(), AllocError>
     requires { AtEach OperandsBelow function.now.expressions }
-    ensures { OnOk result (Gains (Contains locals.old.keys) (Contains locals.new.keys) (AllPass «module».now function.now (Records info.now) (listed all.now))) }
+    ensures { OnOk result (Gains (Contains locals.old.keys) (Contains locals.new.keys)
+        (AllPass «module».now function.now (Records info.now) (listed all.now))) }
 {
     for statement in all {
         add_statement(module, function, info, statement, locals)?;
@@ -195,11 +201,11 @@ fn needed_locals(
 /// called functions point to, where an argument comes by accesses one of which needs a check, steps into structs aside. Where
 /// `index` is another policy than `ReadZeroSkipWrite`, none is.
 ///
-/// The module is well formed where `check_module` answers `Ok`.
+/// The module is well formed where `check_module` returns `Ok`.
 ///
 /// # Errors
 ///
-/// Want of memory for a word a statement and a place a type.
+/// If allocation fails: a word a statement and a place a type are asked for.
 pub fn oob_local_types(
     alloc: Global,
     module: &Module,
@@ -209,7 +215,8 @@ pub fn oob_local_types(
 ) -> Result<HashSet<Handle<mark::Type>>, AllocError>
     requires well_formed { IsWellFormed «module».now }
     requires function { IsFunctionOf «module».now function.now }
-    ensures { IfOk result (λ locals. (ty : ℕ) → Contains locals.keys ty ↔ IsOutOfBoundsType «module».now function.now (Records info.now) policies ty) }
+    ensures { IfOk result (λ locals. (ty : ℕ) → Contains locals.keys ty
+        ↔ IsOutOfBoundsType «module».now function.now (Records info.now) policies ty) }
 {
     if policies.index == BoundsCheckPolicy::ReadZeroSkipWrite {
         needed_locals(alloc, module, function, info)

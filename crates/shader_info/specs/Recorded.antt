@@ -7,7 +7,8 @@ use Rattle.shader_info.specs.Uses.{includes}
 
 -- at each global that both lists have, the first one's uses contain the second one's
 abbrev pub Dominates : List GlobalUse → List GlobalUse → Type 0
-Dominates uses others = (global : ℕ) (at other : GlobalUse) → slice_get uses global ≡ Some at → slice_get others global ≡ Some other → IsTrue (includes at other)
+Dominates uses others = (global : ℕ) (at other : GlobalUse) → slice_get uses global ≡ Some at → slice_get others global ≡ Some other →
+    IsTrue (includes at other)
 
 -- the image and the sampler, one of which is an argument, are recorded
 abbrev pub IsSampled : FunctionInfo → GlobalOrArgument → GlobalOrArgument → Type 0

@@ -246,7 +246,8 @@ impl Flags for Capabilities {
 
     ghost exact = { ⊤ };
 
-    ghost table = { (codes "TEXTURE_AND_SAMPLER_BINDING_ARRAY_NON_UNIFORM_INDEXING", 1) ∷ (codes "STORAGE_TEXTURE_BINDING_ARRAY_NON_UNIFORM_INDEXING", 2) ∷ [] };
+    ghost table = { (codes "TEXTURE_AND_SAMPLER_BINDING_ARRAY_NON_UNIFORM_INDEXING", 1)
+        ∷ (codes "STORAGE_TEXTURE_BINDING_ARRAY_NON_UNIFORM_INDEXING", 2) ∷ [] };
 
     ghost set_of = { λ capabilities. capabilities.0 };
 

@@ -8,7 +8,8 @@ use Rattle.shader_ir.specs.BodyOf.{body_of, step_of}
 use Rattle.shader_ir.specs.declared.statement.Statement.{Statement}
 
 -- what holds of all keys holds of one in their midst
-key_within : {K V : Type 0} (P : K → Type 0) (done : List (K × V)) (key : K) (value : V) (rest : List (K × V)) → AllByRecursion P (keys_of (done ++ (key, value) ∷ rest)) → P key
+key_within : {K V : Type 0} (P : K → Type 0) (done : List (K × V)) (key : K) (value : V) (rest : List (K × V)) →
+    AllByRecursion P (keys_of (done ++ (key, value) ∷ rest)) → P key
 key_within P [] key value rest all = all.0
 key_within P (entry ∷ done) key value rest all = key_within P done key value rest all.1
 
@@ -23,7 +24,8 @@ new_entry eq laws (entry ∷ done) key value rest distinct =
     ∙ ap (λ entries. entry ∷ entries) (new_entry eq laws done key value rest distinct.1)
 
 -- an entry moves from those left to those copied
-pub next_entry : {K V : Type 0} (eq : K → K → Bool) → IsEquivalence eq → (all done left rest after : List (K × V)) {key copied_key : K} {value copied_value : V}
+pub next_entry : {K V : Type 0} (eq : K → K → Bool) → IsEquivalence eq →
+    (all done left rest after : List (K × V)) {key copied_key : K} {value copied_value : V}
     → IsDistinct eq (keys_of all) → done ++ left ≡ all → left ≡ (key, value) ∷ rest
     → copied_key ≡ key → copied_value ≡ value → after ≡ insert_entry eq done copied_key copied_value
     → after ++ rest ≡ all

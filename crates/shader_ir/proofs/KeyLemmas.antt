@@ -6,27 +6,31 @@ use Rattle.shader_ir.specs.declared.types.TypeInner.{TypeInner}
 use Rattle.shader_ir.specs.declared.types.TypeInner.TheVariants.{Scalar, Vector, Pointer, Struct}
 use Rattle.shader_ir.specs.declared.proc.type_resolution.TypeResolution.{TypeResolution}
 use Rattle.shader_ir.specs.declared.proc.type_resolution.TypeResolution.TheVariants.{Handle, Value}
-use Rattle.shader_ir.specs.Key.{StructKey, InnerKey, pointer_to, pointer_at, canonical, shape_key, found_key, key_of, found_inner, inner_of, FitsTypes, IsNoStruct, IsSameHandle}
+use Rattle.shader_ir.specs.Key.{StructKey, InnerKey, pointer_to, pointer_at, canonical, shape_key, found_key}
+use Rattle.shader_ir.specs.Key.{key_of, found_inner, inner_of, FitsTypes, IsNoStruct, IsSameHandle}
 use Rattle.shader_ir.specs.TypeTree.{PointsBelow, IsBackward}
 use Rattle.shader_ir.proofs.TypeTreeLemmas.{below, weaker}
 
 module _ (types : List «Type») where
   shape-no_struct : (handle : ℕ) (inner : TypeInner) → IsNoStruct inner → shape_key types handle inner ≡ InnerKey (canonical types inner)
-  shape-no_struct handle (Struct members span) n = absurd n
+  shape-no_struct handle (Struct span members) n = absurd n
   shape-no_struct handle inner n = refl
 
-  found-shape : (handle : ℕ) (found : Option «Type») (inner : TypeInner) → found_inner found ≡ Some inner → found_key types handle found ≡ shape_key types handle inner
+  found-shape : (handle : ℕ) (found : Option «Type») (inner : TypeInner) → found_inner found ≡ Some inner →
+      found_key types handle found ≡ shape_key types handle inner
   found-shape handle (Some type) inner e = let same : type.inner ≡ inner = cc in ap (λ a. shape_key types handle a) same
   found-shape handle None inner e = absurd (cc)
 
   -- the key of a type that is no struct
-  pub key_of-no_struct : (resolution : TypeResolution) (inner : TypeInner) → inner_of types resolution ≡ Some inner → IsNoStruct inner → key_of types resolution ≡ InnerKey (canonical types inner)
+  pub key_of-no_struct : (resolution : TypeResolution) (inner : TypeInner) → inner_of types resolution ≡ Some inner → IsNoStruct inner →
+      key_of types resolution ≡ InnerKey (canonical types inner)
   key_of-no_struct (Handle handle) inner e n = found-shape handle (slice_get types handle) inner e ∙ shape-no_struct handle inner n
   key_of-no_struct (Value value) inner e n = let same : value ≡ inner = cc in ap (λ a. InnerKey (canonical types a)) same
 
   -- the key of a struct
-  pub key_of-struct : (handle : ℕ) (inner : TypeInner) → inner_of types (Handle handle) ≡ Some inner → (IsNoStruct inner → ⊥) → key_of types (Handle handle) ≡ StructKey handle
-  key_of-struct handle (Struct members span) e n = found-shape handle (slice_get types handle) (Struct members span) e
+  pub key_of-struct : (handle : ℕ) (inner : TypeInner) → inner_of types (Handle handle) ≡ Some inner → (IsNoStruct inner → ⊥) →
+      key_of types (Handle handle) ≡ StructKey handle
+  key_of-struct handle (Struct span members) e n = found-shape handle (slice_get types handle) (Struct span members) e
   key_of-struct handle inner e n = absurd (n tt)
 
   pointer_to-kept : (base : ℕ) (space : AddressSpace) (inner : TypeInner) → IsNoStruct (pointer_to base space inner)
@@ -43,7 +47,7 @@ module _ (types : List «Type») where
   canonical-kept inner n = n
 
   shape-handle : (handle given : ℕ) (inner : TypeInner) → shape_key types handle inner ≡ StructKey given → handle ≡ given
-  shape-handle handle given (Struct members span) e = cc
+  shape-handle handle given (Struct span members) e = cc
   shape-handle handle given inner e = absurd (cc)
 
   found-handle : (handle given : ℕ) (found : Option «Type») → found_key types handle found ≡ StructKey given → handle ≡ given
@@ -56,7 +60,8 @@ module _ (types : List «Type») where
   StructKey-told (Value inner) given e = absurd (cc)
 
   -- a struct has the key of the same handle alone
-  pub struct_keys : (lhs rhs : TypeResolution) (left : TypeInner) → inner_of types lhs ≡ Some left → FitsTypes types lhs → (¬ IsNoStruct left)
+  pub struct_keys : (lhs rhs : TypeResolution) (left : TypeInner) → inner_of types lhs ≡ Some left → FitsTypes types lhs →
+      (¬ IsNoStruct left)
       → IsSameHandle lhs rhs ↔ (key_of types lhs ≡ key_of types rhs)
   struct_keys (Handle handle) (Handle given) left e fits n = (
     (λ same. ap (λ h. key_of types (Handle h)) same),
@@ -69,19 +74,22 @@ module _ (types : List «Type») where
   struct_keys (Value inner) rhs left e fits n =
       let is : inner ≡ left = cc in absurd (n (subst (λ a. IsNoStruct a) is fits.1))
 
-  other-canonical : (resolution : TypeResolution) (inner other : TypeInner) → inner_of types resolution ≡ Some other → IsNoStruct inner → canonical types inner ≡ canonical types other → IsNoStruct other
-  other-canonical resolution inner (Struct members span) e n same = subst (λ a. IsNoStruct a) same (canonical-kept inner n)
+  other-canonical : (resolution : TypeResolution) (inner other : TypeInner) → inner_of types resolution ≡ Some other → IsNoStruct inner →
+      canonical types inner ≡ canonical types other → IsNoStruct other
+  other-canonical resolution inner (Struct span members) e n same = subst (λ a. IsNoStruct a) same (canonical-kept inner n)
   other-canonical resolution inner other e n same = tt
 
-  other-key : (resolution : TypeResolution) (other inner : TypeInner) → inner_of types resolution ≡ Some other → FitsTypes types resolution → key_of types resolution ≡ InnerKey inner → IsNoStruct other
-  other-key (Handle handle) (Struct members span) inner e fits same =
-      let struct = found-shape handle (slice_get types handle) (Struct members span) e in absurd (cc)
-  other-key (Value value) (Struct members span) inner e fits same =
-      let is : value ≡ Struct members span = cc in absurd (subst (λ a. IsNoStruct a) is fits.1)
+  other-key : (resolution : TypeResolution) (other inner : TypeInner) → inner_of types resolution ≡ Some other →
+      FitsTypes types resolution → key_of types resolution ≡ InnerKey inner → IsNoStruct other
+  other-key (Handle handle) (Struct span members) inner e fits same =
+      let struct = found-shape handle (slice_get types handle) (Struct span members) e in absurd (cc)
+  other-key (Value value) (Struct span members) inner e fits same =
+      let is : value ≡ Struct span members = cc in absurd (subst (λ a. IsNoStruct a) is fits.1)
   other-key resolution other inner e fits same = tt
 
   -- keys are equal exactly where canonical forms are, where the first type is no struct
-  pub same_keys : (lhs rhs : TypeResolution) (left right : TypeInner) → inner_of types lhs ≡ Some left → inner_of types rhs ≡ Some right → FitsTypes types rhs → IsNoStruct left
+  pub same_keys : (lhs rhs : TypeResolution) (left right : TypeInner) → inner_of types lhs ≡ Some left → inner_of types rhs ≡ Some right →
+      FitsTypes types rhs → IsNoStruct left
       → (canonical types left ≡ canonical types right) ↔ (key_of types lhs ≡ key_of types rhs)
   same_keys lhs rhs left right l r fits n =
       let first = key_of-no_struct lhs left l n in (
@@ -92,12 +100,15 @@ module _ (types : List «Type») where
       )
 
   -- the handles of a resolution's shape are in range
-  pub inner_fits : IsBackward types → (resolution : TypeResolution) (inner : TypeInner) → inner_of types resolution ≡ Some inner → FitsTypes types resolution → PointsBelow (length types) inner
+  pub inner_fits : IsBackward types → (resolution : TypeResolution) (inner : TypeInner) → inner_of types resolution ≡ Some inner →
+      FitsTypes types resolution → PointsBelow (length types) inner
   inner_fits backward (Handle handle) inner e fits = fits_found (slice_get types handle) refl e
     where
-      fits_found : (found : Option «Type») → slice_get types handle ≡ found → found_inner found ≡ Some inner → PointsBelow (length types) inner
+      fits_found : (found : Option «Type») → slice_get types handle ≡ found → found_inner found ≡ Some inner →
+          PointsBelow (length types) inner
       fits_found (Some type) at e =
           let same : type.inner ≡ inner = cc in
-          subst (λ a. PointsBelow (length types) a) same (weaker handle (length types) type.inner (omega (arith, fits)) (below types backward handle type at))
+          subst (λ a. PointsBelow (length types) a) same (weaker handle (length types) type.inner (omega (arith, fits))
+          (below types backward handle type at))
       fits_found None at e = absurd (cc)
   inner_fits backward (Value value) inner e fits = let same : value ≡ inner = cc in subst (λ a. PointsBelow (length types) a) same fits.0

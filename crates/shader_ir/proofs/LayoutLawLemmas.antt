@@ -1,5 +1,6 @@
 -- Updates that are called again: on an arena that grew, and after a refusal.
-use Rattle.std.proofs.Common.{◌≡◌, ◌∙◌, ap, sym, refl, ℕ, zero, suc, ◌<◌, ◌≤◌, List, [], ◌∷◌, length, map, slice_get, take, Option, Some, None, unwrap_or, ◌⊎◌, inl, inr, arith}
+use Rattle.std.proofs.Common.{◌≡◌, ◌∙◌, ap, sym, refl, ℕ, zero, suc, ◌<◌, ◌≤◌, List, [], ◌∷◌, length, map}
+use Rattle.std.proofs.Common.{slice_get, take, Option, Some, None, unwrap_or, ◌⊎◌, inl, inr, arith}
 use Rattle.std.specs.Option.{option_map}
 use Rattle.std.specs.Result.{result_unwrap_or}
 use Rattle.std.proofs.lemmas.Bool.{cases_lt}
@@ -59,10 +60,12 @@ module _ (earlier later : GlobalCtx) (grows : Grows earlier later) where
   same_size inner ranged = refl
 
   module _ (ranged : AreTypeSizesInRange earlier) (layouts : List TypeLayout) (held : AreFirstLayouts earlier layouts) where
-    same_at : (place : ℕ) (type : «Type») → slice_get types place ≡ Some type → size_of_type earlier type.inner ≡ size_of_type later type.inner
+    same_at : (place : ℕ) (type : «Type») → slice_get types place ≡ Some type →
+        size_of_type earlier type.inner ≡ size_of_type later type.inner
     same_at place type at = same_size type.inner (size_in_range earlier ranged place type at)
 
-    still_there : (place : ℕ) (type : «Type») → place < length layouts → slice_get types place ≡ Some type → slice_get others place ≡ Some type
+    still_there : (place : ℕ) (type : «Type») → place < length layouts → slice_get types place ≡ Some type →
+        slice_get others place ≡ Some type
     still_there place type lt at = sym (agree place (omega (arith, within earlier layouts held))) ∙ at
 
     same_fault : (place : ℕ) → place < length layouts → fault_at earlier place ≡ fault_at later place
@@ -84,7 +87,8 @@ module _ (earlier later : GlobalCtx) (grows : Grows earlier later) where
 
     composed : AreFirstLayouts later layouts
     composed = record {
-      first = held.first ∙ take_alike (λ (t : «Type»). layout_of earlier (tree_of types t.inner)) (λ (t : «Type»). layout_of later (tree_of others t.inner))
+      first = held.first ∙ take_alike (λ (t : «Type»). layout_of earlier (tree_of types t.inner))
+          (λ (t : «Type»). layout_of later (tree_of others t.inner))
           (length layouts) types others (within earlier layouts held)
           (λ place type lt at. (still_there place type lt at, same_layout place type lt at));
       faultless = λ place first lt. sym (same_fault place lt) ∙ held.faultless place first lt;
@@ -95,7 +99,8 @@ none_held : (ctx : GlobalCtx) → AreFirstLayouts ctx []
 none_held ctx = record { first = refl; faultless = λ place first lt. absurd (omega arith) }
 
 -- updates that go on from layouts of the first types leave those of all types
-whole_from : (held : List TypeLayout) (first : Updated) (later : List Updated) → AreFirstLayouts first.0 held → IsUpdated first.0 held first.1
+whole_from : (held : List TypeLayout) (first : Updated) (later : List Updated) → AreFirstLayouts first.0 held →
+    IsUpdated first.0 held first.1
     → AreUpdates first later → (last_of first later).1 ≡ layouts_of (last_of first later).0
 whole_from held first [] fine updated rest = updated.all fine
 whole_from held first (next ∷ later) fine updated rest =
@@ -110,7 +115,8 @@ updates_compose first later began updates =
     }
 
 -- there is a type where there is a fault
-fault_within : (ctx : GlobalCtx) (place : ℕ) (fault : Option LayoutErrorInner) → fault_at ctx place ≡ Some fault → place < length ctx.types.now
+fault_within : (ctx : GlobalCtx) (place : ℕ) (fault : Option LayoutErrorInner) → fault_at ctx place ≡ Some fault →
+    place < length ctx.types.now
 fault_within ctx place fault is = by (cases_lt place (length ctx.types.now))
   where
     by : (place < length ctx.types.now) ⊎ (length ctx.types.now ≤ place) → place < length ctx.types.now

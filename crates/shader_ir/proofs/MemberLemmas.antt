@@ -1,5 +1,6 @@
 -- The trees of the members of a struct.
-use Rattle.std.proofs.Common.{◌≡◌, ◌∙◌, ap, sym, ℕ, zero, suc, ◌+◌, ◌<◌, List, [], ◌∷◌, Option, Some, None, Bool, ◌&&◌, map, drop, length, slice_get, get_or, arith}
+use Rattle.std.proofs.Common.{◌≡◌, ◌∙◌, ap, sym, ℕ, zero, suc, ◌+◌, ◌<◌, List, [], ◌∷◌, Option, Some}
+use Rattle.std.proofs.Common.{None, Bool, ◌&&◌, map, drop, length, slice_get, get_or, arith}
 use Rattle.std.proofs.Math.Seq.{drop-cons}
 use Rattle.shader_ir.specs.declared.types.«Type».{«Type»}
 use Rattle.shader_ir.specs.declared.types.StructMember.{StructMember}
@@ -15,7 +16,8 @@ module _ (types : List «Type») (backward : IsBackward types) where
   module _ (last : Bool → TypeTrees → Bool) (test : TypeTree → Bool)
       (none : (answer : Bool) → last answer NoTree ≡ answer)
       (one : (answer : Bool) (tree : TypeTree) (trees : TypeTrees) → last answer (OneTree tree trees) ≡ last (test tree) trees) where
-    pub last_member : (members : List StructMember) (n : ℕ) (member : StructMember) (type : «Type») → length members ≡ suc n → slice_get members n ≡ Some member → slice_get types member.ty ≡ Some type
+    pub last_member : (members : List StructMember) (n : ℕ) (member : StructMember) (type : «Type») → length members ≡ suc n →
+        slice_get members n ≡ Some member → slice_get types member.ty ≡ Some type
         → (answer : Bool) → last answer (member_trees types members) ≡ test (tree_of types type.inner)
     last_member [] n member type whole held at answer = absurd (omega arith)
     last_member (m ∷ []) zero member type whole held at answer =
@@ -29,19 +31,23 @@ module _ (types : List «Type») (backward : IsBackward types) where
         by (last_member rest n member type (omega arith) held at) (slice_get types m.ty) answer
       where
         by : ((answer : Bool) → last answer (member_trees types rest) ≡ test (tree_of types type.inner))
-            → (o : Option «Type») (answer : Bool) → last answer (put_tree (child types backward) o (member_trees types rest)) ≡ test (tree_of types type.inner)
+            → (o : Option «Type») (answer : Bool) → last answer (put_tree (child types backward) o (member_trees types rest))
+            ≡ test (tree_of types type.inner)
         by others None answer = others answer
         by others (Some first) answer =
             let tree = child types backward first.inner in
             one answer tree (member_trees types rest) ∙ others (test tree)
 
   -- the members from an index on are constructible where its member's type is and those behind it are
-  pub constructible_from : (members : List StructMember) (index : ℕ) (member : StructMember) (type : «Type») → index < length members → member ≡ get_or members index member → slice_get types member.ty ≡ Some type
-      → are_constructible (member_trees types (drop index members)) ≡ (is_constructible (tree_of types type.inner) && are_constructible (member_trees types (drop (index + 1) members)))
+  pub constructible_from : (members : List StructMember) (index : ℕ) (member : StructMember) (type : «Type») → index < length members →
+      member ≡ get_or members index member → slice_get types member.ty ≡ Some type
+      → are_constructible (member_trees types (drop index members))
+      ≡ (is_constructible (tree_of types type.inner) && are_constructible (member_trees types (drop (index + 1) members)))
   constructible_from members index member type lt same at =
       let next : suc index ≡ index + 1 = omega arith in
       let rest = member_trees types (drop (index + 1) members) in
-      ap (λ (l : List StructMember). are_constructible (member_trees types l)) (drop-cons members index member lt ∙ ap (λ k. get_or members index member ∷ drop k members) next)
+      ap (λ (l : List StructMember). are_constructible (member_trees types l)) (drop-cons members index member lt
+      ∙ ap (λ k. get_or members index member ∷ drop k members) next)
       ∙ ap (λ (m : StructMember). are_constructible (put_tree (child types backward) (slice_get types m.ty) rest)) (sym same)
       ∙ ap (λ o. are_constructible (put_tree (child types backward) o rest)) at
       ∙ ap (λ t. is_constructible t && are_constructible rest) (child_is types backward member.ty type at)

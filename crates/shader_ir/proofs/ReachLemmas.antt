@@ -30,24 +30,29 @@ above_all place (handle ∷ handles) le zero d lt = omega arith
 above_all place (handle ∷ handles) le (suc k) d lt = above_all place handles (omega arith) k d (omega arith)
 
 -- the member of a struct at an index names a type below where all members do
-pub member_below : (place : ℕ) (members : List StructMember) (span index : ℕ) (member : StructMember) → PointsBelow place (Struct members span) → slice_get members index ≡ Some member → member.ty < place
+pub member_below : (place : ℕ) (members : List StructMember) (span index : ℕ) (member : StructMember) →
+    PointsBelow place (Struct span members) → slice_get members index ≡ Some member → member.ty < place
 member_below place members span index member below at =
     subst (λ (m : StructMember). m.ty < place) (get_or_from_slice_get members index member member at)
     (members_below place members span below index member (slice_get_within members index member at))
 
 module _ (types : List «Type») (backward : IsBackward types) where
-  below_reach : (inner : TypeInner) (base : ℕ) (type : «Type») → slice_get types base ≡ Some type → base < reach inner → reach type.inner < reach inner
+  below_reach : (inner : TypeInner) (base : ℕ) (type : «Type») → slice_get types base ≡ Some type → base < reach inner →
+      reach type.inner < reach inner
   below_reach inner base type at lt =
       let within = above_within base (type_handles type.inner) (backward.earlier base type at) in
       omega arith
 
   -- of a type that names one type alone
-  pub falls : (inner : TypeInner) (base : ℕ) (type : «Type») → type_handles inner ≡ base ∷ [] → slice_get types base ≡ Some type → reach type.inner < reach inner
+  pub falls : (inner : TypeInner) (base : ℕ) (type : «Type») → type_handles inner ≡ base ∷ [] → slice_get types base ≡ Some type →
+      reach type.inner < reach inner
   falls inner base type names at = below_reach inner base type at (subst (λ handles. base < above handles) (sym names) (omega arith))
 
   -- of a struct
-  pub member_falls : (members : List StructMember) (span index : ℕ) (member : StructMember) (type : «Type») → slice_get members index ≡ Some member → slice_get types member.ty ≡ Some type
-      → reach type.inner < reach (Struct members span)
+  pub member_falls : (members : List StructMember) (span index : ℕ) (member : StructMember) (type : «Type») →
+      slice_get members index ≡ Some member → slice_get types member.ty ≡ Some type
+      → reach type.inner < reach (Struct span members)
   member_falls members span index member type held at =
-      let inner = Struct members span in
-      below_reach inner member.ty type at (member_below (reach inner) members span index member (above_all (reach inner) (type_handles inner) (omega arith)) held)
+      let inner = Struct span members in
+      below_reach inner member.ty type at (member_below (reach inner) members span index member
+      (above_all (reach inner) (type_handles inner) (omega arith)) held)

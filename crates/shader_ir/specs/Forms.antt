@@ -2,7 +2,13 @@
 use Rattle.shader_ir.specs.Body.{Step, Leaf}
 use Rattle.shader_ir.specs.Body as data'
 use Rattle.shader_ir.specs.declared.expression.Expression.{Expression}
-use Rattle.shader_ir.specs.declared.expression.Expression.TheVariants.{Literal, Constant, Override, ZeroValue, Compose, FunctionArgument, GlobalVariable, LocalVariable, Access, AccessIndex, Splat, Swizzle, Load, ArrayLength, ImageSample, ImageLoad, ImageQuery, Unary, Binary, Derivative, Relational, As, Select, Math, CallResult, AtomicResult, WorkGroupUniformLoadResult, RayQueryVertexPositions, RayQueryProceedResult, RayQueryGetIntersection, SubgroupBallotResult, SubgroupOperationResult, CooperativeLoad, CooperativeMultiplyAdd}
+use Rattle.shader_ir.specs.declared.expression.Expression.TheVariants.{Literal, Constant, Override, ZeroValue, Compose, FunctionArgument}
+use Rattle.shader_ir.specs.declared.expression.Expression.TheVariants.{GlobalVariable, LocalVariable, Access, AccessIndex, Splat, Swizzle}
+use Rattle.shader_ir.specs.declared.expression.Expression.TheVariants.{Load, ArrayLength, ImageSample, ImageLoad, ImageQuery, Unary, Binary}
+use Rattle.shader_ir.specs.declared.expression.Expression.TheVariants.{Derivative, Relational, As, Select, Math, CallResult, AtomicResult}
+use Rattle.shader_ir.specs.declared.expression.Expression.TheVariants.{WorkGroupUniformLoadResult, RayQueryVertexPositions}
+use Rattle.shader_ir.specs.declared.expression.Expression.TheVariants.{RayQueryProceedResult, RayQueryGetIntersection, SubgroupBallotResult}
+use Rattle.shader_ir.specs.declared.expression.Expression.TheVariants.{SubgroupOperationResult, CooperativeLoad, CooperativeMultiplyAdd}
 
 -- the expression is a literal or names what is declared
 abbrev pub NamesDeclared : Expression → Type 0
@@ -27,7 +33,7 @@ TakesPart _ = ⊥
 
 -- the expression samples an image
 abbrev pub SamplesImage : Expression → Type 0
-SamplesImage (ImageSample image sampler gather coordinate array_index offset level depth_ref clamp_to_edge) = Unit {0}
+SamplesImage (ImageSample image sampler gather clamp_to_edge coordinate array_index offset level depth_ref) = Unit {0}
 SamplesImage _ = ⊥
 
 -- the expression reads an image without a sampler

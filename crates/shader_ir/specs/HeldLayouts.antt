@@ -26,13 +26,14 @@ greatest_held layouts (member ∷ members) = max (held_of (slice_get layouts mem
 
 abbrev pub held_alignment : List TypeLayout → TypeInner → ℕ
 held_alignment layouts (Array base size stride) = held_of (slice_get layouts base)
-held_alignment layouts (Struct members span) = greatest_held layouts members
+held_alignment layouts (Struct span members) = greatest_held layouts members
 held_alignment layouts inner = own_alignment inner
 
 -- the size is tested first
 abbrev pub sized_layout : Option ℕ → List TypeLayout → ℕ → TypeInner → Result TypeLayout LayoutErrorInner
 sized_layout None layouts place inner = Err TooLarge
-sized_layout (Some size) layouts place inner = faulty_or (part_fault place inner) (record { size = size; alignment = held_alignment layouts inner })
+sized_layout (Some size) layouts place inner = faulty_or (part_fault place inner)
+    (record { size = size; alignment = held_alignment layouts inner })
 
 abbrev pub held_layout : GlobalCtx → List TypeLayout → ℕ → TypeInner → Result TypeLayout LayoutErrorInner
 held_layout ctx layouts place inner = sized_layout (size_of_type ctx inner) layouts place inner

@@ -42,7 +42,7 @@ PointsToScalarOrVector types _ = ⊥
 
 -- the key of the type at a handle, which has the given shape
 abbrev pub shape_key : List «Type» → ℕ → TypeInner → Key
-shape_key types handle (Struct members span) = StructKey handle
+shape_key types handle (Struct span members) = StructKey handle
 shape_key types handle inner = InnerKey (canonical types inner)
 
 abbrev pub found_key : List «Type» → ℕ → Option «Type» → Key
@@ -59,7 +59,7 @@ key_of types (Value inner) = InnerKey (canonical types inner)
 
 -- the type is no struct
 abbrev pub IsNoStruct : TypeInner → Type 0
-IsNoStruct (Struct members span) = ⊥
+IsNoStruct (Struct span members) = ⊥
 IsNoStruct _ = Unit {0}
 
 -- the handles of the resolution are in range, and no free-standing type is a struct

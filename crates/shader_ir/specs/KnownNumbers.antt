@@ -1,5 +1,6 @@
 -- Numbers that are known before a pipeline is made.
-use Rattle.std.specs.Prelude.{ℕ, zero, suc, ◌^◌, ◌<◌, nat_lt, ℤ, pos, negsuc, List, length, slice_get, Option, Some, None, Result, Ok, Err, if◌then◌else◌}
+use Rattle.std.specs.Prelude.{ℕ, zero, suc, ◌^◌, ◌<◌, nat_lt, ℤ, pos, negsuc, List, length}
+use Rattle.std.specs.Prelude.{slice_get, Option, Some, None, Result, Ok, Err, if◌then◌else◌}
 use Rattle.shader_ir.specs.declared.proc.known_numbers.KnownIndex.{KnownIndex}
 use Rattle.shader_ir.specs.declared.proc.known_numbers.KnownIndex.TheVariants.{Known, OutOfRange, NotInteger}
 use Rattle.shader_ir.specs.declared.proc.known_numbers.ResolveArraySizeError.{ResolveArraySizeError}

@@ -1,12 +1,14 @@
 -- The sizes, alignments and layouts of types, and why a type has none.
-use Rattle.std.specs.Prelude.{◌≡◌, ℕ, ◌+◌, ◌-◌, ◌*◌, ◌^◌, ◌<◌, ◌≤◌, nat_lt, max, min, List, [], ◌∷◌, length, map, slice_get, take, Option, Some, None, unwrap_or, if◌then◌else◌}
+use Rattle.std.specs.Prelude.{◌≡◌, ℕ, ◌+◌, ◌-◌, ◌*◌, ◌^◌, ◌<◌, ◌≤◌, nat_lt, max, min, List, [], ◌∷◌, length}
+use Rattle.std.specs.Prelude.{map, slice_get, take, Option, Some, None, unwrap_or, if◌then◌else◌}
 use Rattle.std.specs.Int.{is_power_of_two, next_multiple_of}
 use Rattle.std.specs.Option.{option_map}
 use Rattle.shader_ir.specs.Alignments.{cooperative_count, vector_alignment, vector_count}
 use Rattle.shader_ir.specs.Sizes.{array_bytes, array_count, limited}
 use Rattle.shader_ir.specs.TypeTree.{TypeTree, Node, TypeTrees, NoTree, OneTree, root_of, tree_of}
 use Rattle.shader_ir.specs.declared.proc.layouter.LayoutErrorInner.{LayoutErrorInner}
-use Rattle.shader_ir.specs.declared.proc.layouter.LayoutErrorInner.TheVariants.{InvalidArrayElementType, InvalidStructMemberType, NonPowerOfTwoWidth, TooLarge}
+use Rattle.shader_ir.specs.declared.proc.layouter.LayoutErrorInner.TheVariants.{InvalidArrayElementType, InvalidStructMemberType}
+use Rattle.shader_ir.specs.declared.proc.layouter.LayoutErrorInner.TheVariants.{NonPowerOfTwoWidth, TooLarge}
 use Rattle.shader_ir.specs.declared.proc.layouter.TypeLayout.{TypeLayout}
 use Rattle.shader_ir.specs.declared.proc.layouter.UpdateError.{UpdateError}
 use Rattle.shader_ir.specs.declared.proc.layouter.UpdateError.TheVariants.{Layout, OutOfMemory}
@@ -15,7 +17,9 @@ use Rattle.shader_ir.specs.declared.scalar.Scalar as s
 use Rattle.shader_ir.specs.declared.types.«Type».{«Type»}
 use Rattle.shader_ir.specs.declared.types.StructMember.{StructMember}
 use Rattle.shader_ir.specs.declared.types.TypeInner.{TypeInner}
-use Rattle.shader_ir.specs.declared.types.TypeInner.TheVariants.{Scalar, Vector, Matrix, CooperativeMatrix, Atomic, Pointer, ValuePointer, Array, Struct, Image, Sampler, AccelerationStructure, RayQuery, BindingArray}
+use Rattle.shader_ir.specs.declared.types.TypeInner.TheVariants.{Scalar, Vector, Matrix, CooperativeMatrix, Atomic}
+use Rattle.shader_ir.specs.declared.types.TypeInner.TheVariants.{Pointer, ValuePointer, Array, Struct, Image, Sampler}
+use Rattle.shader_ir.specs.declared.types.TypeInner.TheVariants.{AccelerationStructure, RayQuery, BindingArray}
 
 -- the alignment of a type that is built of no other
 abbrev pub own_alignment : TypeInner → ℕ
@@ -30,7 +34,7 @@ abbrev mutual
   -- the alignment of a type: an array's is that of its base, a struct's the greatest of its members, at least 1
   pub alignment_of : TypeTree → ℕ
   alignment_of (Node (Array base size stride) (OneTree tree trees)) = alignment_of tree
-  alignment_of (Node (Struct members span) trees) = greatest_of trees
+  alignment_of (Node (Struct span members) trees) = greatest_of trees
   alignment_of (Node inner trees) = own_alignment inner
 
   pub greatest_of : TypeTrees → ℕ
@@ -45,7 +49,8 @@ width_fault scalar = if is_power_of_two scalar.width then None else Some NonPowe
 abbrev pub member_fault : ℕ → ℕ → List StructMember → Option LayoutErrorInner
 member_fault place index [] = None
 member_fault place index (member ∷ members) =
-    if nat_lt member.ty place then member_fault place (index + 1) members else Some (InvalidStructMemberType (min index (2 ^ 32 - 1)) member.ty)
+    if nat_lt member.ty place then member_fault place (index + 1) members else Some
+    (InvalidStructMemberType (min index (2 ^ 32 - 1)) member.ty)
 
 -- a width that the alignment reads and that is no power of two, or a part whose type isn't earlier
 abbrev pub part_fault : ℕ → TypeInner → Option LayoutErrorInner
@@ -55,7 +60,7 @@ part_fault place (Vector size scalar) = width_fault scalar
 part_fault place (Matrix columns rows scalar) = width_fault scalar
 part_fault place (CooperativeMatrix columns rows scalar role) = width_fault scalar
 part_fault place (Array base size stride) = if nat_lt base place then None else Some (InvalidArrayElementType base)
-part_fault place (Struct members span) = member_fault place 0 members
+part_fault place (Struct span members) = member_fault place 0 members
 part_fault place _ = None
 
 abbrev pub sized_fault : Option ℕ → ℕ → TypeInner → Option LayoutErrorInner
@@ -77,7 +82,7 @@ module _ (ctx : GlobalCtx) where
   size_of_type (Pointer base space) = Some 4
   size_of_type (ValuePointer size scalar space) = Some 4
   size_of_type (Array base size stride) = array_bytes (array_count ctx size) stride
-  size_of_type (Struct members span) = limited span
+  size_of_type (Struct span members) = limited span
   size_of_type (Image dim arrayed class) = Some 0
   size_of_type (Sampler comparison) = Some 0
   size_of_type (AccelerationStructure vertex_return) = Some 0

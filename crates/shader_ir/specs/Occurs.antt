@@ -43,4 +43,5 @@ occurrences function =
 pub data Root (expressions : List Expression) : ℕ → ℕ → Type 0 where
   global : {e g : ℕ} → slice_get expressions e ≡ Some (GlobalVariable g) → Root expressions e g
   access : {e base index g : ℕ} → slice_get expressions e ≡ Some (Access base index) → Root expressions base g → Root expressions e g
-  access_index : {e base index g : ℕ} → slice_get expressions e ≡ Some (AccessIndex base index) → Root expressions base g → Root expressions e g
+  access_index : {e base index g : ℕ} → slice_get expressions e ≡ Some (AccessIndex base index) → Root expressions base g →
+      Root expressions e g

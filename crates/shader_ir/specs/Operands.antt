@@ -1,7 +1,9 @@
 -- The operands of expressions and statements, with their labels.
 use Rattle.std.specs.Prelude.{ℕ, List, [], ◌∷◌, Option, Some, None}
 use Rattle.shader_ir.specs.Slots.{kept, read, read_optional, reads}
-use Rattle.shader_ir.specs.Body.{Simple, Return, Store, ImageStore, Atomic, ImageAtomic, WorkGroupUniformLoad, Call, RayQuery, RayPipeline, SubgroupBallot, SubgroupGather, SubgroupCollectiveOperation, CooperativeStore, Step, Leaf, If, Switch, Loop}
+use Rattle.shader_ir.specs.Body.{Simple, Return, Store, ImageStore, Atomic, ImageAtomic, WorkGroupUniformLoad}
+use Rattle.shader_ir.specs.Body.{Call, RayQuery, RayPipeline, SubgroupBallot, SubgroupGather, SubgroupCollectiveOperation}
+use Rattle.shader_ir.specs.Body.{CooperativeStore, Step, Leaf, If, Switch, Loop}
 use Rattle.shader_ir.specs.declared.proc.operands.Label.{Label}
 use Rattle.shader_ir.specs.declared.proc.operands.Label.TheVariants.{Part, Write, ReadWrite, Query}
 use Rattle.shader_ir.specs.declared.proc.operands.Label.TheVariants as label
@@ -10,7 +12,10 @@ use Rattle.shader_ir.specs.declared.expression.SampleLevel.TheVariants.{Exact, B
 use Rattle.shader_ir.specs.declared.expression.ImageQuery.TheVariants.{Size}
 use Rattle.shader_ir.specs.declared.expression.ImageQuery as query
 use Rattle.shader_ir.specs.declared.expression.Expression.{Expression}
-use Rattle.shader_ir.specs.declared.expression.Expression.TheVariants.{Compose, Access, AccessIndex, Splat, Swizzle, Load, ImageSample, ImageLoad, ImageQuery, Unary, Binary, Select, Derivative, Relational, Math, As, ArrayLength, RayQueryVertexPositions, RayQueryGetIntersection, CooperativeLoad, CooperativeMultiplyAdd}
+use Rattle.shader_ir.specs.declared.expression.Expression.TheVariants.{Compose, Access, AccessIndex, Splat, Swizzle, Load, ImageSample}
+use Rattle.shader_ir.specs.declared.expression.Expression.TheVariants.{ImageLoad, ImageQuery, Unary, Binary, Select, Derivative, Relational}
+use Rattle.shader_ir.specs.declared.expression.Expression.TheVariants.{Math, As, ArrayLength, RayQueryVertexPositions}
+use Rattle.shader_ir.specs.declared.expression.Expression.TheVariants.{RayQueryGetIntersection, CooperativeLoad, CooperativeMultiplyAdd}
 use Rattle.shader_ir.specs.declared.statement.AtomicFunction.{AtomicFunction}
 use Rattle.shader_ir.specs.declared.statement.AtomicFunction.TheVariants.{Exchange}
 use Rattle.shader_ir.specs.declared.statement.GatherMode.{GatherMode}
@@ -59,7 +64,7 @@ expression_operands (AccessIndex base index) = kept (Some (base, Part) ∷ [])
 expression_operands (Splat size value) = kept (read value ∷ [])
 expression_operands (Swizzle size vector pattern) = kept (read vector ∷ [])
 expression_operands (Load pointer) = kept (read pointer ∷ [])
-expression_operands (ImageSample image sampler gather coordinate array_index offset level depth_ref clamp_to_edge) =
+expression_operands (ImageSample image sampler gather clamp_to_edge coordinate array_index offset level depth_ref) =
     kept (read image ∷ read sampler ∷ read coordinate ∷ read_optional array_index ∷ read_optional depth_ref ∷ read_optional offset
     ∷ read_optional (level_handle level) ∷ read_optional (gradient_y level) ∷ [])
 expression_operands (ImageLoad image coordinate array_index sample level) =
@@ -91,7 +96,8 @@ simple_operands (Return value) = kept (read_optional value ∷ [])
 simple_operands (Store pointer value) = kept (Some (pointer, Write) ∷ read value ∷ [])
 simple_operands (ImageStore image coordinate array_index value) =
     kept (Some (image, Write) ∷ read coordinate ∷ read_optional array_index ∷ read value ∷ [])
-simple_operands (Atomic pointer fun value result) = kept (Some (pointer, ReadWrite) ∷ read value ∷ read_optional (exchange_compare fun) ∷ [])
+simple_operands (Atomic pointer fun value result) = kept
+    (Some (pointer, ReadWrite) ∷ read value ∷ read_optional (exchange_compare fun) ∷ [])
 simple_operands (ImageAtomic image coordinate array_index fun value) =
     kept (Some (image, label.Atomic) ∷ read coordinate ∷ read_optional array_index ∷ read value ∷ read_optional (exchange_compare fun) ∷ [])
 simple_operands (WorkGroupUniformLoad pointer result) = kept (read pointer ∷ [])
@@ -115,7 +121,7 @@ statement_operands _ = []
 
 -- the expression takes texels of an image
 abbrev pub TakesTexels : Expression → Type 0
-TakesTexels (ImageSample image sampler gather coordinate array_index offset level depth_ref clamp_to_edge) = Unit {0}
+TakesTexels (ImageSample image sampler gather clamp_to_edge coordinate array_index offset level depth_ref) = Unit {0}
 TakesTexels (ImageLoad image coordinate array_index sample level) = Unit {0}
 TakesTexels _ = ⊥
 

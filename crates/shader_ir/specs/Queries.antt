@@ -8,7 +8,8 @@ use Rattle.shader_ir.specs.declared.types.AddressSpace.{AddressSpace}
 use Rattle.shader_ir.specs.declared.types.ArraySize.TheVariants.{Constant}
 use Rattle.shader_ir.specs.declared.types.StructMember.{StructMember}
 use Rattle.shader_ir.specs.declared.types.TypeInner.{TypeInner}
-use Rattle.shader_ir.specs.declared.types.TypeInner.TheVariants.{Scalar, Vector, Matrix, CooperativeMatrix, Atomic, Pointer, ValuePointer, Array, Struct}
+use Rattle.shader_ir.specs.declared.types.TypeInner.TheVariants.{Scalar, Vector, Matrix, CooperativeMatrix, Atomic}
+use Rattle.shader_ir.specs.declared.types.TypeInner.TheVariants.{Pointer, ValuePointer, Array, Struct}
 use Rattle.shader_ir.specs.declared.proc.type_resolution.TypeResolution.{TypeResolution}
 use Rattle.shader_ir.specs.declared.proc.type_resolution.TypeResolution.TheVariants.{Handle, Value}
 use Rattle.shader_ir.specs.Alignments.{vector_count}
@@ -68,12 +69,12 @@ abbrev pub component_count : TypeInner → Option ℕ
 component_count (Vector size scalar) = Some (vector_count size)
 component_count (Matrix columns rows scalar) = Some (vector_count columns)
 component_count (Array base (Constant count) stride) = Some count
-component_count (Struct members span) = Some (min (length members) (2 ^ 32 - 1))
+component_count (Struct span members) = Some (min (length members) (2 ^ 32 - 1))
 component_count _ = None
 
 -- a struct has a member at the index
 abbrev pub HasMember : TypeInner → ℕ → Type 0
-HasMember (Struct members span) index = index < length members
+HasMember (Struct span members) index = index < length members
 HasMember _ index = Unit {0}
 
 abbrev pub member_type : Option StructMember → Option TypeResolution
@@ -85,5 +86,5 @@ abbrev pub component_type : TypeInner → ℕ → Option TypeResolution
 component_type (Vector size scalar) index = Some (Value (Scalar scalar))
 component_type (Matrix columns rows scalar) index = Some (Value (Vector rows scalar))
 component_type (Array base (Constant count) stride) index = Some (Handle base)
-component_type (Struct members span) index = member_type (slice_get members index)
+component_type (Struct span members) index = member_type (slice_get members index)
 component_type _ index = None

@@ -23,7 +23,9 @@ use Rattle.shader_ir.specs.contracts.«module».PredeclaredTypePartialEq.TheImpl
 use Rattle.shader_ir.specs.declared.types.StructMember.{StructMember}
 use Rattle.shader_ir.specs.declared.types.«Type».{«Type»}
 use Rattle.shader_ir.specs.declared.types.TypeInner.{TypeInner}
-use Rattle.shader_ir.specs.declared.types.TypeInner.TheVariants.{Scalar, Vector, Matrix, CooperativeMatrix, Atomic, Pointer, ValuePointer, Array, Struct, Image, Sampler, AccelerationStructure, RayQuery, BindingArray}
+use Rattle.shader_ir.specs.declared.types.TypeInner.TheVariants.{Scalar, Vector, Matrix, CooperativeMatrix, Atomic}
+use Rattle.shader_ir.specs.declared.types.TypeInner.TheVariants.{Pointer, ValuePointer, Array, Struct, Image, Sampler}
+use Rattle.shader_ir.specs.declared.types.TypeInner.TheVariants.{AccelerationStructure, RayQuery, BindingArray}
 use Rattle.shader_ir.specs.declared.«module».PredeclaredType.{PredeclaredType}
 use Rattle.shader_ir.specs.declared.«module».PredeclaredType.TheVariants.{FrexpResult, ModfResult}
 
@@ -102,8 +104,8 @@ same_inner (ValuePointer n s space) (ValuePointer n' s' space') h =
     let sizes = same_options size.ghosts.eq size_decides n n' p.0 in
     let scalars = (scalar_decides s s').0 q.0 in
     let spaces = (space_decides space space').0 q.1 in cc
-same_inner (Struct s m) (Struct t n) h =
-    let p = and_parts _ _ h in let members = same_members s t p.0 in search rules
+same_inner (Struct m s) (Struct n t) h =
+    let p = and_parts _ _ h in let members = same_members s t p.1 in search rules
 same_inner (Image d a c) (Image d' a' c') h =
     let p = and_parts (dimension.ghosts.eq d d') _ h in
     let q = and_parts _ (class.ghosts.eq c c') p.1 in

@@ -1,6 +1,7 @@
 -- Groups of the forms of types.
 use Rattle.shader_ir.specs.declared.types.TypeInner.{TypeInner}
-use Rattle.shader_ir.specs.declared.types.TypeInner.TheVariants.{Scalar, Vector, Matrix, CooperativeMatrix, Atomic, Pointer, ValuePointer, Struct}
+use Rattle.shader_ir.specs.declared.types.TypeInner.TheVariants.{Scalar, Vector, Matrix, CooperativeMatrix}
+use Rattle.shader_ir.specs.declared.types.TypeInner.TheVariants.{Atomic, Pointer, ValuePointer, Struct}
 
 -- the type is made of scalars
 abbrev pub IsOfScalars : TypeInner → Type 0
@@ -21,10 +22,10 @@ IsResource (CooperativeMatrix columns rows scalar role) = ⊥
 IsResource (Atomic scalar) = ⊥
 IsResource (ValuePointer size scalar space) = ⊥
 IsResource (Pointer base space) = ⊥
-IsResource (Struct members span) = ⊥
+IsResource (Struct span members) = ⊥
 IsResource _ = Unit {0}
 
 -- the type holds no list of members
 abbrev pub HoldsNoMembers : TypeInner → Type 0
-HoldsNoMembers (Struct members span) = ⊥
+HoldsNoMembers (Struct span members) = ⊥
 HoldsNoMembers _ = Unit {0}

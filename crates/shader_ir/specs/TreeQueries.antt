@@ -2,7 +2,8 @@
 use Rattle.std.specs.Prelude.{Bool, true, false, ◌&&◌}
 use Rattle.shader_ir.specs.declared.types.ArraySize.TheVariants.{Constant, Dynamic}
 use Rattle.shader_ir.specs.declared.types.TypeInner.{TypeInner}
-use Rattle.shader_ir.specs.declared.types.TypeInner.TheVariants.{Scalar, Vector, Matrix, CooperativeMatrix, Atomic, Array, Struct, RayQuery, BindingArray}
+use Rattle.shader_ir.specs.declared.types.TypeInner.TheVariants.{Scalar, Vector, Matrix, CooperativeMatrix, Atomic}
+use Rattle.shader_ir.specs.declared.types.TypeInner.TheVariants.{Array, Struct, RayQuery, BindingArray}
 use Rattle.shader_ir.specs.Scalars.{is_abstract_scalar}
 use Rattle.shader_ir.specs.TypeTree.{TypeTree, TypeTrees, Node, NoTree, OneTree, root_of}
 
@@ -25,7 +26,7 @@ abbrev mutual
   pub is_dynamically_sized : TypeTree → Bool
   is_dynamically_sized (Node (Array base (Constant count) stride) _) = false
   is_dynamically_sized (Node (Array base size stride) _) = true
-  is_dynamically_sized (Node (Struct members span) trees) = is_last_dynamically_sized false trees
+  is_dynamically_sized (Node (Struct span members) trees) = is_last_dynamically_sized false trees
   is_dynamically_sized (Node _ _) = false
 
   -- of the last tree, or the answer given where there is none
@@ -47,7 +48,7 @@ ends_in_runtime_array answer (OneTree tree trees) = ends_in_runtime_array (is_ru
 abbrev mutual
   pub needs_host_buffer_byte_size : TypeTree → Bool
   needs_host_buffer_byte_size (Node (Array base size stride) _) = is_runtime_array (Array base size stride)
-  needs_host_buffer_byte_size (Node (Struct members span) trees) = ends_in_runtime_array false trees
+  needs_host_buffer_byte_size (Node (Struct span members) trees) = ends_in_runtime_array false trees
   needs_host_buffer_byte_size (Node (BindingArray base size) bases) = needs_base_byte_size bases
   needs_host_buffer_byte_size (Node _ _) = false
 
@@ -64,7 +65,7 @@ abbrev mutual
   is_constructible (Node (CooperativeMatrix columns rows scalar role) _) = true
   is_constructible (Node (RayQuery vertex_return) _) = true
   is_constructible (Node (Array base (Constant count) stride) bases) = are_constructible bases
-  is_constructible (Node (Struct members span) trees) = are_constructible trees
+  is_constructible (Node (Struct span members) trees) = are_constructible trees
   is_constructible (Node _ _) = false
 
   pub are_constructible : TypeTrees → Bool

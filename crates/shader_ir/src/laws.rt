@@ -2,15 +2,28 @@
 ghost use Rattle.std.specs.Prelude.{◌≡◌, [], ◌∷◌};
 ghost use Rattle.shader_ir.specs.Conversion.{ConversionsListed};
 ghost use Rattle.shader_ir.specs.LayoutLaws.{RefusalsRepeat, UpdatesCompose};
-ghost use Rattle.shader_ir.specs.Scalars.{named_scalars};
-ghost use Rattle.shader_ir.specs.declared.scalar.TheConstants.Scalar.{ABSTRACT_FLOAT, ABSTRACT_INT, BOOL, F16, F32, F64, I16, I32, I64, U16, U32, U64};
+ghost use Rattle.shader_ir.specs.Scalars.{abstract_float, abstract_int, named_scalars, scalar};
+ghost use Rattle.shader_ir.specs.declared.scalar.TheConstants.Scalar.{ABSTRACT_FLOAT, ABSTRACT_INT, BOOL, F16};
+ghost use Rattle.shader_ir.specs.declared.scalar.TheConstants.Scalar.{F32, F64, I16, I32, I64, U16, U32, U64};
 
-use crate::Alignment;
+use crate::{Alignment, ScalarKind};
 
 /// The constants of `Scalar` are the twelve named scalars (naga's `Scalar`; the widths of the abstract ones are this project's).
 #[tactic(auto, unfolding(crate::specs::Scalars::named_scalars))]
 pub fn scalars_are_named()
-    ensures { ABSTRACT_INT ∷ ABSTRACT_FLOAT ∷ I32 ∷ I16 ∷ I64 ∷ U32 ∷ U16 ∷ U64
+    ensures abstract_int { ABSTRACT_INT ≡ abstract_int }
+    ensures abstract_float { ABSTRACT_FLOAT ≡ abstract_float }
+    ensures i32 { I32 ≡ scalar ScalarKind.Sint 4 }
+    ensures i16 { I16 ≡ scalar ScalarKind.Sint 2 }
+    ensures i64 { I64 ≡ scalar ScalarKind.Sint 8 }
+    ensures u32 { U32 ≡ scalar ScalarKind.Uint 4 }
+    ensures u16 { U16 ≡ scalar ScalarKind.Uint 2 }
+    ensures u64 { U64 ≡ scalar ScalarKind.Uint 8 }
+    ensures f32 { F32 ≡ scalar ScalarKind.Float 4 }
+    ensures f16 { F16 ≡ scalar ScalarKind.Float 2 }
+    ensures f64 { F64 ≡ scalar ScalarKind.Float 8 }
+    ensures bool { BOOL ≡ scalar ScalarKind.Bool 1 }
+    ensures all { ABSTRACT_INT ∷ ABSTRACT_FLOAT ∷ I32 ∷ I16 ∷ I64 ∷ U32 ∷ U16 ∷ U64
         ∷ F32 ∷ F16 ∷ F64 ∷ BOOL ∷ [] ≡ named_scalars }
 {}
 

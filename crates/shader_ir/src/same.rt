@@ -1,7 +1,8 @@
 //! Types whose `==` compares all that contracts see of them.
 ghost use Rattle.std.specs.Prelude.{◌≡◌, ◌↔◌, IsTrue};
 ghost use Rattle.shader_ir.specs.Same.{DecidesSame};
-ghost use Rattle.shader_ir.specs.SameLaws.{array_size_decides, inner_decides, member_decides, predeclared_decides, scalar_decides, size_decides, type_decides};
+ghost use Rattle.shader_ir.specs.SameLaws.{array_size_decides, inner_decides, member_decides, predeclared_decides};
+ghost use Rattle.shader_ir.specs.SameLaws.{scalar_decides, size_decides, type_decides};
 
 use crate::{ArraySize, PredeclaredType, Scalar, StructMember, Type, TypeInner, VectorSize};
 

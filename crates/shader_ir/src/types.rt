@@ -100,9 +100,9 @@ pub enum TypeInner {
     },
     /// Members at their offsets.
     Struct {
-        members: Items<StructMember>,
         /// In bytes.
         span: u32,
+        members: Items<StructMember>,
     },
     /// An image (WGSL texture).
     Image {

@@ -40,7 +40,7 @@ pub fn member(ty: Handle<mark::Type>, offset: u32) -> StructMember
 }
 
 pub fn structure(members: Vec<StructMember>, span: u32) -> TypeInner
-    ensures { result ≡ TypeInner.Struct members.items span }
+    ensures { result ≡ TypeInner.Struct span members.items }
 {
     TypeInner::Struct {
         members: Items::from(members),

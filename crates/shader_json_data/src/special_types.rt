@@ -1,4 +1,4 @@
-//! Types that builtin functions and ray queries answer.
+//! Types of what builtin functions and ray queries return.
 
 use crate::fields::{Fields, Variant};
 use crate::values::Read;

@@ -13,7 +13,7 @@ pub trait Read: Sized {
     ///
     /// # Errors
     ///
-    /// Want of memory, and a value that isn't what naga prints. Fields that aren't asked for may hold anything.
+    /// If allocation fails, or the value isn't what naga prints. Fields that aren't asked for may hold anything.
     fn read(context: &mut Context, value: &Value<'_>) -> Result<Self, Failure>;
 }
 

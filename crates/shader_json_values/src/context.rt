@@ -36,7 +36,7 @@ impl Context {
     ///
     /// # Errors
     ///
-    /// Want of memory.
+    /// If allocation fails.
     pub fn number_of(&mut self, builtin: &Value<'_>) -> Result<u32, Failure> {
         let text = format!(in self.alloc; "{builtin:?}")?;
         let (place, _) = self.builtins.insert_full(Name::from(text))?;

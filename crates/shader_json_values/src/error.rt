@@ -24,7 +24,7 @@ pub enum Wanted {
 /// Why no module was read.
 #[derive(Debug, Drop, Error)]
 pub enum ReadError {
-    /// Want of memory.
+    /// Allocation failed.
     #[error("out of memory")]
     OutOfMemory,
     /// The text has more than `MOST_BYTES` bytes.

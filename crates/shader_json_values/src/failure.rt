@@ -12,7 +12,7 @@ use std::fmt::Write;
 /// Why a value wasn't read.
 #[derive(Drop)]
 pub enum Failure {
-    /// Want of memory.
+    /// Allocation failed.
     OutOfMemory,
     /// A value was refused.
     Refused(Refusal),

@@ -1,7 +1,9 @@
 -- Numbers that are looked for through handles out of range.
 use Rattle.std.proofs.Common.{◌≡◌, ◌∙◌, ℕ, ◌<◌, List, length, slice_get, Option, Some, None, Err, ap, refl, subst, sym}
 use Rattle.std.proofs.lemmas.Option.{slice_get_within}
-use Rattle.shader_ir.specs.KnownNumbers.{constant_index, index_in, index_size, initial_index, known_index, literal_in, optional_index, override_index, override_size, sizer, sizing, IsConstantInRange, IsInitInRange, IsKnownInRange, IsOverrideInRange, IsSizeInRange, IsSizerInRange, IsSizingInRange, IsStepInRange}
+use Rattle.shader_ir.specs.KnownNumbers.{constant_index, index_in, index_size, initial_index, known_index, literal_in, optional_index}
+use Rattle.shader_ir.specs.KnownNumbers.{override_index, override_size, sizer, sizing, IsConstantInRange, IsInitInRange, IsKnownInRange}
+use Rattle.shader_ir.specs.KnownNumbers.{IsOverrideInRange, IsSizeInRange, IsSizerInRange, IsSizingInRange, IsStepInRange}
 use Rattle.shader_ir.specs.declared.expression.Expression.{Expression}
 use Rattle.shader_ir.specs.declared.expression.Expression.TheVariants.{Constant, Override}
 use Rattle.shader_ir.specs.declared.«module».Constant as c
@@ -31,7 +33,10 @@ module _ (ctx : GlobalCtx) where
       by : (found : Option c.Constant) → slice_get ctx.constants.now handle ≡ found → constant_index ctx found ≡ NotInteger
       by None e = refl
       by (Some constant) e =
-          init_absent constant.init (λ within. out (slice_get_within ctx.constants.now handle constant e, subst (λ found. IsConstantInRange ctx found) (sym e) within))
+          init_absent constant.init (λ within. out (
+            slice_get_within ctx.constants.now handle constant e,
+            subst (λ found. IsConstantInRange ctx found) (sym e) within,
+          ))
 
   optional_absent : (init : Option ℕ) → ¬ IsInitInRange ctx init → optional_index ctx init ≡ NotInteger
   optional_absent None out = refl
@@ -44,7 +49,10 @@ module _ (ctx : GlobalCtx) where
       by : (found : Option o.Override) → slice_get ctx.overrides.now handle ≡ found → override_index ctx found ≡ NotInteger
       by None e = refl
       by (Some override) e =
-          optional_absent override.init (λ within. out (slice_get_within ctx.overrides.now handle override e, subst (λ found. IsOverrideInRange ctx found) (sym e) within))
+          optional_absent override.init (λ within. out (
+            slice_get_within ctx.overrides.now handle override e,
+            subst (λ found. IsOverrideInRange ctx found) (sym e) within,
+          ))
 
   step_absent : (expression : Expression) → ¬ IsStepInRange ctx (Some expression) → index_in ctx (Some expression) ≡ NotInteger
   step_absent (Constant handle) out = constant_absent handle out
@@ -56,7 +64,10 @@ module _ (ctx : GlobalCtx) where
     where
       by : (found : Option Expression) → slice_get globals expression ≡ found → index_in ctx found ≡ NotInteger
       by None e = refl
-      by (Some it) e = step_absent it (λ within. out (slice_get_within globals expression it e, subst (λ found. IsStepInRange ctx found) (sym e) within))
+      by (Some it) e = step_absent it (λ within. out (
+        slice_get_within globals expression it e,
+        subst (λ found. IsStepInRange ctx found) (sym e) within,
+      ))
 
   sizing_absent : (init : Option ℕ) → ¬ IsSizingInRange ctx init → sizing ctx init ≡ Err NonConstArrayLength
   sizing_absent None out = refl
@@ -69,7 +80,10 @@ module _ (ctx : GlobalCtx) where
       by : (found : Option o.Override) → slice_get ctx.overrides.now handle ≡ found → sizer ctx found ≡ Err NonConstArrayLength
       by None e = refl
       by (Some override) e =
-          sizing_absent override.init (λ within. out (slice_get_within ctx.overrides.now handle override e, subst (λ found. IsSizerInRange ctx found) (sym e) within))
+          sizing_absent override.init (λ within. out (
+            slice_get_within ctx.overrides.now handle override e,
+            subst (λ found. IsSizerInRange ctx found) (sym e) within,
+          ))
 
 -- a context of these lists
 abbrev over : List «Type» → List c.Constant → List o.Override → List Expression → GlobalCtx
@@ -82,7 +96,8 @@ over types constants overrides expressions =
     }
 
 -- a size rests on the lists of the context alone
-pub same_size : (ctx : GlobalCtx) (checked : Module) (handle : ℕ) → ctx.constants.now ≡ checked.constants → ctx.overrides.now ≡ checked.overrides
+pub same_size : (ctx : GlobalCtx) (checked : Module) (handle : ℕ) → ctx.constants.now ≡ checked.constants →
+    ctx.overrides.now ≡ checked.overrides
     → ctx.global_expressions.now ≡ checked.global_expressions → override_size ctx handle ≡ override_size (globals_of checked) handle
 same_size ctx checked handle constants overrides expressions =
     ap (λ items. override_size (over checked.types items ctx.overrides.now ctx.global_expressions.now) handle) constants

@@ -14,4 +14,5 @@ KnownSizesGiveLengths = (checked : Module) (inner : TypeInner) → AreSizesKnown
 
 -- a known index among the global expressions is the known index
 abbrev pub GlobalsAreAmong : Type 0
-GlobalsAreAmong = (checked : Module) (expression : ℕ) → known_index_among checked checked.global_expressions expression ≡ known_index (globals_of checked) expression
+GlobalsAreAmong = (checked : Module) (expression : ℕ) → known_index_among checked checked.global_expressions expression
+    ≡ known_index (globals_of checked) expression

@@ -1,14 +1,14 @@
 //! Lengths: how many items of a type an index may name.
 ghost use Rattle.std.specs.Prelude.{◌≡◌, ◌↔◌, Err, IsTrue};
-ghost use Rattle.shader_ir.specs.Alignments.{vector_count};
 ghost use Rattle.shader_ir.specs.KnownNumbers.{override_size};
-ghost use Rattle.shader_lengths.specs.Lengths.{AreSizesKnown, HasKnownSize, IsKnownSize, base_length, globals_of, indexable_length, length_of_size, own_length, pending_length, pointed_length, resolved, resolved_length, resolved_size, sized_length};
+ghost use Rattle.shader_lengths.specs.Lengths.{AreSizesKnown, HasKnownSize, IsKnownSize, base_length, globals_of};
+ghost use Rattle.shader_lengths.specs.Lengths.{indexable_length, length_of_size, own_length, pending_length, pointed_length};
+ghost use Rattle.shader_lengths.specs.Lengths.{resolved, resolved_length, resolved_size, sized_length};
 
 use crate::IndexableLengthError;
 use shader_arena::Handle;
 use shader_ir::{
-    ArraySize, GlobalCtx, Module, ResolveArraySizeError, TypeInner, TypeResolution, VectorSize,
-    mark,
+    ArraySize, GlobalCtx, Module, ResolveArraySizeError, TypeInner, TypeResolution, mark,
 };
 
 /// The number of items of a type that an index may name.
@@ -38,20 +38,13 @@ impl ToIndexableLength for ArraySize {
     }
 }
 
-/// How many components a vector of the size has.
-fn components(size: VectorSize) -> u32
-    ensures { result ≡ vector_count size }
-{
-    size as u32
-}
-
 /// The length of a type that holds its items itself.
 fn own_length(inner: &TypeInner, module: &Module) -> Result<IndexableLength, IndexableLengthError>
     ensures { result ≡ own_length inner.now }
 {
     match inner {
-        TypeInner::Vector { size, .. } => Ok(IndexableLength::Known(components(*size))),
-        TypeInner::Matrix { columns, .. } => Ok(IndexableLength::Known(components(*columns))),
+        TypeInner::Vector { size, .. } => Ok(IndexableLength::Known(size.components())),
+        TypeInner::Matrix { columns, .. } => Ok(IndexableLength::Known(columns.components())),
         TypeInner::Array { size, .. } => size.to_indexable_length(module),
         TypeInner::BindingArray { size, .. } => size.to_indexable_length(module),
         _ => Err(IndexableLengthError::TypeNotIndexable),
@@ -161,7 +154,7 @@ impl IndexableLengths for TypeInner {
         match self {
             TypeInner::Pointer { base, .. } => pointed_length(*base, module),
             TypeInner::ValuePointer { size, .. } => match size {
-                Some(size) => Ok(IndexableLength::Known(components(*size))),
+                Some(size) => Ok(IndexableLength::Known(size.components())),
                 None => Err(IndexableLengthError::TypeNotIndexable),
             },
             _ => own_length(self, module),

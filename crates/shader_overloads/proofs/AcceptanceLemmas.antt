@@ -19,12 +19,15 @@ use Rattle.shader_overloads.specs.SameType.{same_type}
 -- ---- canonical forms
 
 module _ (all : List «Type») where
-  pointer_to-canonical : (base : ℕ) (space : AddressSpace) (inner : TypeInner) → pointer_at base space (slice_get all base) ≡ pointer_to base space inner → canonical all (pointer_to base space inner) ≡ pointer_to base space inner
+  pointer_to-canonical : (base : ℕ) (space : AddressSpace) (inner : TypeInner) →
+      pointer_at base space (slice_get all base) ≡ pointer_to base space inner →
+      canonical all (pointer_to base space inner) ≡ pointer_to base space inner
   pointer_to-canonical base space (types.Scalar scalar) e = refl
   pointer_to-canonical base space (types.Vector size scalar) e = refl
   pointer_to-canonical base space inner e = e
 
-  pointer_at-canonical : (base : ℕ) (space : AddressSpace) (found : Option «Type») → slice_get all base ≡ found → canonical all (pointer_at base space found) ≡ pointer_at base space found
+  pointer_at-canonical : (base : ℕ) (space : AddressSpace) (found : Option «Type») → slice_get all base ≡ found →
+      canonical all (pointer_at base space found) ≡ pointer_at base space found
   pointer_at-canonical base space (Some type) e = pointer_to-canonical base space type.inner (ap (pointer_at base space) e)
   pointer_at-canonical base space None e = ap (pointer_at base space) e
 
@@ -34,12 +37,14 @@ module _ (all : List «Type») where
 
   -- ---- regular sets
 
-  takes-pointer_to : (base : ℕ) (space : AddressSpace) (inner argument : TypeInner) → takes (pointer_to base space inner) argument ≡ takes (types.Pointer base space) argument
+  takes-pointer_to : (base : ℕ) (space : AddressSpace) (inner argument : TypeInner) →
+      takes (pointer_to base space inner) argument ≡ takes (types.Pointer base space) argument
   takes-pointer_to base space (types.Scalar scalar) argument = refl
   takes-pointer_to base space (types.Vector size scalar) argument = refl
   takes-pointer_to base space inner argument = refl
 
-  takes-pointer_at : (base : ℕ) (space : AddressSpace) (found : Option «Type») (argument : TypeInner) → takes (pointer_at base space found) argument ≡ takes (types.Pointer base space) argument
+  takes-pointer_at : (base : ℕ) (space : AddressSpace) (found : Option «Type») (argument : TypeInner) →
+      takes (pointer_at base space found) argument ≡ takes (types.Pointer base space) argument
   takes-pointer_at base space (Some type) argument = takes-pointer_to base space type.inner argument
   takes-pointer_at base space None argument = refl
 
@@ -53,25 +58,31 @@ module _ (all : List «Type») where
 
   -- ---- lists
 
-  conversion-pointer_to : (base : ℕ) (space : AddressSpace) (inner : TypeInner) (goal : TypeTree) → conversion (tree_of all (pointer_to base space inner)) goal ≡ conversion (tree_of all (types.Pointer base space)) goal
+  conversion-pointer_to : (base : ℕ) (space : AddressSpace) (inner : TypeInner) (goal : TypeTree) →
+      conversion (tree_of all (pointer_to base space inner)) goal ≡ conversion (tree_of all (types.Pointer base space)) goal
   conversion-pointer_to base space (types.Scalar scalar) goal = refl
   conversion-pointer_to base space (types.Vector size scalar) goal = refl
   conversion-pointer_to base space inner goal = refl
 
-  conversion-pointer_at : (base : ℕ) (space : AddressSpace) (found : Option «Type») (goal : TypeTree) → conversion (tree_of all (pointer_at base space found)) goal ≡ conversion (tree_of all (types.Pointer base space)) goal
+  conversion-pointer_at : (base : ℕ) (space : AddressSpace) (found : Option «Type») (goal : TypeTree) →
+      conversion (tree_of all (pointer_at base space found)) goal ≡ conversion (tree_of all (types.Pointer base space)) goal
   conversion-pointer_at base space (Some type) goal = conversion-pointer_to base space type.inner goal
   conversion-pointer_at base space None goal = refl
 
-  conversion-canonical : (ty : TypeInner) (goal : TypeTree) → conversion (tree_of all (canonical all ty)) goal ≡ conversion (tree_of all ty) goal
+  conversion-canonical : (ty : TypeInner) (goal : TypeTree) →
+      conversion (tree_of all (canonical all ty)) goal ≡ conversion (tree_of all ty) goal
   conversion-canonical (types.Pointer base space) goal = conversion-pointer_at base space (slice_get all base) goal
   conversion-canonical ty goal = refl
 
   list_takes-canonical : (ty argument : TypeInner) → list_takes all (canonical all ty) argument ≡ list_takes all ty argument
   list_takes-canonical ty argument =
-      ap (λ form. same_type form (canonical all argument) || is_some (conversion (tree_of all (canonical all ty)) (tree_of all argument))) (canonical-settled ty)
-      ∙ ap (λ found. same_type (canonical all ty) (canonical all argument) || is_some found) (conversion-canonical ty (tree_of all argument))
+      ap (λ form. same_type form (canonical all argument) || is_some (conversion (tree_of all (canonical all ty)) (tree_of all argument)))
+      (canonical-settled ty)
+      ∙ ap (λ found. same_type (canonical all ty) (canonical all argument) || is_some found)
+      (conversion-canonical ty (tree_of all argument))
 
-  some_list_takes-canonical : (ty : TypeInner) (argument : Option TypeInner) → some_list_takes all (canonical all ty) argument ≡ some_list_takes all ty argument
+  some_list_takes-canonical : (ty : TypeInner) (argument : Option TypeInner) →
+      some_list_takes all (canonical all ty) argument ≡ some_list_takes all ty argument
   some_list_takes-canonical ty None = refl
   some_list_takes-canonical ty (Some argument) = list_takes-canonical ty argument
 
@@ -84,20 +95,22 @@ list_accepts-canonical all i ty rule = some_list_takes-canonical all ty (argumen
 -- ---- keys
 
 is_struct-or_not : (ty : TypeInner) → IsNoStruct ty ⊎ (IsNoStruct ty → ⊥)
-is_struct-or_not (types.Struct members span) = inr (λ none. none)
+is_struct-or_not (types.Struct span members) = inr (λ none. none)
 is_struct-or_not ty = inl tt
 
 module _ (all : List «Type») where
   -- a key is that of the canonical form, or that of a handle
   key_cases : (resolution : TypeResolution) (ty : TypeInner) → inner_of all resolution ≡ Some ty
-      → (key_of all resolution ≡ InnerKey (canonical all ty)) ⊎ ((handle : ℕ) × (resolution ≡ Handle handle) × (key_of all resolution ≡ StructKey handle))
+      → (key_of all resolution ≡ InnerKey (canonical all ty)) ⊎ ((handle : ℕ) × (resolution ≡ Handle handle) ×
+      (key_of all resolution ≡ StructKey handle))
   key_cases (Value inner) ty e = let same : inner ≡ ty = cc in inl (ap (λ a. InnerKey (canonical all a)) same)
   key_cases (Handle handle) ty e = elim (is_struct-or_not ty) [
     | inl other ↦ inl (key_of-no_struct all (Handle handle) ty e other)
     | inr struct ↦ inr (handle, refl, key_of-struct all handle ty e struct)
   ]
 
-  canonical_from_keys : (left right : TypeResolution) (ty other : TypeInner) → inner_of all left ≡ Some ty → inner_of all right ≡ Some other → key_of all left ≡ key_of all right → canonical all ty ≡ canonical all other
+  canonical_from_keys : (left right : TypeResolution) (ty other : TypeInner) → inner_of all left ≡ Some ty →
+      inner_of all right ≡ Some other → key_of all left ≡ key_of all right → canonical all ty ≡ canonical all other
   canonical_from_keys left right ty other d e same = elim (key_cases left ty d) [
     | inl first ↦ elim (key_cases right other e) [
       | inl second ↦ let both : InnerKey (canonical all ty) ≡ InnerKey (canonical all other) = sym first ∙ same ∙ second in cc
@@ -112,7 +125,8 @@ module _ (all : List «Type») where
 
 by_key : (accepting : List «Type» → ℕ → TypeInner → Rule → Bool) → AcceptsCanonicalForms accepting → AcceptsByKey accepting
 by_key accepting law all i left right ty other rule d e same =
-    sym (law all i ty rule) ∙ ap (λ form. accepting all i form rule) (canonical_from_keys all left right ty other d e same) ∙ law all i other rule
+    sym (law all i ty rule) ∙ ap (λ form. accepting all i form rule) (canonical_from_keys all left right ty other d e same)
+    ∙ law all i other rule
 
 pub accepts-by_key : AcceptsByKey accepts
 accepts-by_key = by_key accepts accepts-canonical

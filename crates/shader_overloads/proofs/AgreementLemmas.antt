@@ -1,5 +1,6 @@
 -- Regular sets and lists accept alike on the rules of the builtins.
-use Rattle.std.proofs.Common.{◌≡◌, ◌∙◌, ap, sym, refl, ℕ, zero, suc, Bool, true, false, not, cond, ◌&&◌, ◌||◌, List, [], ◌∷◌, Option, Some, None, slice_get}
+use Rattle.std.proofs.Common.{◌≡◌, ◌∙◌, ap, sym, refl, ℕ, zero, suc, Bool, true, false, not}
+use Rattle.std.proofs.Common.{cond, ◌&&◌, ◌||◌, List, [], ◌∷◌, Option, Some, None, slice_get}
 use Rattle.std.specs.Option.{option_and_then}
 use Rattle.std.specs.List.{list_all, list_any}
 use Rattle.std.specs.Option.{is_some}
@@ -40,12 +41,14 @@ same_scalar_told a b h =
     let parts = and_parts (same_kind a.kind b.kind) _ h in
     ap (λ k. scalar k a.width) (same_kind_told a.kind b.kind parts.0) ∙ ap (λ w. scalar b.kind w) (eqb-true a.width b.width parts.1)
 
-has_all_step : (p : s.Scalar → Bool) (a b : s.Scalar) (all : List s.Scalar) (found : Bool) → same_scalar a b ≡ found → (found || list_any (same_scalar a) all) ≡ true → p b ≡ true → (list_any (same_scalar a) all ≡ true → p a ≡ true) → p a ≡ true
+has_all_step : (p : s.Scalar → Bool) (a b : s.Scalar) (all : List s.Scalar) (found : Bool) → same_scalar a b ≡ found →
+    (found || list_any (same_scalar a) all) ≡ true → p b ≡ true → (list_any (same_scalar a) all ≡ true → p a ≡ true) → p a ≡ true
 has_all_step p a b all true e h here later = ap p (same_scalar_told a b e) ∙ here
 has_all_step p a b all false e h here later = later h
 
 -- what holds of all scalars of a list holds of each that it has
-pub has_all : (p : s.Scalar → Bool) (a : s.Scalar) (all : List s.Scalar) → list_any (same_scalar a) all ≡ true → list_all p all ≡ true → p a ≡ true
+pub has_all : (p : s.Scalar → Bool) (a : s.Scalar) (all : List s.Scalar) → list_any (same_scalar a) all ≡ true →
+    list_all p all ≡ true → p a ≡ true
 has_all p a [] any each = absurd (both_ways false refl any)
 has_all p a (b ∷ all) any each =
     let parts = and_parts (p b) (list_all p all) each in
@@ -60,7 +63,8 @@ decided false false h = refl
 -- of scalars with names, those convert that are listed
 converts_named : (a b : s.Scalar) → is_named a ≡ true → is_named b ≡ true → scalar_converts a b ≡ is_convertible a b
 converts_named a b m n =
-    let from = has_all (λ from. list_all (λ to. cond (scalar_converts from to) (is_convertible from to) (not (is_convertible from to))) named_scalars) a named_scalars m scalar_converts-named in
+    let from = has_all (λ from. list_all (λ to. cond (scalar_converts from to) (is_convertible from to) (not (is_convertible from to)))
+    named_scalars) a named_scalars m scalar_converts-named in
     decided _ _ (has_all (λ to. cond (scalar_converts a to) (is_convertible a to) (not (is_convertible a to))) b named_scalars n from)
 
 converts_self : (a b : s.Scalar) → a ≡ b → scalar_converts a b ≡ true
@@ -76,7 +80,8 @@ plain_takes (Matrix p q a) (Matrix c r b) = same_size p c && same_size q r && sc
 plain_takes _ _ = false
 
 -- so it is in a regular set, of scalars with names
-pub takes_plainly : (ty inner : TypeInner) → is_named_or_none (leaf_scalar ty) ≡ true → is_named_inner inner ≡ true → takes ty inner ≡ plain_takes ty inner
+pub takes_plainly : (ty inner : TypeInner) → is_named_or_none (leaf_scalar ty) ≡ true → is_named_inner inner ≡ true →
+    takes ty inner ≡ plain_takes ty inner
 takes_plainly (Scalar a) (Scalar b) m n = sym (converts_named a b m n)
 takes_plainly (Vector p a) (Vector q b) m n = ap (λ v. same_size p q && v) (sym (converts_named a b m n))
 takes_plainly (Matrix p q a) (Matrix c r b) m n = ap (λ v. same_size p c && same_size q r && v) (sym (converts_named a b m n))
@@ -95,7 +100,8 @@ some_conversion a b =
     let pair : s.Scalar × s.Scalar = (a, b) in
     is_some_cond (scalar_converts a b) pair
 
-shaped_conversion : (same : Bool) (a b : s.Scalar) → is_some (cond same (scalar_conversion (Some a) (Some b)) None) ≡ (same && scalar_converts a b)
+shaped_conversion : (same : Bool) (a b : s.Scalar) → is_some (cond same (scalar_conversion (Some a) (Some b)) None)
+    ≡ (same && scalar_converts a b)
 shaped_conversion true a b = some_conversion a b
 shaped_conversion false a b = refl
 
@@ -123,9 +129,11 @@ all_at p (y ∷ xs) (suc k) x h at = all_at p xs k x (and_parts (p y) (list_all 
 
 module _ (all : List «Type») where
   -- a pointer is no type of a builtin's argument
-  pointer_other : (base : ℕ) (space : AddressSpace) (inner : TypeInner) → is_named_inner inner ≡ true → same_type (pointer_at base space (slice_get all base)) inner ≡ true → ⊥
+  pointer_other : (base : ℕ) (space : AddressSpace) (inner : TypeInner) → is_named_inner inner ≡ true →
+      same_type (pointer_at base space (slice_get all base)) inner ≡ true → ⊥
   pointer_other base space inner n e =
-      both_ways (is_named_inner inner) (sym (ap is_named_inner (same_type-told _ inner e)) ∙ pointer_at-unnamed base space (slice_get all base)) n
+      both_ways (is_named_inner inner) (sym (ap is_named_inner (same_type-told _ inner e))
+      ∙ pointer_at-unnamed base space (slice_get all base)) n
 
   other : (ty inner : TypeInner) → is_named_inner ty ≡ false → is_named_inner inner ≡ true → same_type ty inner ≡ true → ⊥
   other ty inner unnamed n e = both_ways (is_named_inner inner) (sym (ap is_named_inner (same_type-told ty inner e)) ∙ unnamed) n
@@ -134,7 +142,8 @@ module _ (all : List «Type») where
   pub list_takes_plainly : (ty inner : TypeInner) → is_named_inner inner ≡ true → plain_takes ty inner ≡ list_takes all ty inner
   list_takes_plainly (Scalar a) (Scalar b) n =
       sym (some_conversion a b)
-      ∙ sym (absorbed (same_type (Scalar a) (Scalar b)) _ (λ e. let told = same_type-told (Scalar a) (Scalar b) e in let same : a ≡ b = cc in some_conversion a b ∙ converts_self a b same))
+      ∙ sym (absorbed (same_type (Scalar a) (Scalar b)) _ (λ e. let told = same_type-told (Scalar a) (Scalar b) e in let same : a ≡ b =
+      cc in some_conversion a b ∙ converts_self a b same))
   list_takes_plainly (Scalar a) (Vector q b) n = mixed _ (λ e. let told = same_type-told (Scalar a) (Vector q b) e in absurd (cc))
   list_takes_plainly (Scalar a) (Matrix p q b) n = mixed _ (λ e. let told = same_type-told (Scalar a) (Matrix p q b) e in absurd (cc))
   list_takes_plainly (Vector p a) (Scalar b) n = mixed _ (λ e. let told = same_type-told (Vector p a) (Scalar b) e in absurd (cc))
@@ -157,7 +166,8 @@ module _ (all : List «Type») where
       let rows : q ≡ r = cc in
       let same : a ≡ b = cc in
       shaped_conversion (same_size p c && same_size q r) a b
-      ∙ and_from _ _ (and_from _ _ (ap (same_size p) (sym columns) ∙ same_size_self p) (ap (same_size q) (sym rows) ∙ same_size_self q)) (converts_self a b same)))
+      ∙ and_from _ _ (and_from _ _ (ap (same_size p) (sym columns) ∙ same_size_self p) (ap (same_size q) (sym rows) ∙ same_size_self q))
+      (converts_self a b same)))
   list_takes_plainly (Pointer base space) (Scalar b) n = mixed _ (pointer_other base space (Scalar b) n)
   list_takes_plainly (Pointer base space) (Vector q b) n = mixed _ (pointer_other base space (Vector q b) n)
   list_takes_plainly (Pointer base space) (Matrix p q b) n = mixed _ (pointer_other base space (Matrix p q b) n)
@@ -166,18 +176,22 @@ module _ (all : List «Type») where
   list_takes_plainly ty (Matrix p q b) n = mixed _ (other ty (Matrix p q b) refl n)
   list_takes_plainly ty inner n = absurd (both_ways false refl n)
 
-  inner_agrees : (ty inner : TypeInner) → is_named_or_none (leaf_scalar ty) ≡ true → is_named_inner inner ≡ true → takes ty inner ≡ list_takes all ty inner
+  inner_agrees : (ty inner : TypeInner) → is_named_or_none (leaf_scalar ty) ≡ true → is_named_inner inner ≡ true →
+      takes ty inner ≡ list_takes all ty inner
   inner_agrees ty inner m n = takes_plainly ty inner m n ∙ list_takes_plainly ty inner n
 
-  argument_agrees : (ty : TypeInner) (argument : TypeResolution) → is_named_or_none (leaf_scalar ty) ≡ true → is_named_argument argument ≡ true → some_takes ty (inner_of all argument) ≡ some_list_takes all ty (inner_of all argument)
+  argument_agrees : (ty : TypeInner) (argument : TypeResolution) → is_named_or_none (leaf_scalar ty) ≡ true →
+      is_named_argument argument ≡ true → some_takes ty (inner_of all argument) ≡ some_list_takes all ty (inner_of all argument)
   argument_agrees ty (Handle handle) m n = absurd (both_ways false refl n)
   argument_agrees ty (Value inner) m n = inner_agrees ty inner m n
 
-  found_agrees : (ty : TypeInner) (arguments : List TypeResolution) (i : ℕ) (found : Option TypeResolution) → slice_get arguments i ≡ found → is_named_or_none (leaf_scalar ty) ≡ true → list_all is_named_argument arguments ≡ true
+  found_agrees : (ty : TypeInner) (arguments : List TypeResolution) (i : ℕ) (found : Option TypeResolution) →
+      slice_get arguments i ≡ found → is_named_or_none (leaf_scalar ty) ≡ true → list_all is_named_argument arguments ≡ true
       → some_takes ty (option_and_then (inner_of all) found) ≡ some_list_takes all ty (option_and_then (inner_of all) found)
   found_agrees ty arguments i None at m n = refl
   found_agrees ty arguments i (Some argument) at m n = argument_agrees ty argument m (all_at is_named_argument arguments i argument n at)
 
 pub acceptances_agree : AcceptancesAgree
 acceptances_agree all function place i ty rule named at =
-    found_agrees all ty rule.arguments i (slice_get rule.arguments i) refl named (all_at is_named_rule (rules_of function) place rule (rules_named function) at)
+    found_agrees all ty rule.arguments i (slice_get rule.arguments i) refl named
+    (all_at is_named_rule (rules_of function) place rule (rules_named function) at)

@@ -1,5 +1,6 @@
 -- The arguments of a place of more rules.
-use Rattle.std.proofs.Common.{◌≡◌, ◌∙◌, ◌+◌, ℕ, zero, suc, ◌<◌, ◌≤◌, List, [], ◌∷◌, ◌++◌, Option, Some, None, slice_get, take, length, get_or, ap, refl, sym, arith}
+use Rattle.std.proofs.Common.{◌≡◌, ◌∙◌, ◌+◌, ℕ, zero, suc, ◌<◌, ◌≤◌, List, [], ◌∷◌, ◌++◌, Option}
+use Rattle.std.proofs.Common.{Some, None, slice_get, take, length, get_or, ap, refl, sym, arith}
 use Rattle.std.specs.List.{cons_option, filter_map}
 use Rattle.std.specs.Option.{option_to_list}
 use Rattle.std.proofs.lemmas.List.{take_more}
@@ -11,7 +12,8 @@ one_option : {X : Type 0} (found : Option X) → cons_option found [] ≡ option
 one_option None = refl
 one_option (Some x) = refl
 
-pub filter_map_more : {X Y : Type 0} (h : X → Option Y) (xs : List X) (i : ℕ) (x : X) → i < length xs → x ≡ get_or xs i x → filter_map h (take (i + 1) xs) ≡ filter_map h (take i xs) ++ option_to_list (h x)
+pub filter_map_more : {X Y : Type 0} (h : X → Option Y) (xs : List X) (i : ℕ) (x : X) → i < length xs → x ≡ get_or xs i x →
+    filter_map h (take (i + 1) xs) ≡ filter_map h (take i xs) ++ option_to_list (h x)
 filter_map_more h xs i x within is =
     ap (filter_map h) (take_more xs i x within)
     ∙ filter_map-append h (take i xs) (get_or xs i x ∷ [])
@@ -23,7 +25,8 @@ slice_get-past (x ∷ xs) zero h = absurd (omega arith)
 slice_get-past (x ∷ xs) (suc i) h = slice_get-past xs i (omega arith)
 
 -- where no rule is so long, none has an argument of the place
-no_arguments : (i : ℕ) (rules : List Rule) → ((k : ℕ) (rule : Rule) → slice_get rules k ≡ Some rule → length rule.arguments ≤ i) → arguments_at i rules ≡ []
+no_arguments : (i : ℕ) (rules : List Rule) → ((k : ℕ) (rule : Rule) → slice_get rules k ≡ Some rule → length rule.arguments ≤ i) →
+    arguments_at i rules ≡ []
 no_arguments i [] short = refl
 no_arguments i (rule ∷ rules) short =
     ap (λ found. cons_option found (arguments_at i rules)) (slice_get-past rule.arguments i (short zero rule refl))
@@ -39,12 +42,15 @@ none_from_nil None xs e = (refl, e)
 none_from_nil (Some x) xs e = cc
 
 -- where a rule is longer, one has
-some_arguments : (i : ℕ) (rules : List Rule) (k : ℕ) (rule : Rule) → slice_get rules k ≡ Some rule → i < length rule.arguments → arguments_at i rules ≡ [] → ⊥
+some_arguments : (i : ℕ) (rules : List Rule) (k : ℕ) (rule : Rule) → slice_get rules k ≡ Some rule → i < length rule.arguments →
+    arguments_at i rules ≡ [] → ⊥
 some_arguments i [] k rule at long e = cc
 some_arguments i (first ∷ rules) zero rule at long e =
     let same : first ≡ rule = cc in
-    slice_get-within rule.arguments i long (ap (λ (r : Rule). slice_get r.arguments i) (sym same) ∙ (none_from_nil (slice_get first.arguments i) (arguments_at i rules) e).0)
-some_arguments i (first ∷ rules) (suc k) rule at long e = some_arguments i rules k rule at long (none_from_nil (slice_get first.arguments i) (arguments_at i rules) e).1
+    slice_get-within rule.arguments i long (ap (λ (r : Rule). slice_get r.arguments i) (sym same)
+    ∙ (none_from_nil (slice_get first.arguments i) (arguments_at i rules) e).0)
+some_arguments i (first ∷ rules) (suc k) rule at long e =
+    some_arguments i rules k rule at long (none_from_nil (slice_get first.arguments i) (arguments_at i rules) e).1
 
 pub none_past_greatest : (i count : ℕ) (rules : List Rule) → IsGreatestCount count rules → count ≤ i → arguments_at i rules ≡ []
 none_past_greatest i count rules greatest past = no_arguments i rules (λ k rule at. let most = greatest.bound k rule at in omega arith)

@@ -1,5 +1,6 @@
 -- The lowest set bit of a number, and the list of its set bits.
-use Rattle.std.proofs.Common.{length, ◌≡◌, ◌≢◌, ℕ, zero, suc, ◌+◌, ◌-◌, ◌*◌, ◌/◌, ◌%◌, ◌^◌, ◌<◌, ◌≤◌, Bool, true, false, cond, List, [], ◌∷◌, map, refl, sym, ◌∙◌, ap, arith, bit_and, nat_eq, get_or, inl, inr}
+use Rattle.std.proofs.Common.{length, ◌≡◌, ◌≢◌, ℕ, zero, suc, ◌+◌, ◌-◌, ◌*◌, ◌/◌, ◌%◌, ◌^◌, ◌<◌, ◌≤◌, Bool, true, false}
+use Rattle.std.proofs.Common.{cond, List, [], ◌∷◌, map, refl, sym, ◌∙◌, ap, arith, bit_and, nat_eq, get_or, inl, inr}
 use Rattle.std.proofs.Math.Nat.{pow-succ'}
 use Rattle.std.proofs.lemmas.Nat.{pow_pos}
 use Rattle.std.proofs.lemmas.List.{nil_from_length}
@@ -8,7 +9,8 @@ use mir.Syntax.{Width}
 use mir.Val.{bits}
 use Rattle.std.specs.List.{filter, range_with_len}
 use Rattle.std.proofs.lemmas.Bool.{cases_order, cases_lt}
-use Rattle.std.proofs.lemmas.Nat.Bits.{bit_at-trailing_zeros, bit_at_and, bit_at_not, bit_at-lt, bit_at-pow_same, bit_at-pow_other, bit_at_ones_above, bit_at_cat_low, bit_at_cat_high, bit_at_above, same_from_bits, bit_at-zero}
+use Rattle.std.proofs.lemmas.Nat.Bits.{bit_at-trailing_zeros, bit_at_and, bit_at_not, bit_at-lt, bit_at-pow_same, bit_at-pow_other}
+use Rattle.std.proofs.lemmas.Nat.Bits.{bit_at_ones_above, bit_at_cat_low, bit_at_cat_high, bit_at_above, same_from_bits, bit_at-zero}
 use Rattle.shader_overloads.specs.Bits.{has_bit, one_bits, items_where}
 use Rattle.shader_overloads.proofs.ListLemmas.{Front, items_where-front, items_where-none, items_where-split, first_within}
 
@@ -62,9 +64,11 @@ module _ (n k a : ℕ) (is : n ≡ a * 2 ^ suc k + 2 ^ k) where
   -- without its lowest bit
   pub rest_low : (i : ℕ) → i ≤ k → bit_at (bit_and n (n - 1)) i ≡ 0
   rest_low i h = elim (cases_order i k) [
-    | inl e ↦ let z : bit_at (n - 1) i ≡ 0 = less_low i (omega arith) ∙ ap (bit_at (2 ^ k - 1)) e ∙ bit_at_ones_above k k (omega arith) in omega (arith, bit_at_and n (n - 1) i)
+    | inl e ↦ let z : bit_at (n - 1) i ≡ 0 = less_low i (omega arith) ∙ ap (bit_at (2 ^ k - 1)) e ∙ bit_at_ones_above k k (omega arith) in
+        omega (arith, bit_at_and n (n - 1) i)
     | inr o ↦ elim o [
-      | inl l ↦ let z : bit_at n i ≡ 0 = bit_low i (omega arith) ∙ bit_at-pow_other k i (λ e. omega arith) in omega (arith, bit_at_and n (n - 1) i)
+      | inl l ↦ let z : bit_at n i ≡ 0 = bit_low i (omega arith) ∙ bit_at-pow_other k i (λ e. omega arith) in
+          omega (arith, bit_at_and n (n - 1) i)
       | inr l ↦ omega arith
     ]
   ]
@@ -74,7 +78,11 @@ module _ (n k a : ℕ) (is : n ≡ a * 2 ^ suc k + 2 ^ k) where
 
   pub item_is : (w : Width) → n < 2 ^ bits w → k < bits w → bit_and n (2 ^ bits w - 1 - (n - 1)) ≡ 2 ^ k
   item_is w fits within = same_from_bits _ _ (λ i. elim (cases_lt i (bits w)) [
-    | inr far ↦ bit_at_and n (2 ^ bits w - 1 - (n - 1)) i ∙ omega (arith, bit_at_above n (bits w) i fits far, bit_at-pow_other k i (λ e. omega arith))
+    | inr far ↦ bit_at_and n (2 ^ bits w - 1 - (n - 1)) i ∙ omega (
+      arith,
+      bit_at_above n (bits w) i fits far,
+      bit_at-pow_other k i (λ e. omega arith),
+    )
     | inl near ↦
         let two : bit_at (2 ^ bits w - 1 - (n - 1)) i ≡ 1 - bit_at (n - 1) i = bit_at_not w (n - 1) i (omega arith) near in
         let both = bit_at_and n (2 ^ bits w - 1 - (n - 1)) i in
@@ -95,7 +103,8 @@ module _ (n k a : ℕ) (is : n ≡ a * 2 ^ suc k + 2 ^ k) where
   ])
 
 -- the first number of a run that passes p, where q passes only those after it
-module _ (p q : ℕ → Bool) (k : ℕ) (none : (i : ℕ) → i < k → p i ≡ false) (here : p k ≡ true) (gone : (i : ℕ) → i ≤ k → q i ≡ false) (same : (i : ℕ) → k < i → q i ≡ p i) where
+module _ (p q : ℕ → Bool) (k : ℕ) (none : (i : ℕ) → i < k → p i ≡ false) (here : p k ≡ true) (gone : (i : ℕ) → i ≤ k →
+    q i ≡ false) (same : (i : ℕ) → k < i → q i ≡ p i) where
   after_first : (s w : ℕ) → k < s → filter p (range_with_len s w) ≡ filter q (range_with_len s w)
   after_first s zero h = refl
   after_first s (suc w) h = rw (same s h) (ap (λ (t : List ℕ). cond (p s) (s ∷ t) t) (after_first (s + 1) w (omega arith)))
@@ -157,7 +166,8 @@ pub record Split {X : Type 0} (n : ℕ) (xs : List X) : Type 0 where
 pub some_bit : {X : Type 0} (n : ℕ) (xs : List X) → items_where (has_bit n) xs ≢ [] → 0 < n
 some_bit n xs some = elim (cases_lt 0 n) [
   | inl more ↦ more
-  | inr least ↦ absurd (some (items_where-none (has_bit n) xs (λ i h. let e : n ≡ 0 = omega arith in ap (λ m. has_bit m i) e ∙ ap (λ b. nat_eq b 1) (bit_at-zero i))))
+  | inr least ↦ absurd (some (items_where-none (has_bit n) xs (λ i h. let e : n ≡ 0 = omega arith in
+      ap (λ m. has_bit m i) e ∙ ap (λ b. nat_eq b 1) (bit_at-zero i))))
 ]
 
 pub split : {X : Type 0} (n : ℕ) (xs : List X) (d : X) → n < 2 ^ 16 → items_where (has_bit n) xs ≢ [] → Split n xs
@@ -175,7 +185,8 @@ split n xs d fits some =
     }
 
 -- the number of zeros below the lowest set bit is the place of the first element
-pub first_element : {X : Type 0} (w : Width) (n : ℕ) (xs : List X) (d : X) → n < 2 ^ bits w → items_where (has_bit n) xs ≢ [] → (trailing_zeros w n < length xs) × Front (items_where (has_bit n) xs) xs (trailing_zeros w n) d
+pub first_element : {X : Type 0} (w : Width) (n : ℕ) (xs : List X) (d : X) → n < 2 ^ bits w → items_where (has_bit n) xs ≢ [] →
+    (trailing_zeros w n < length xs) × Front (items_where (has_bit n) xs) xs (trailing_zeros w n) d
 first_element w n xs d fits some =
     let facts = bit_at-trailing_zeros w n (some_bit n xs some) fits in
     let none : (i : ℕ) → i < trailing_zeros w n → has_bit n i ≡ false = λ i h. ap (λ b. nat_eq b 1) (facts.2 i h) in
@@ -183,13 +194,17 @@ first_element w n xs d fits some =
     (within, items_where-front (has_bit n) xs (trailing_zeros w n) d none (ap (λ b. nat_eq b 1) facts.1) within)
 
 -- one step over the members of a set, each seen as a list of one element
-pub members_step : {X : Type 0} (n : ℕ) (xs : List X) (d : X) → n < 2 ^ 16 → items_where (has_bit n) xs ≢ [] → map (λ x. x ∷ []) (items_where (has_bit n) xs) ≡ items_where (has_bit (bit_and n (2 ^ 16 - 1 - (n - 1)))) xs ∷ map (λ x. x ∷ []) (items_where (has_bit (bit_and n (n - 1))) xs)
+pub members_step : {X : Type 0} (n : ℕ) (xs : List X) (d : X) → n < 2 ^ 16 → items_where (has_bit n) xs ≢ [] →
+    map (λ x. x ∷ []) (items_where (has_bit n) xs) ≡ items_where (has_bit (bit_and n (2 ^ 16 - 1 - (n - 1)))) xs
+    ∷ map (λ x. x ∷ []) (items_where (has_bit (bit_and n (n - 1))) xs)
 members_step n xs d fits some =
     let s = split n xs d fits some in
     ap (map (λ x. x ∷ [])) s.whole ∙ ap (λ ys. ys ∷ map (λ x. x ∷ []) (items_where (has_bit (bit_and n (n - 1))) xs)) (sym s.alone)
 
 -- a set has one element exactly where none is left without its first
-pub single : {X : Type 0} {n : ℕ} {xs : List X} → Split n xs → (items_where (has_bit (bit_and n (n - 1))) xs ≡ [] → length (items_where (has_bit n) xs) ≡ 1) × (length (items_where (has_bit n) xs) ≡ 1 → items_where (has_bit (bit_and n (n - 1))) xs ≡ [])
+pub single : {X : Type 0} {n : ℕ} {xs : List X} → Split n xs →
+    (items_where (has_bit (bit_and n (n - 1))) xs ≡ [] → length (items_where (has_bit n) xs) ≡ 1) ×
+    (length (items_where (has_bit n) xs) ≡ 1 → items_where (has_bit (bit_and n (n - 1))) xs ≡ [])
 single {n = n} {xs = xs} s = (
   λ none. ap length (s.whole ∙ ap (λ ys. s.first ∷ ys) none),
   λ one. nil_from_length (items_where (has_bit (bit_and n (n - 1))) xs) (omega (arith, ap length s.whole, one)),

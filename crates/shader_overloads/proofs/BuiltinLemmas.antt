@@ -13,8 +13,10 @@ use Rattle.shader_ir.specs.declared.proc.type_resolution.TypeResolution.TheVaria
 use Rattle.shader_ir.specs.Scalars.{named_scalars}
 use Rattle.shader_overloads.specs.declared.rule.Rule.{Rule}
 use Rattle.shader_overloads.specs.AcceptanceLaws.{is_named}
-use Rattle.shader_overloads.specs.BuiltinGroups.{float_functions, geometric_functions, is_among, is_listed, matrix_functions, number_functions, packing_functions, rules_if, splitting_functions}
-use Rattle.shader_overloads.specs.Builtins.{rules_of, ldexp_rules, outer_rules, refract_rules, transpose_rules, extract_bits_rules, insert_bits_rules, mix_rules}
+use Rattle.shader_overloads.specs.BuiltinGroups.{float_functions, geometric_functions, is_among, is_listed, matrix_functions}
+use Rattle.shader_overloads.specs.BuiltinGroups.{number_functions, packing_functions, rules_if, splitting_functions}
+use Rattle.shader_overloads.specs.Builtins.{rules_of, ldexp_rules, outer_rules, refract_rules, transpose_rules}
+use Rattle.shader_overloads.specs.Builtins.{extract_bits_rules, insert_bits_rules, mix_rules}
 use Rattle.shader_overloads.specs.Remaining.{ArgumentFits, RuleFits, RulesFit}
 use Rattle.shader_overloads.specs.Rules.{regular_rules}
 
@@ -127,7 +129,8 @@ argument_fits : (list : List «Type») (argument : TypeResolution) → is_named_
 argument_fits list (Value inner) e = inner_fits list inner e
 argument_fits list (Handle handle) e = absurd (both_ways false refl e)
 
-all_from_test : {X : Type 0} (P : X → Type 0) (p : X → Bool) → ((x : X) → p x ≡ true → P x) → (xs : List X) → list_all p xs ≡ true → All P xs
+all_from_test : {X : Type 0} (P : X → Type 0) (p : X → Bool) → ((x : X) → p x ≡ true → P x) → (xs : List X) →
+    list_all p xs ≡ true → All P xs
 all_from_test P p each [] e k d h = absurd (omega arith)
 all_from_test P p each (x ∷ xs) e zero d h = each x (and_parts (p x) (list_all p xs) e).0
 all_from_test P p each (x ∷ xs) e (suc k) d h = all_from_test P p each xs (and_parts (p x) (list_all p xs) e).1 k d (omega arith)
@@ -135,7 +138,8 @@ all_from_test P p each (x ∷ xs) e (suc k) d h = all_from_test P p each xs (and
 -- so they fit any types
 pub rules_fit : (list : List «Type») (function : MathFunction) → RulesFit list (rules_of function)
 rules_fit list function = record {
-  each = all_from_test (RuleFits list) is_named_rule (λ rule e. all_from_test (ArgumentFits list) is_named_argument (argument_fits list) rule.arguments e) (rules_of function) (rules_named function);
+  each = all_from_test (RuleFits list) is_named_rule (λ rule e. all_from_test (ArgumentFits list) is_named_argument (argument_fits list)
+      rule.arguments e) (rules_of function) (rules_named function);
 }
 
 -- ---- the groups
@@ -145,7 +149,9 @@ rules_among group function = rules_if (is_among group function) function
 
 -- a builtin is in one of the groups, or its set is a list
 pub groups_joined : (function : MathFunction)
-    → option_or (option_or (option_or (option_or (option_or (rules_among float_functions function) (rules_among number_functions function)) (rules_among packing_functions function)) (rules_among geometric_functions function)) (rules_among matrix_functions function)) (rules_among splitting_functions function)
+    → option_or (option_or (option_or (option_or (option_or (rules_among float_functions function) (rules_among number_functions function))
+    (rules_among packing_functions function)) (rules_among geometric_functions function)) (rules_among matrix_functions function))
+    (rules_among splitting_functions function)
     ≡ rules_if (not (is_listed function)) function
 groups_joined f.Ldexp = refl
 groups_joined _ = refl
@@ -156,6 +162,7 @@ pub first_of : {P : Type 0} {X : Type 0} (left right found joined : Option X) �
 first_of left right None joined first is next = next is ∙ ap (λ o. option_or o right) first
 first_of left right (Some x) joined first is next = is ∙ ap (λ o. option_or o right) first
 
-pub some_rules : (function : MathFunction) (test : Bool) (rules : List Rule) → Some rules ≡ rules_if test function → rules ≡ rules_of function
+pub some_rules : (function : MathFunction) (test : Bool) (rules : List Rule) → Some rules ≡ rules_if test function →
+    rules ≡ rules_of function
 some_rules function true rules found = cc
 some_rules function false rules found = absurd (cc)

@@ -25,11 +25,13 @@ no_triples : {X Y Z : Type 0} (xs : List X) (ys : List Y) (zs : List Z) → pair
 no_triples [] ys zs e = refl
 no_triples (x ∷ xs) ys zs e = triples_with_none xs ys zs e
 
-pub triples_done : {X Y Z : Type 0} (xs : List X) (partners : List (Y × Z)) (ys : List Y) (zs : List Z) → partners ≡ [] → pairs_of ys zs ≡ [] → triples_left xs partners ys zs ≡ []
+pub triples_done : {X Y Z : Type 0} (xs : List X) (partners : List (Y × Z)) (ys : List Y) (zs : List Z) → partners ≡ [] →
+    pairs_of ys zs ≡ [] → triples_left xs partners ys zs ≡ []
 triples_done xs partners ys zs e f = ap (λ ps. triples_left xs ps ys zs) e ∙ no_triples xs ys zs f
 
 -- what all pairs give is what each item of the first list gives with each of the second
-pub over_pairs : {X Y Z : Type 0} (f : X → Y → List Z) (xs : List X) (ys : List Y) → flat_map (λ (pair : X × Y). f pair.0 pair.1) (pairs_of xs ys) ≡ flat_map (λ x. flat_map (f x) ys) xs
+pub over_pairs : {X Y Z : Type 0} (f : X → Y → List Z) (xs : List X) (ys : List Y) →
+    flat_map (λ (pair : X × Y). f pair.0 pair.1) (pairs_of xs ys) ≡ flat_map (λ x. flat_map (f x) ys) xs
 over_pairs f [] ys = refl
 over_pairs f (x ∷ xs) ys =
     flat_map-append (λ pair. f pair.0 pair.1) (map (λ y. (x, y)) ys) (pairs_of xs ys)

@@ -18,22 +18,27 @@ use Rattle.shader_overloads.specs.Rules.{regular_rules, rule_for}
 use Rattle.shader_overloads.proofs.ListCountLemmas.{place_of}
 
 -- an element of a list, of which each is made by f of some two parts
-element_of : {X Y Z : Type 0} (P : Z → Type 0) (f : X → Y → Z) → ((x : X) (y : Y) → P (f x y)) → (x : X) (ys : List Y) (rest : List Z) → ((k : ℕ) (z : Z) → slice_get rest k ≡ Some z → P z) → (k : ℕ) (z : Z) → slice_get (map (f x) ys ++ rest) k ≡ Some z → P z
+element_of : {X Y Z : Type 0} (P : Z → Type 0) (f : X → Y → Z) → ((x : X) (y : Y) → P (f x y)) → (x : X) (ys : List Y) (rest : List Z) →
+    ((k : ℕ) (z : Z) → slice_get rest k ≡ Some z → P z) → (k : ℕ) (z : Z) → slice_get (map (f x) ys ++ rest) k ≡ Some z → P z
 element_of P f each x [] rest later k z at = later k z at
 element_of P f each x (y ∷ ys) rest later zero z at = let same : f x y ≡ z = cc in subst P same (each x y)
 element_of P f each x (y ∷ ys) rest later (suc k) z at = element_of P f each x ys rest later k z at
 
-element : {X Y Z : Type 0} (P : Z → Type 0) (f : X → Y → Z) → ((x : X) (y : Y) → P (f x y)) → (xs : List X) (ys : List Y) (k : ℕ) (z : Z) → slice_get (flat_map (λ x. map (f x) ys) xs) k ≡ Some z → P z
+element : {X Y Z : Type 0} (P : Z → Type 0) (f : X → Y → Z) → ((x : X) (y : Y) → P (f x y)) → (xs : List X) (ys : List Y) (k : ℕ) (z : Z) →
+    slice_get (flat_map (λ x. map (f x) ys) xs) k ≡ Some z → P z
 element P f each [] ys k z at = absurd (cc)
 element P f each (x ∷ xs) ys k z at = element_of P f each x ys (flat_map (λ v. map (f v) ys) xs) (element P f each xs ys) k z at
 
-rule_for-count : (arity : ℕ) (conclude : ConclusionRule) (size : ConstructorSize) (s : Scalar) → length (rule_for arity conclude size s).arguments ≡ arity
+rule_for-count : (arity : ℕ) (conclude : ConclusionRule) (size : ConstructorSize) (s : Scalar) →
+    length (rule_for arity conclude size s).arguments ≡ arity
 rule_for-count arity conclude size s = length-replicate arity (resolutions.Value (to_inner size s))
 
 -- each rule of a regular set has its arity
-count_of : (arity : ℕ) (conclude : ConclusionRule) (all : List ConstructorSize) (scalars : List Scalar) (k : ℕ) (rule : Rule) → slice_get (regular_rules arity conclude all scalars) k ≡ Some rule → length rule.arguments ≡ arity
+count_of : (arity : ℕ) (conclude : ConclusionRule) (all : List ConstructorSize) (scalars : List Scalar) (k : ℕ) (rule : Rule) →
+    slice_get (regular_rules arity conclude all scalars) k ≡ Some rule → length rule.arguments ≡ arity
 unfolding regular_rules
-count_of arity conclude all scalars = element (λ (rule : Rule). length rule.arguments ≡ arity) (rule_for arity conclude) (rule_for-count arity conclude) all scalars
+count_of arity conclude all scalars = element (λ (rule : Rule). length rule.arguments ≡ arity) (rule_for arity conclude)
+    (rule_for-count arity conclude) all scalars
 
 some_first : (rules : List Rule) → rules ≢ [] → (rule : Rule) × (slice_get rules 0 ≡ Some rule)
 some_first [] some = absurd (some refl)

@@ -1,5 +1,6 @@
 -- Numbers to the base 4096, digit by digit.
-use Rattle.std.proofs.Common.{◌≡◌, ℕ, zero, suc, ◌+◌, ◌-◌, ◌*◌, ◌/◌, ◌%◌, ◌^◌, ◌<◌, ◌≤◌, true, ◌&&◌, refl, sym, ◌∙◌, ap, arith, inl, inr, bit_and, nat_eq}
+use Rattle.std.proofs.Common.{◌≡◌, ℕ, zero, suc, ◌+◌, ◌-◌, ◌*◌, ◌/◌, ◌%◌, ◌^◌, ◌<◌, ◌≤◌, true}
+use Rattle.std.proofs.Common.{◌&&◌, refl, sym, ◌∙◌, ap, arith, inl, inr, bit_and, nat_eq}
 use Rattle.std.proofs.Math.Nat.{add-mul, mul_right_comm, pow-succ'}
 use Rattle.std.specs.Int.{bit_at}
 use Rattle.std.proofs.lemmas.Bool.{agree_below_at, cases_lt, eqb-true}
@@ -13,7 +14,8 @@ pub low_bits : (n w k : ℕ) → k < w → bit_at (n % 2 ^ w) k ≡ bit_at n k
 low_bits n w k h = sym (bit_at_cat_low (n / 2 ^ w) w (n % 2 ^ w) k h) ∙ ap (λ m. bit_at m k) (shr_split n w)
 
 pub high_bits : (n w k : ℕ) → w ≤ k → bit_at (n / 2 ^ w) (k - w) ≡ bit_at n k
-high_bits n w k h = sym (bit_at_cat_high (n / 2 ^ w) w (n % 2 ^ w) k (mod_below n (2 ^ w) (pow_pos w)) h) ∙ ap (λ m. bit_at m k) (shr_split n w)
+high_bits n w k h = sym (bit_at_cat_high (n / 2 ^ w) w (n % 2 ^ w) k (mod_below n (2 ^ w) (pow_pos w)) h)
+    ∙ ap (λ m. bit_at m k) (shr_split n w)
 
 pub masked_bit : (n w k : ℕ) → k < w → has_bit (bit_and n (2 ^ w - 1)) k ≡ has_bit n k
 masked_bit n w k h = ap (λ d. nat_eq d 1) (ap (λ m. bit_at m k) (and_mask n w) ∙ low_bits n w k h)
@@ -81,7 +83,8 @@ module _ (groups members : ℕ) (few : groups < 32) (small : members < 4096) whe
   product : bit_and (groups * 17600780175361) 281543712968705 * members ≡ digits (λ i. bit_at groups i * members) 5
   product = ap (λ n. n * members) (spread groups few) ∙ digits-times (bit_at groups) 5 members
 
-  pub product-bit : (k : ℕ) → k < 60 → has_bit (bit_and (groups * 17600780175361) 281543712968705 * members) k ≡ (has_bit groups (k / 12) && has_bit members (k % 12))
+  pub product-bit : (k : ℕ) → k < 60 → has_bit (bit_and (groups * 17600780175361) 281543712968705 * members) k
+      ≡ (has_bit groups (k / 12) && has_bit members (k % 12))
   product-bit k h =
       ap (λ n. has_bit n k) product
       ∙ ap (λ d. nat_eq d 1) (digits-bit (λ i. bit_at groups i * members) 5 k (λ i. digit-below groups members i small) (omega arith))
@@ -89,5 +92,6 @@ module _ (groups members : ℕ) (few : groups < 32) (small : members < 4096) whe
 
   pub product-below : bit_and (groups * 17600780175361) 281543712968705 * members < 2 ^ 60
   product-below =
-      let most : digits (λ i. bit_at groups i * members) 5 < 4096 ^ 5 = digits-below (λ i. bit_at groups i * members) 5 (λ i. digit-below groups members i small) in
+      let most : digits (λ i. bit_at groups i * members) 5 < 4096 ^ 5 =
+      digits-below (λ i. bit_at groups i * members) 5 (λ i. digit-below groups members i small) in
       rw product most

@@ -6,7 +6,8 @@ use Rattle.shader_overloads.specs.declared.constructor_set.ConstructorSize.{Cons
 use Rattle.shader_overloads.specs.declared.constructor_set.ConstructorSize.TheVariants as sizes
 use Rattle.shader_overloads.specs.declared.list_forms.ListForm.TheVariants as forms
 use Rattle.shader_overloads.specs.declared.rule.Rule.{Rule}
-use Rattle.shader_overloads.specs.Builtins.{all_floats, extract_bits_rules, insert_bits_rules, integers_by_width, ldexp_rules, mix_rules, outer_rules, refract_rules, scalars_and_vectors, transpose_rules, vectors}
+use Rattle.shader_overloads.specs.Builtins.{all_floats, extract_bits_rules, insert_bits_rules, integers_by_width, ldexp_rules}
+use Rattle.shader_overloads.specs.Builtins.{mix_rules, outer_rules, refract_rules, scalars_and_vectors, transpose_rules, vectors}
 use Rattle.shader_overloads.specs.ListForms.{rows}
 use Rattle.shader_overloads.specs.Remaining.{has_no_struct}
 
@@ -22,7 +23,8 @@ pub record IsMade (made written : List Rule) : Type 0 where
   pub few : length made ≤ 63
   pub no_struct : list_all has_no_struct made ≡ true
 
-pub ldexp_made : (rules : List Rule) → rules ≡ flat_map (λ scalar. flat_map (λ size. rows forms.Ldexp size scalar) scalars_and_vectors) all_floats → IsMade rules ldexp_rules
+pub ldexp_made : (rules : List Rule) → rules ≡ flat_map (λ scalar. flat_map (λ size. rows forms.Ldexp size scalar) scalars_and_vectors)
+    all_floats → IsMade rules ldexp_rules
 unfolding ldexp_rules
 ldexp_made rules e = record {
   is = e;
@@ -30,7 +32,8 @@ ldexp_made rules e = record {
   no_struct = ap (list_all has_no_struct) e;
 }
 
-pub outer_made : (rules : List Rule) → rules ≡ flat_map (λ size. flat_map (rows forms.Outer size) all_floats) matrices → IsMade rules outer_rules
+pub outer_made : (rules : List Rule) → rules ≡ flat_map (λ size. flat_map (rows forms.Outer size) all_floats) matrices →
+    IsMade rules outer_rules
 unfolding outer_rules
 outer_made rules e = record {
   is = e;
@@ -38,7 +41,8 @@ outer_made rules e = record {
   no_struct = ap (list_all has_no_struct) e;
 }
 
-pub refract_made : (rules : List Rule) → rules ≡ flat_map (λ size. flat_map (rows forms.Refract size) all_floats) vectors → IsMade rules refract_rules
+pub refract_made : (rules : List Rule) → rules ≡ flat_map (λ size. flat_map (rows forms.Refract size) all_floats) vectors →
+    IsMade rules refract_rules
 unfolding refract_rules
 refract_made rules e = record {
   is = e;
@@ -46,7 +50,8 @@ refract_made rules e = record {
   no_struct = ap (list_all has_no_struct) e;
 }
 
-pub transpose_made : (rules : List Rule) → rules ≡ flat_map (λ size. flat_map (rows forms.Transpose size) all_floats) matrices → IsMade rules transpose_rules
+pub transpose_made : (rules : List Rule) → rules ≡ flat_map (λ size. flat_map (rows forms.Transpose size) all_floats) matrices →
+    IsMade rules transpose_rules
 unfolding transpose_rules
 transpose_made rules e = record {
   is = e;
@@ -54,7 +59,9 @@ transpose_made rules e = record {
   no_struct = ap (list_all has_no_struct) e;
 }
 
-pub extract_bits_made : (rules : List Rule) → rules ≡ flat_map (λ scalar. flat_map (λ size. rows forms.ExtractBits size scalar) scalars_and_vectors) integers_by_width → IsMade rules extract_bits_rules
+pub extract_bits_made : (rules : List Rule) → rules ≡ flat_map
+    (λ scalar. flat_map (λ size. rows forms.ExtractBits size scalar) scalars_and_vectors) integers_by_width →
+    IsMade rules extract_bits_rules
 unfolding extract_bits_rules
 extract_bits_made rules e = record {
   is = e;
@@ -62,7 +69,8 @@ extract_bits_made rules e = record {
   no_struct = ap (list_all has_no_struct) e;
 }
 
-pub insert_bits_made : (rules : List Rule) → rules ≡ flat_map (λ scalar. flat_map (λ size. rows forms.InsertBits size scalar) scalars_and_vectors) integers_by_width → IsMade rules insert_bits_rules
+pub insert_bits_made : (rules : List Rule) → rules ≡ flat_map
+    (λ scalar. flat_map (λ size. rows forms.InsertBits size scalar) scalars_and_vectors) integers_by_width → IsMade rules insert_bits_rules
 unfolding insert_bits_rules
 insert_bits_made rules e = record {
   is = e;
@@ -70,7 +78,8 @@ insert_bits_made rules e = record {
   no_struct = ap (list_all has_no_struct) e;
 }
 
-pub mix_made : (rules : List Rule) → rules ≡ flat_map (λ scalar. flat_map (λ size. rows forms.Mix size scalar) scalars_and_vectors) all_floats → IsMade rules mix_rules
+pub mix_made : (rules : List Rule) → rules ≡ flat_map (λ scalar. flat_map (λ size. rows forms.Mix size scalar) scalars_and_vectors)
+    all_floats → IsMade rules mix_rules
 unfolding mix_rules
 mix_made rules e = record {
   is = e;

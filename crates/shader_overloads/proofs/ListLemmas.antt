@@ -1,5 +1,6 @@
 -- The elements at the places that pass.
-use Rattle.std.proofs.Common.{◌≡◌, ◌≢◌, ℕ, zero, suc, ◌+◌, ◌<◌, ◌≤◌, Bool, true, false, cond, not, ◌&&◌, ◌||◌, List, [], ◌∷◌, ◌++◌, length, map, refl, sym, ◌∙◌, ap, arith, inl, inr, Some, slice_get, get_or, length-append, ◌*◌}
+use Rattle.std.proofs.Common.{◌≡◌, ◌≢◌, ℕ, zero, suc, ◌+◌, ◌<◌, ◌≤◌, Bool, true, false, cond, not, ◌&&◌, ◌||◌, List, [], ◌∷◌, ◌++◌}
+use Rattle.std.proofs.Common.{length, map, refl, sym, ◌∙◌, ap, arith, inl, inr, Some, slice_get, get_or, length-append, ◌*◌}
 use Rattle.std.specs.List.{filter, flat_map, list_any}
 use Rattle.std.proofs.lemmas.Bool.{cases_lt, both_ways, or_parts, or_from, or_left, and_parts, not-true}
 use Rattle.std.proofs.lemmas.List.{nil_from_length, length-map}
@@ -21,7 +22,8 @@ pub record Front {X : Type 0} (ys xs : List X) (t : ℕ) (d : X) : Type 0 where
   pub is : ys ≡ get_or xs t d ∷ rest
 
 -- t is the first place that passes
-pub items_where-front : {X : Type 0} (p : ℕ → Bool) (xs : List X) (t : ℕ) (d : X) → ((i : ℕ) → i < t → p i ≡ false) → p t ≡ true → t < length xs → Front (items_where p xs) xs t d
+pub items_where-front : {X : Type 0} (p : ℕ → Bool) (xs : List X) (t : ℕ) (d : X) → ((i : ℕ) → i < t → p i ≡ false) → p t ≡ true →
+    t < length xs → Front (items_where p xs) xs t d
 items_where-front p [] t d none here h = absurd (omega arith)
 items_where-front p (x ∷ xs) zero d none here h = record { rest = items_where (λ k. p (suc k)) xs; is = rw here refl }
 items_where-front p (x ∷ xs) (suc t) d none here h =
@@ -29,20 +31,23 @@ items_where-front p (x ∷ xs) (suc t) d none here h =
     record { rest = tail.rest; is = rw (none 0 (omega arith)) tail.is }
 
 -- t is the first place that passes p, and q passes what p passes after it
-pub items_where-split : {X : Type 0} (p q : ℕ → Bool) (xs : List X) (t : ℕ) (d : X) → ((i : ℕ) → i < t → p i ≡ false) → p t ≡ true → ((i : ℕ) → i ≤ t → q i ≡ false) → ((i : ℕ) → t < i → q i ≡ p i) → t < length xs → items_where p xs ≡ get_or xs t d ∷ items_where q xs
+pub items_where-split : {X : Type 0} (p q : ℕ → Bool) (xs : List X) (t : ℕ) (d : X) → ((i : ℕ) → i < t → p i ≡ false) → p t ≡ true →
+    ((i : ℕ) → i ≤ t → q i ≡ false) → ((i : ℕ) → t < i → q i ≡ p i) → t < length xs → items_where p xs ≡ get_or xs t d ∷ items_where q xs
 items_where-split p q [] t d none here gone same h = absurd (omega arith)
 items_where-split p q (x ∷ xs) zero d none here gone same h =
     rw (here, gone 0 (omega arith)) (ap (λ ys. x ∷ ys) (sym (items_where_agree _ _ xs (λ i. same (suc i) (omega arith)))))
 items_where-split p q (x ∷ xs) (suc t) d none here gone same h =
     rw (none 0 (omega arith), gone 0 (omega arith))
-    (items_where-split (λ k. p (suc k)) (λ k. q (suc k)) xs t d (λ i l. none (suc i) (omega arith)) here (λ i l. gone (suc i) (omega arith)) (λ i l. same (suc i) (omega arith)) (omega arith))
+    (items_where-split (λ k. p (suc k)) (λ k. q (suc k)) xs t d (λ i l. none (suc i) (omega arith)) here (λ i l. gone (suc i) (omega arith))
+    (λ i l. same (suc i) (omega arith)) (omega arith))
 
 pub sole : {X : Type 0} {ys xs : List X} {t : ℕ} {d : X} → Front ys xs t d → length ys ≡ 1 → ys ≡ get_or xs t d ∷ []
 sole {xs = xs} {t = t} {d = d} front one =
     let e : length front.rest ≡ 0 = omega (arith, ap length front.is) in
     front.is ∙ ap (λ r. get_or xs t d ∷ r) (nil_from_length front.rest e)
 
-pub first_within : {X : Type 0} (p : ℕ → Bool) (xs : List X) (t : ℕ) → ((i : ℕ) → i < t → p i ≡ false) → items_where p xs ≢ [] → t < length xs
+pub first_within : {X : Type 0} (p : ℕ → Bool) (xs : List X) (t : ℕ) → ((i : ℕ) → i < t → p i ≡ false) →
+    items_where p xs ≢ [] → t < length xs
 first_within p xs t none some = elim (cases_lt t (length xs)) [
   | inl h ↦ h
   | inr h ↦ absurd (some (items_where-none p xs (λ i l. none i (omega arith))))
@@ -59,20 +64,26 @@ abbrev pub Places : {X : Type 0} → (ℕ → Bool) → (X → Bool) → List X 
 Places m q [] = Unit {0}
 Places m q (x ∷ xs) = (m 0 ≡ q x) × Places (λ k. m (suc k)) q xs
 
-filter-cons_if : {X : Type 0} (q : X → Bool) (b : Bool) (x : X) (xs : List X) → filter q (cons_if b x xs) ≡ cons_if (b && q x) x (filter q xs)
-filter-cons_if q true x xs = elim (q x) as (λ v. cond v (x ∷ filter q xs) (filter q xs) ≡ cons_if v x (filter q xs)) [ true ↦ refl | false ↦ refl ]
+filter-cons_if : {X : Type 0} (q : X → Bool) (b : Bool) (x : X) (xs : List X) →
+    filter q (cons_if b x xs) ≡ cons_if (b && q x) x (filter q xs)
+filter-cons_if q true x xs = elim (q x) as (λ v. cond v (x ∷ filter q xs) (filter q xs) ≡ cons_if v x (filter q xs))
+    [ true ↦ refl | false ↦ refl ]
 filter-cons_if q false x xs = refl
 
-pub items_where-and : {X : Type 0} (q : X → Bool) (m n r : ℕ → Bool) (xs : List X) → Places m q xs → ((k : ℕ) → r k ≡ (n k && m k)) → items_where r xs ≡ filter q (items_where n xs)
+pub items_where-and : {X : Type 0} (q : X → Bool) (m n r : ℕ → Bool) (xs : List X) → Places m q xs → ((k : ℕ) → r k ≡ (n k && m k)) →
+    items_where r xs ≡ filter q (items_where n xs)
 items_where-and q m n r [] places both = refl
 items_where-and q m n r (x ∷ xs) places both =
-    rw (both 0, places.0) (ap (cons_if (n 0 && q x) x) (items_where-and q (λ k. m (suc k)) (λ k. n (suc k)) (λ k. r (suc k)) xs places.1 (λ k. both (suc k))) ∙ sym (filter-cons_if q (n 0) x _))
+    rw (both 0, places.0) (ap (cons_if (n 0 && q x) x) (items_where-and q (λ k. m (suc k)) (λ k. n (suc k)) (λ k. r (suc k)) xs places.1
+    (λ k. both (suc k))) ∙ sym (filter-cons_if q (n 0) x _))
 
-any-cons_if : {X : Type 0} (test : X → Bool) (b : Bool) (x : X) (xs : List X) → test x ≡ false → list_any test xs ≡ false → list_any test (cons_if b x xs) ≡ false
+any-cons_if : {X : Type 0} (test : X → Bool) (b : Bool) (x : X) (xs : List X) → test x ≡ false → list_any test xs ≡ false →
+    list_any test (cons_if b x xs) ≡ false
 any-cons_if test true x xs h t = or_from _ _ h t
 any-cons_if test false x xs h t = t
 
-any-items_where : {X : Type 0} (test : X → Bool) (m : ℕ → Bool) (xs : List X) → list_any test xs ≡ false → list_any test (items_where m xs) ≡ false
+any-items_where : {X : Type 0} (test : X → Bool) (m : ℕ → Bool) (xs : List X) → list_any test xs ≡ false →
+    list_any test (items_where m xs) ≡ false
 any-items_where test m [] h = refl
 any-items_where test m (x ∷ xs) h =
     let parts = or_parts (test x) (list_any test xs) h in
@@ -96,14 +107,16 @@ module _ {X : Type 0} (same : X → X → Bool) (same_self : (x : X) → same x 
   absent : (x : X) (xs ys : List X) → list_any (same x) ys ≡ false → x ∷ xs ≡ ys → ⊥
   absent x xs ys none e = both_ways (list_any (same x) ys) none (ap (list_any (same x)) (sym e) ∙ or_left _ _ (same_self x))
 
-  one_place : (x : X) (fs bs : List X) → list_any (same x) fs ≡ false → list_any (same x) bs ≡ false → (b c : Bool) → cons_if b x fs ≡ cond c (x ∷ bs) bs → (b ≡ c) × (fs ≡ bs)
+  one_place : (x : X) (fs bs : List X) → list_any (same x) fs ≡ false → list_any (same x) bs ≡ false → (b c : Bool) →
+      cons_if b x fs ≡ cond c (x ∷ bs) bs → (b ≡ c) × (fs ≡ bs)
   one_place x fs bs no_a no_b true true e = (refl, cc)
   one_place x fs bs no_a no_b false false e = (refl, e)
   one_place x fs bs no_a no_b true false e = absurd (absent x fs bs no_b e)
   one_place x fs bs no_a no_b false true e = absurd (absent x bs fs no_a (sym e))
 
   -- where the elements differ, a set whose list is a filter has the places that pass
-  pub places_from_list : (q : X → Bool) (m : ℕ → Bool) (xs : List X) → all_differ same xs ≡ true → items_where m xs ≡ filter q xs → Places m q xs
+  pub places_from_list : (q : X → Bool) (m : ℕ → Bool) (xs : List X) → all_differ same xs ≡ true →
+      items_where m xs ≡ filter q xs → Places m q xs
   places_from_list q m [] differ e = tt
   places_from_list q m (x ∷ xs) differ e =
       let parts = and_parts (not (list_any (same x) xs)) (all_differ same xs) differ in
@@ -120,14 +133,16 @@ module _ {X : Type 0} (same : X → X → Bool) (same_self : (x : X) → same x 
   found_later x y rest false other = refl
 
   module _ (same_sym : (x y : X) → same x y ≡ same y x) where
-    places_later : (m : ℕ → Bool) (x : X) (rest ys : List X) (b : Bool) → list_any (same x) ys ≡ false → Places m (λ y. list_any (same y) rest) ys → Places m (λ y. list_any (same y) (cons_if b x rest)) ys
+    places_later : (m : ℕ → Bool) (x : X) (rest ys : List X) (b : Bool) → list_any (same x) ys ≡ false →
+        Places m (λ y. list_any (same y) rest) ys → Places m (λ y. list_any (same y) (cons_if b x rest)) ys
     places_later m x rest [] b none places = tt
     places_later m x rest (y ∷ ys) b none places =
         let parts = or_parts (same x y) (list_any (same x) ys) none in
         (places.0 ∙ found_later x y rest b (same_sym y x ∙ parts.0), places_later (λ k. m (suc k)) x rest ys b parts.1 places.1)
 
     -- where the elements differ, a place is in a set exactly where its element is in the set's list
-    pub places_of_members : (m : ℕ → Bool) (xs : List X) → all_differ same xs ≡ true → Places m (λ x. list_any (same x) (items_where m xs)) xs
+    pub places_of_members : (m : ℕ → Bool) (xs : List X) → all_differ same xs ≡ true →
+        Places m (λ x. list_any (same x) (items_where m xs)) xs
     places_of_members m [] differ = tt
     places_of_members m (x ∷ xs) differ =
         let parts = and_parts (not (list_any (same x) xs)) (all_differ same xs) differ in
@@ -144,18 +159,23 @@ items_where-filtered q m (x ∷ xs) places =
       | false ↦ items_where-filtered q (λ k. m (suc k)) xs places.1
     ])
 
-pub places_of_either : {X : Type 0} (p q : X → Bool) (m n r : ℕ → Bool) (xs : List X) → Places m p xs → Places n q xs → ((k : ℕ) → r k ≡ (m k || n k)) → Places r (λ x. p x || q x) xs
+pub places_of_either : {X : Type 0} (p q : X → Bool) (m n r : ℕ → Bool) (xs : List X) → Places m p xs → Places n q xs →
+    ((k : ℕ) → r k ≡ (m k || n k)) → Places r (λ x. p x || q x) xs
 places_of_either p q m n r [] left right either = tt
-places_of_either p q m n r (x ∷ xs) left right either =
-    (either 0 ∙ ap (λ b. b || n 0) left.0 ∙ ap (λ b. p x || b) right.0, places_of_either p q (λ k. m (suc k)) (λ k. n (suc k)) (λ k. r (suc k)) xs left.1 right.1 (λ k. either (suc k)))
+places_of_either p q m n r (x ∷ xs) left right either = (
+  either 0 ∙ ap (λ b. b || n 0) left.0 ∙ ap (λ b. p x || b) right.0,
+  places_of_either p q (λ k. m (suc k)) (λ k. n (suc k)) (λ k. r (suc k)) xs left.1 right.1 (λ k. either (suc k)),
+)
 
 -- ---- elements by their numbers
 
 -- a set of places whose elements are those of another set that pass a test
-pub items_where-filter : {X : Type 0} (q : X → Bool) (n r : ℕ → Bool) (xs : List X) → ((k : ℕ) (x : X) → slice_get xs k ≡ Some x → r k ≡ (n k && q x)) → items_where r xs ≡ filter q (items_where n xs)
+pub items_where-filter : {X : Type 0} (q : X → Bool) (n r : ℕ → Bool) (xs : List X) →
+    ((k : ℕ) (x : X) → slice_get xs k ≡ Some x → r k ≡ (n k && q x)) → items_where r xs ≡ filter q (items_where n xs)
 items_where-filter q n r [] each = refl
 items_where-filter q n r (x ∷ xs) each =
-    rw (each 0 x refl) (ap (cons_if (n 0 && q x) x) (items_where-filter q (λ k. n (suc k)) (λ k. r (suc k)) xs (λ k y at. each (suc k) y at)) ∙ sym (filter-cons_if q (n 0) x _))
+    rw (each 0 x refl) (ap (cons_if (n 0 && q x) x) (items_where-filter q (λ k. n (suc k)) (λ k. r (suc k)) xs
+    (λ k y at. each (suc k) y at)) ∙ sym (filter-cons_if q (n 0) x _))
 
 pub slice_get-within : {X : Type 0} (xs : List X) (k : ℕ) (x : X) → slice_get xs k ≡ Some x → k < length xs
 slice_get-within [] k x e = cc
@@ -169,7 +189,8 @@ slice_get-append_left (x ∷ xs) ys (suc k) h = slice_get-append_left xs ys k (o
 
 slice_get-append_right : {X : Type 0} (xs ys : List X) (k : ℕ) → slice_get (xs ++ ys) (length xs + k) ≡ slice_get ys k
 slice_get-append_right [] ys k = let e : 0 + k ≡ k = omega arith in ap (slice_get ys) e
-slice_get-append_right (x ∷ xs) ys k = let e : suc (length xs) + k ≡ suc (length xs + k) = omega arith in ap (slice_get (x ∷ (xs ++ ys))) e ∙ slice_get-append_right xs ys k
+slice_get-append_right (x ∷ xs) ys k = let e : suc (length xs) + k ≡ suc (length xs + k) = omega arith in
+    ap (slice_get (x ∷ (xs ++ ys))) e ∙ slice_get-append_right xs ys k
 
 slice_get-map : {X Y : Type 0} (f : X → Y) (xs : List X) (k : ℕ) (x : X) → slice_get xs k ≡ Some x → slice_get (map f xs) k ≡ Some (f x)
 slice_get-map f [] k x e = cc
@@ -177,7 +198,8 @@ slice_get-map f (y ∷ xs) zero x e = let d : y ≡ x = cc in ap (λ v. Some (f 
 slice_get-map f (y ∷ xs) (suc k) x e = slice_get-map f xs k x e
 
 -- the element of a number among all combinations
-pub slice_get-combinations : {X Y Z : Type 0} (f : X → Y → Z) (xs : List X) (ys : List Y) (i j : ℕ) (x : X) (y : Y) → slice_get xs i ≡ Some x → slice_get ys j ≡ Some y → slice_get (flat_map (λ v. map (f v) ys) xs) (i * length ys + j) ≡ Some (f x y)
+pub slice_get-combinations : {X Y Z : Type 0} (f : X → Y → Z) (xs : List X) (ys : List Y) (i j : ℕ) (x : X) (y : Y) →
+    slice_get xs i ≡ Some x → slice_get ys j ≡ Some y → slice_get (flat_map (λ v. map (f v) ys) xs) (i * length ys + j) ≡ Some (f x y)
 slice_get-combinations f [] ys i j x y d e = cc
 slice_get-combinations f (v ∷ xs) ys zero j x y d e =
     let same : v ≡ x = cc in
@@ -192,9 +214,15 @@ slice_get-combinations f (v ∷ xs) ys (suc i) j x y d e =
     ∙ slice_get-append_right (map (f v) ys) (flat_map (λ w. map (f w) ys) xs) (i * length ys + j)
     ∙ slice_get-combinations f xs ys i j x y d e
 
-pub length-combinations : {X Y Z : Type 0} (f : X → Y → Z) (xs : List X) (ys : List Y) → length (flat_map (λ v. map (f v) ys) xs) ≡ length xs * length ys
+pub length-combinations : {X Y Z : Type 0} (f : X → Y → Z) (xs : List X) (ys : List Y) →
+    length (flat_map (λ v. map (f v) ys) xs) ≡ length xs * length ys
 length-combinations f [] ys = omega arith
-length-combinations f (x ∷ xs) ys = omega (arith, length-append (map (f x) ys) (flat_map (λ v. map (f v) ys) xs), length-map ys (f x), length-combinations f xs ys)
+length-combinations f (x ∷ xs) ys = omega (
+  arith,
+  length-append (map (f x) ys) (flat_map (λ v. map (f v) ys) xs),
+  length-map ys (f x),
+  length-combinations f xs ys,
+)
 
 -- the element at a place within a list
 pub record ElementAt {X : Type 0} (xs : List X) (k : ℕ) : Type 0 where
@@ -206,13 +234,15 @@ element_at [] k h = absurd (omega arith)
 element_at (x ∷ xs) zero h = record { element = x; is = refl }
 element_at (x ∷ xs) (suc k) h = let e = element_at xs k (omega arith) in record { element = e.element; is = e.is }
 
-pub Places-at : {X : Type 0} (m : ℕ → Bool) (q : X → Bool) (xs : List X) (k : ℕ) (x : X) → Places m q xs → slice_get xs k ≡ Some x → m k ≡ q x
+pub Places-at : {X : Type 0} (m : ℕ → Bool) (q : X → Bool) (xs : List X) (k : ℕ) (x : X) → Places m q xs →
+    slice_get xs k ≡ Some x → m k ≡ q x
 Places-at m q [] k x places e = cc
 Places-at m q (y ∷ xs) zero x places e = let d : y ≡ x = cc in places.0 ∙ ap q d
 Places-at m q (y ∷ xs) (suc k) x places e = Places-at (λ i. m (suc i)) q xs k x places.1 e
 
 -- the first element of a set of places
-pub items_where-first : {X : Type 0} (p : ℕ → Bool) (xs : List X) (t : ℕ) → ((i : ℕ) → i < t → p i ≡ false) → p t ≡ true → t < length xs → slice_get (items_where p xs) 0 ≡ slice_get xs t
+pub items_where-first : {X : Type 0} (p : ℕ → Bool) (xs : List X) (t : ℕ) → ((i : ℕ) → i < t → p i ≡ false) → p t ≡ true → t < length xs →
+    slice_get (items_where p xs) 0 ≡ slice_get xs t
 items_where-first p [] t none here h = absurd (omega arith)
 items_where-first p (x ∷ xs) zero none here h = rw here refl
 items_where-first p (x ∷ xs) (suc t) none here h =
@@ -231,34 +261,46 @@ items_where-all p (x ∷ xs) all =
 
 items_where-map : {X Y : Type 0} (f : X → Y) (p : ℕ → Bool) (xs : List X) → items_where p (map f xs) ≡ map f (items_where p xs)
 items_where-map f p [] = refl
-items_where-map f p (x ∷ xs) = elim (p 0) as (λ b. cons_if b (f x) (items_where (λ k. p (suc k)) (map f xs)) ≡ map f (cons_if b x (items_where (λ k. p (suc k)) xs))) [
-  | true ↦ ap (λ ys. f x ∷ ys) (items_where-map f (λ k. p (suc k)) xs)
-  | false ↦ items_where-map f (λ k. p (suc k)) xs
-]
+items_where-map f p (x ∷ xs) = elim (p 0) as (λ b. cons_if b (f x) (items_where (λ k. p (suc k)) (map f xs))
+    ≡ map f (cons_if b x (items_where (λ k. p (suc k)) xs))) [
+      | true ↦ ap (λ ys. f x ∷ ys) (items_where-map f (λ k. p (suc k)) xs)
+      | false ↦ items_where-map f (λ k. p (suc k)) xs
+    ]
 
-items_where_agree_below : {X : Type 0} (p q : ℕ → Bool) (xs : List X) → ((i : ℕ) → i < length xs → p i ≡ q i) → items_where p xs ≡ items_where q xs
+items_where_agree_below : {X : Type 0} (p q : ℕ → Bool) (xs : List X) → ((i : ℕ) → i < length xs → p i ≡ q i) →
+    items_where p xs ≡ items_where q xs
 items_where_agree_below p q [] agree = refl
 items_where_agree_below p q (x ∷ xs) agree =
-    rw (agree 0 (omega arith)) (ap (cons_if (q 0) x) (items_where_agree_below (λ k. p (suc k)) (λ k. q (suc k)) xs (λ i h. agree (suc i) (omega arith))))
+    rw (agree 0 (omega arith)) (ap (cons_if (q 0) x) (items_where_agree_below (λ k. p (suc k)) (λ k. q (suc k)) xs
+    (λ i h. agree (suc i) (omega arith))))
 
-items_where-append : {X : Type 0} (p : ℕ → Bool) (xs ys : List X) → items_where p (xs ++ ys) ≡ items_where p xs ++ items_where (λ k. p (length xs + k)) ys
+items_where-append : {X : Type 0} (p : ℕ → Bool) (xs ys : List X) →
+    items_where p (xs ++ ys) ≡ items_where p xs ++ items_where (λ k. p (length xs + k)) ys
 items_where-append p [] ys = items_where_agree p (λ k. p (0 + k)) ys (λ i. let e : i ≡ 0 + i = omega arith in ap p e)
 items_where-append p (x ∷ xs) ys =
     ap (cons_if (p 0) x) (items_where-append (λ k. p (suc k)) xs ys
-    ∙ ap (λ zs. items_where (λ k. p (suc k)) xs ++ zs) (items_where_agree _ _ ys (λ i. let e : suc (length xs + i) ≡ suc (length xs) + i = omega arith in ap p e)))
+    ∙ ap (λ zs. items_where (λ k. p (suc k)) xs ++ zs) (items_where_agree _ _ ys (λ i. let e : suc (length xs + i) ≡ suc (length xs) + i =
+    omega arith in ap p e)))
     ∙ cons_if-append (p 0) x _ _
 
 -- where each number is in the set as its two parts are in theirs, the set has the combinations of the parts
-pub items_where-combinations : {X Y Z : Type 0} (f : X → Y → Z) (m g h : ℕ → Bool) (xs : List X) (ys : List Y) → ((i j : ℕ) → i < length xs → j < length ys → m (i * length ys + j) ≡ (g i && h j)) → items_where m (flat_map (λ x. map (f x) ys) xs) ≡ flat_map (λ x. map (f x) (items_where h ys)) (items_where g xs)
+pub items_where-combinations : {X Y Z : Type 0} (f : X → Y → Z) (m g h : ℕ → Bool) (xs : List X) (ys : List Y) →
+    ((i j : ℕ) → i < length xs → j < length ys → m (i * length ys + j) ≡ (g i && h j)) →
+    items_where m (flat_map (λ x. map (f x) ys) xs) ≡ flat_map (λ x. map (f x) (items_where h ys)) (items_where g xs)
 items_where-combinations f m g h [] ys parts = refl
 items_where-combinations f m g h (x ∷ xs) ys parts =
     items_where-append m (map (f x) ys) (flat_map (λ v. map (f v) ys) xs)
     ∙ ap (λ zs. zs ++ items_where (λ k. m (length (map (f x) ys) + k)) (flat_map (λ v. map (f v) ys) xs))
-    (items_where-map (f x) m ys ∙ ap (map (f x)) (items_where_agree_below m (λ j. g 0 && h j) ys (λ j l. let e : j ≡ 0 * length ys + j = omega arith in ap m e ∙ parts 0 j (omega arith) l)))
+    (items_where-map (f x) m ys ∙ ap (map (f x)) (items_where_agree_below m (λ j. g 0 && h j) ys (λ j l. let e : j ≡ 0 * length ys + j =
+    omega arith in ap m e ∙ parts 0 j (omega arith) l)))
     ∙ ap (λ zs. map (f x) (items_where (λ j. g 0 && h j) ys) ++ zs)
     (items_where-combinations f (λ k. m (length (map (f x) ys) + k)) (λ k. g (suc k)) h xs ys
-    (λ i j l n. let e : length (map (f x) ys) + (i * length ys + j) ≡ suc i * length ys + j = omega (arith, length-map ys (f x)) in ap m e ∙ parts (suc i) j (omega arith) n))
-    ∙ elim (g 0) as (λ b. map (f x) (items_where (λ j. b && h j) ys) ++ flat_map (λ v. map (f v) (items_where h ys)) (items_where (λ k. g (suc k)) xs) ≡ flat_map (λ v. map (f v) (items_where h ys)) (cons_if b x (items_where (λ k. g (suc k)) xs))) [
+    (λ i j l n. let e : length (map (f x) ys) + (i * length ys + j) ≡ suc i * length ys + j = omega (arith, length-map ys (f x)) in
+    ap m e ∙ parts (suc i) j (omega arith) n))
+    ∙ elim (g 0) as (λ b. map (f x) (items_where (λ j. b && h j) ys)
+    ++ flat_map (λ v. map (f v) (items_where h ys)) (items_where (λ k. g (suc k)) xs)
+    ≡ flat_map (λ v. map (f v) (items_where h ys)) (cons_if b x (items_where (λ k. g (suc k)) xs))) [
       | true ↦ refl
-      | false ↦ ap (λ zs. map (f x) zs ++ flat_map (λ v. map (f v) (items_where h ys)) (items_where (λ k. g (suc k)) xs)) (items_where-none (λ _. false) ys (λ i l. refl))
+      | false ↦ ap (λ zs. map (f x) zs ++ flat_map (λ v. map (f v) (items_where h ys)) (items_where (λ k. g (suc k)) xs))
+          (items_where-none (λ _. false) ys (λ i l. refl))
     ]

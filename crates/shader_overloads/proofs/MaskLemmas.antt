@@ -1,5 +1,6 @@
 -- Masks of the rules that are left.
-use Rattle.std.proofs.Common.{◌≡◌, ℕ, zero, suc, ◌-◌, ◌*◌, ◌%◌, ◌^◌, ◌<◌, ◌≤◌, Bool, true, false, ◌||◌, List, [], ◌∷◌, length, refl, sym, ◌∙◌, ap, arith, inl, inr, bit_or, nat_eq, nat_lt, Some, slice_get, All, get_or, subst}
+use Rattle.std.proofs.Common.{◌≡◌, ℕ, zero, suc, ◌-◌, ◌*◌, ◌%◌, ◌^◌, ◌<◌, ◌≤◌, Bool, true, false, ◌||◌, List, [], ◌∷◌, length}
+use Rattle.std.proofs.Common.{refl, sym, ◌∙◌, ap, arith, inl, inr, bit_or, nat_eq, nat_lt, Some, slice_get, All, get_or, subst}
 use Rattle.std.proofs.Math.Nat.{mod-eq_of_lt}
 use Rattle.std.proofs.Math.Pow.{pow-lt}
 use Rattle.std.specs.Int.{w64}
@@ -32,11 +33,13 @@ all_later P true x xs all = All-tail P x xs all
 all_later P false x xs all = all
 
 -- what holds of all that is left holds of each that the mask has
-pub member_has : {X : Type 0} (P : X → Type 0) (p : ℕ → Bool) (xs : List X) (k : ℕ) (x : X) → All P (items_where p xs) → p k ≡ true → slice_get xs k ≡ Some x → P x
+pub member_has : {X : Type 0} (P : X → Type 0) (p : ℕ → Bool) (xs : List X) (k : ℕ) (x : X) → All P (items_where p xs) → p k ≡ true →
+    slice_get xs k ≡ Some x → P x
 member_has P p [] k x all here at = absurd (cc)
 member_has P p (y ∷ xs) zero x all here at =
     let same : y ≡ x = cc in
-    subst P same (All-head P y (items_where (λ k. p (suc k)) xs) (subst (λ b. All P (cons_if b y (items_where (λ k. p (suc k)) xs))) here all))
+    subst P same (All-head P y (items_where (λ k. p (suc k)) xs)
+    (subst (λ b. All P (cons_if b y (items_where (λ k. p (suc k)) xs))) here all))
 member_has P p (y ∷ xs) (suc k) x all here at =
     member_has P (λ k. p (suc k)) xs k x (all_later P (p 0) y (items_where (λ k. p (suc k)) xs) all) here at
 

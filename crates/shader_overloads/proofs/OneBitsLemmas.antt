@@ -1,5 +1,6 @@
 -- The set bits of a number are growing powers of two that add up to it.
-use Rattle.std.proofs.Common.{◌≡◌, ◌∙◌, ap, refl, ℕ, zero, suc, ◌+◌, ◌*◌, ◌/◌, ◌%◌, ◌^◌, ◌<◌, ◌≤◌, Bool, true, false, cond, List, [], ◌∷◌, map, nat_eq, get_or, add-one, arith}
+use Rattle.std.proofs.Common.{◌≡◌, ◌∙◌, ap, refl, ℕ, zero, suc, ◌+◌, ◌*◌, ◌/◌, ◌%◌, ◌^◌, ◌<◌, ◌≤◌, Bool}
+use Rattle.std.proofs.Common.{true, false, cond, List, [], ◌∷◌, map, nat_eq, get_or, add-one, arith}
 use Rattle.std.proofs.Math.Nat.{mod-eq_of_lt, pow-succ'}
 use Rattle.std.proofs.lemmas.List.Elements.{All-map}
 use Rattle.std.proofs.lemmas.List.Sums.{sum_by-cons}
@@ -12,7 +13,8 @@ use Rattle.shader_overloads.specs.Bits.{has_bit, one_bits}
 
 pub one_bits-powers : OneBitsArePowers
 unfolding one_bits
-one_bits-powers n = All-map IsPowerOfTwo (λ k. 2 ^ k) (filter (has_bit n) (range_with_len 0 64)) (λ i d within. power (get_or (filter (has_bit n) (range_with_len 0 64)) i d))
+one_bits-powers n = All-map IsPowerOfTwo (λ k. 2 ^ k) (filter (has_bit n) (range_with_len 0 64))
+    (λ i d within. power (get_or (filter (has_bit n) (range_with_len 0 64)) i d))
   where
     power : (k : ℕ) → IsPowerOfTwo (2 ^ k)
     power k = (k, refl)
@@ -42,7 +44,8 @@ next_power s =
     let twice : 2 ^ (s + 1) ≡ 2 * 2 ^ s = ap (λ k. 2 ^ k) next ∙ pow-succ' 2 s in
     omega arith
 
-Rises-first : (b : Bool) (s : ℕ) (places : List ℕ) → Rises (2 ^ (s + 1)) (map (λ k. 2 ^ k) places) → Rises (2 ^ s) (map (λ k. 2 ^ k) (cond b (s ∷ places) places))
+Rises-first : (b : Bool) (s : ℕ) (places : List ℕ) → Rises (2 ^ (s + 1)) (map (λ k. 2 ^ k) places) →
+    Rises (2 ^ s) (map (λ k. 2 ^ k) (cond b (s ∷ places) places))
 Rises-first true s places rises = (omega arith, Rises-weaker (2 ^ s + 1) (2 ^ (s + 1)) (map (λ k. 2 ^ k) places) (next_power s) rises)
 Rises-first false s places rises = Rises-weaker (2 ^ s) (2 ^ (s + 1)) (map (λ k. 2 ^ k) places) (omega (arith, next_power s)) rises
 
@@ -61,7 +64,8 @@ one_bits-grow n = IsStrictlyIncreasing-from_rises 1 (powers (has_bit n) (range_w
 
 -- ---- they add up
 
-sum-first : (b : Bool) (s : ℕ) (places : List ℕ) → sum (map (λ k. 2 ^ k) (cond b (s ∷ places) places)) ≡ cond b (2 ^ s) 0 + sum (map (λ k. 2 ^ k) places)
+sum-first : (b : Bool) (s : ℕ) (places : List ℕ) → sum (map (λ k. 2 ^ k) (cond b (s ∷ places) places)) ≡ cond b (2 ^ s) 0
+    + sum (map (λ k. 2 ^ k) places)
 sum-first true s places = sum_by-cons (λ x. x) (2 ^ s) (map (λ k. 2 ^ k) places)
 sum-first false s places = omega arith
 
@@ -70,7 +74,8 @@ digit_value zero power h = omega arith
 digit_value (suc zero) power h = omega arith
 digit_value (suc (suc r)) power h = absurd (omega arith)
 
-put_together : (whole first rest value low more all : ℕ) → whole ≡ first + rest → first ≡ value → more ≡ value + low → rest + more ≡ all → whole + low ≡ all
+put_together : (whole first rest value low more all : ℕ) → whole ≡ first + rest → first ≡ value → more ≡ value + low → rest + more ≡ all →
+    whole + low ≡ all
 put_together whole first rest value low more all a b c d = omega arith
 
 -- the powers at the set places from s on, and what is below 2 ^ s

@@ -12,7 +12,8 @@ use Rattle.shader_overloads.proofs.PlaceLemmas.{place_in_number}
 abbrev HasPairs : ℕ → ℕ → ℕ → Type 0
 HasPairs word groups members = (k : ℕ) → k < 60 → has_bit word k ≡ (has_bit groups (k / 12) && has_bit members (k % 12))
 
-module _ (groups members first second third : ℕ) (first_is : HasPairs first (bit_and groups 31) members) (second_is : HasPairs second (bit_and (groups / 2 ^ 5) 31) members) (third_is : HasPairs third (groups / 2 ^ 10) members)
+module _ (groups members first second third : ℕ) (first_is : HasPairs first (bit_and groups 31) members)
+    (second_is : HasPairs second (bit_and (groups / 2 ^ 5) 31) members) (third_is : HasPairs third (groups / 2 ^ 10) members)
     (first_in : first < 2 ^ 60) (second_in : second < 2 ^ 60) (third_in : third < 2 ^ 60) where
   -- the words one after another
   abbrev joined : ℕ
@@ -38,14 +39,16 @@ module _ (groups members first second third : ℕ) (first_is : HasPairs first (b
           | inl near ↦
               ap (λ d. nat_eq d 1) (upper ∙ bit_at_cat_low third 60 second (k - 60) (omega arith))
               ∙ second_is (k - 60) (omega arith)
-              ∙ ap (λ b. b && has_bit members ((k - 60) % 12)) (masked_bit (groups / 2 ^ 5) 5 ((k - 60) / 12) (omega arith) ∙ ap (has_bit (groups / 2 ^ 5)) five ∙ ap (λ d. nat_eq d 1) (high_bits groups 5 (k / 12) (omega arith)))
+              ∙ ap (λ b. b && has_bit members ((k - 60) % 12)) (masked_bit (groups / 2 ^ 5) 5 ((k - 60) / 12) (omega arith)
+              ∙ ap (has_bit (groups / 2 ^ 5)) five ∙ ap (λ d. nat_eq d 1) (high_bits groups 5 (k / 12) (omega arith)))
               ∙ ap (λ n. has_bit groups (k / 12) && has_bit members n) place
           | inr past ↦
               let ten : (k - 60 - 60) / 12 ≡ k / 12 - 10 = omega arith in
               let later : (k - 60 - 60) % 12 ≡ k % 12 = omega arith in
               ap (λ d. nat_eq d 1) (upper ∙ bit_at_cat_high third 60 second (k - 60) second_in (omega arith))
               ∙ third_is (k - 60 - 60) (omega arith)
-              ∙ ap (λ b. b && has_bit members ((k - 60 - 60) % 12)) (ap (has_bit (groups / 2 ^ 10)) ten ∙ ap (λ d. nat_eq d 1) (high_bits groups 10 (k / 12) (omega arith)))
+              ∙ ap (λ b. b && has_bit members ((k - 60 - 60) % 12)) (ap (has_bit (groups / 2 ^ 10)) ten
+              ∙ ap (λ d. nat_eq d 1) (high_bits groups 10 (k / 12) (omega arith)))
               ∙ ap (λ n. has_bit groups (k / 12) && has_bit members n) later
         ]
   ]
@@ -56,7 +59,8 @@ module _ (groups members first second third : ℕ) (first_is : HasPairs first (b
   pub words-within : groups < 2 ^ 13 → IsBelow words 156
   words-within small k past = elim (cases_lt k 180) [
     | inl near ↦
-        words-pair k near ∙ ap (λ b. b && has_bit members (k % 12)) (ap (λ d. nat_eq d 1) (bit_at_above groups 13 (k / 12) small (omega arith)))
+        words-pair k near ∙ ap (λ b. b && has_bit members (k % 12))
+        (ap (λ d. nat_eq d 1) (bit_at_above groups 13 (k / 12) small (omega arith)))
     | inr far ↦
         let fits : joined < 2 ^ 180 = omega arith in
         in_joined k ∙ ap (λ d. nat_eq d 1) (bit_at_above joined 180 k fits far)

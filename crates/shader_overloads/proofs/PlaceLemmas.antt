@@ -1,9 +1,11 @@
 -- The numbers of a mask of three words.
-use Rattle.std.proofs.Common.{◌≡◌, ℕ, ◌+◌, ◌-◌, ◌*◌, ◌%◌, ◌^◌, ◌<◌, ◌≤◌, Bool, true, false, not, ◌&&◌, ◌||◌, refl, sym, ◌∙◌, ap, arith, inl, inr, bit_and, bit_or, nat_eq, nat_lt, subst}
+use Rattle.std.proofs.Common.{◌≡◌, ℕ, ◌+◌, ◌-◌, ◌*◌, ◌%◌, ◌^◌, ◌<◌, ◌≤◌, Bool, true, false, not, ◌&&◌, ◌||◌}
+use Rattle.std.proofs.Common.{refl, sym, ◌∙◌, ap, arith, inl, inr, bit_and, bit_or, nat_eq, nat_lt, subst}
 use Rattle.std.specs.Int.{bit_at, w64, trailing_zeros}
 use Rattle.std.proofs.lemmas.Bool.{cases_lt, cases_order, cases_eq, eq-eqb, eqb-false, ne_eqb, lt-ltb, le-ltb}
 use Rattle.std.proofs.lemmas.Nat.{and_le_r, mod_below, pow_pos}
-use Rattle.std.proofs.lemmas.Nat.Bits.{bit_at-pow_other, bit_at-pow_same, bit_at-lt, bit_at-trailing_zeros, bit_at-zero, bit_at_above, bit_at_cat_high, bit_at_cat_low, same_from_bits}
+use Rattle.std.proofs.lemmas.Nat.Bits.{bit_at-pow_other, bit_at-pow_same, bit_at-lt, bit_at-trailing_zeros, bit_at-zero}
+use Rattle.std.proofs.lemmas.Nat.Bits.{bit_at_above, bit_at_cat_high, bit_at_cat_low, same_from_bits}
 use Rattle.shader_overloads.specs.declared.mask.Mask.{Mask}
 use Rattle.shader_overloads.specs.Bits.{has_bit}
 use Rattle.shader_overloads.specs.Masks.{IsBelow, IsTaken, has_place}
@@ -23,7 +25,8 @@ and_false false = refl
 -- ---- a number that is put in
 
 -- a bit put into a word whose first place is a
-with_bit_at : (a n p k : ℕ) → a ≤ p → p < a + 64 → a ≤ k → has_bit (bit_or n (1 * 2 ^ (p - a) % 2 ^ 64)) (k - a) ≡ (nat_eq k p || has_bit n (k - a))
+with_bit_at : (a n p k : ℕ) → a ≤ p → p < a + 64 → a ≤ k →
+    has_bit (bit_or n (1 * 2 ^ (p - a) % 2 ^ 64)) (k - a) ≡ (nat_eq k p || has_bit n (k - a))
 with_bit_at a n p k low high at = with_bit n (p - a) (k - a) (omega arith) ∙ ap (λ b. b || has_bit n (k - a)) (elim (cases_eq k p) [
   | inl e ↦ rw (e, eq-eqb p p refl) (eq-eqb (p - a) (p - a) refl)
   | inr ne ↦ rw (ne_eqb k p ne) (ne_eqb (k - a) (p - a) (λ e. ne (omega arith)))
@@ -33,14 +36,20 @@ other : (k p : ℕ) (b : Bool) → (k ≡ p → ⊥) → b ≡ (nat_eq k p || b)
 other k p b ne = rw (ne_eqb k p ne) refl
 
 module _ (mask : Mask) (p k : ℕ) where
-  pub insert_low : p < 64 → has_place (record { low = bit_or mask.low (1 * 2 ^ p % 2 ^ 64); middle = mask.middle; high = mask.high }) k ≡ (nat_eq k p || has_place mask k)
+  pub insert_low : p < 64 → has_place (record { low = bit_or mask.low (1 * 2 ^ p % 2 ^ 64); middle = mask.middle; high = mask.high }) k
+      ≡ (nat_eq k p || has_place mask k)
   unfolding has_place
   insert_low h = elim (cases_lt k 64) [
     | inl l ↦ rw (lt-ltb k 64 l) (with_bit mask.low p k h)
     | inr g ↦ rw (le-ltb k 64 g) (other k p _ (λ e. omega arith))
   ]
 
-  pub insert_middle : 64 ≤ p → p < 128 → has_place (record { low = mask.low; middle = bit_or mask.middle (1 * 2 ^ (p - 64) % 2 ^ 64); high = mask.high }) k ≡ (nat_eq k p || has_place mask k)
+  pub insert_middle : 64 ≤ p → p < 128 → has_place (record {
+    low = mask.low;
+    middle = bit_or mask.middle (1 * 2 ^ (p - 64) % 2 ^ 64);
+    high =
+        mask.high;
+  }) k ≡ (nat_eq k p || has_place mask k)
   unfolding has_place
   insert_middle low high = elim (cases_lt k 64) [
     | inl l ↦ rw (lt-ltb k 64 l) (other k p _ (λ e. omega arith))
@@ -50,7 +59,12 @@ module _ (mask : Mask) (p k : ℕ) where
     ]
   ]
 
-  pub insert_high : 128 ≤ p → p < 192 → has_place (record { low = mask.low; middle = mask.middle; high = bit_or mask.high (1 * 2 ^ (p - 128) % 2 ^ 64) }) k ≡ (nat_eq k p || has_place mask k)
+  pub insert_high : 128 ≤ p → p < 192 → has_place (record {
+    low = mask.low;
+    middle = mask.middle;
+    high =
+        bit_or mask.high (1 * 2 ^ (p - 128) % 2 ^ 64);
+  }) k ≡ (nat_eq k p || has_place mask k)
   unfolding has_place
   insert_high low high = elim (cases_lt k 64) [
     | inl l ↦ rw (lt-ltb k 64 l) (other k p _ (λ e. omega arith))
@@ -105,7 +119,8 @@ kept : (k p : ℕ) (b : Bool) → (k ≡ p → ⊥) → b ≡ (b && not (nat_eq 
 kept k p b ne = and_true b ∙ ap (λ v. b && not v) (sym (ne_eqb k p ne))
 
 -- the same, of a word whose first place is a
-cleared_at : (a n k : ℕ) → 0 < n → n < 2 ^ 64 → a ≤ k → has_bit (bit_and n (n - 1)) (k - a) ≡ (has_bit n (k - a) && not (nat_eq k (a + trailing_zeros w64 n)))
+cleared_at : (a n k : ℕ) → 0 < n → n < 2 ^ 64 → a ≤ k → has_bit (bit_and n (n - 1)) (k - a)
+    ≡ (has_bit n (k - a) && not (nat_eq k (a + trailing_zeros w64 n)))
 cleared_at a n k some fits at =
     let t = trailing_zeros w64 n in
     cleared n (k - a) some fits ∙ ap (λ b. has_bit n (k - a) && not b) (elim (cases_eq k (a + t)) [
@@ -134,7 +149,8 @@ bottom n some fits =
     }
 
 module _ (mask : Mask) where
-  pub taken_low : 0 < mask.low → mask.low < 2 ^ 64 → IsTaken mask (trailing_zeros w64 mask.low) (record { low = bit_and mask.low (mask.low - 1); middle = mask.middle; high = mask.high })
+  pub taken_low : 0 < mask.low → mask.low < 2 ^ 64 → IsTaken mask (trailing_zeros w64 mask.low)
+      (record { low = bit_and mask.low (mask.low - 1); middle = mask.middle; high = mask.high })
   unfolding has_place
   taken_low some fits =
       let b = bottom mask.low some fits in
@@ -152,7 +168,13 @@ module _ (mask : Mask) where
         fewer = omega (arith, b.fewer);
       }
 
-  pub taken_middle : mask.low ≡ 0 → 0 < mask.middle → mask.middle < 2 ^ 64 → IsTaken mask (64 + trailing_zeros w64 mask.middle) (record { low = mask.low; middle = bit_and mask.middle (mask.middle - 1); high = mask.high })
+  pub taken_middle : mask.low ≡ 0 → 0 < mask.middle → mask.middle < 2 ^ 64 →
+      IsTaken mask (64 + trailing_zeros w64 mask.middle) (record {
+        low = mask.low;
+        middle =
+            bit_and mask.middle (mask.middle - 1);
+        high = mask.high;
+      })
   unfolding has_place
   taken_middle none some fits =
       let b = bottom mask.middle some fits in
@@ -177,7 +199,13 @@ module _ (mask : Mask) where
         fewer = omega (arith, b.fewer);
       }
 
-  pub taken_high : mask.low ≡ 0 → mask.middle ≡ 0 → 0 < mask.high → mask.high < 2 ^ 64 → IsTaken mask (128 + trailing_zeros w64 mask.high) (record { low = mask.low; middle = mask.middle; high = bit_and mask.high (mask.high - 1) })
+  pub taken_high : mask.low ≡ 0 → mask.middle ≡ 0 → 0 < mask.high → mask.high < 2 ^ 64 →
+      IsTaken mask (128 + trailing_zeros w64 mask.high) (record {
+        low = mask.low;
+        middle = mask.middle;
+        high =
+            bit_and mask.high (mask.high - 1);
+      })
   unfolding has_place
   taken_high none nor some fits =
       let b = bottom mask.high some fits in
@@ -207,7 +235,12 @@ module _ (mask : Mask) where
 
 -- ---- both of two sets
 
-pub place_of_both : (a b : Mask) (k : ℕ) → has_place (record { low = bit_and a.low b.low; middle = bit_and a.middle b.middle; high = bit_and a.high b.high }) k ≡ (has_place a k && has_place b k)
+pub place_of_both : (a b : Mask) (k : ℕ) → has_place (record {
+  low = bit_and a.low b.low;
+  middle = bit_and a.middle b.middle;
+  high =
+      bit_and a.high b.high;
+}) k ≡ (has_place a k && has_place b k)
 unfolding has_place
 place_of_both a b k = elim (cases_lt k 64) [
   | inl l ↦ rw (lt-ltb k 64 l) (has_bit-and a.low b.low k)
@@ -227,7 +260,8 @@ same_order a k count h = elim (cases_lt k count) [
 
 -- the words have a bit for each number below a count
 pub places_below : (mask : Mask) (count k : ℕ) → count ≤ 192
-    → ((i : ℕ) → i < 64 → has_bit mask.low i ≡ nat_lt i count) → ((i : ℕ) → i < 64 → has_bit mask.middle i ≡ nat_lt i (count - 64)) → ((i : ℕ) → i < 64 → has_bit mask.high i ≡ nat_lt i (count - 128)) → ((i : ℕ) → 64 ≤ i → has_bit mask.high i ≡ false)
+    → ((i : ℕ) → i < 64 → has_bit mask.low i ≡ nat_lt i count) → ((i : ℕ) → i < 64 → has_bit mask.middle i ≡ nat_lt i (count - 64)) →
+    ((i : ℕ) → i < 64 → has_bit mask.high i ≡ nat_lt i (count - 128)) → ((i : ℕ) → 64 ≤ i → has_bit mask.high i ≡ false)
     → has_place mask k ≡ nat_lt k count
 unfolding has_place
 places_below mask count k few low middle high above = elim (cases_lt k 64) [
@@ -243,17 +277,20 @@ places_below mask count k few low middle high above = elim (cases_lt k 64) [
 
 -- ---- the words as one number
 
-pub place_in_number : (mask : Mask) (n k : ℕ) → mask.low < 2 ^ 64 → mask.middle < 2 ^ 64 → n ≡ (mask.high * 2 ^ 64 + mask.middle) * 2 ^ 64 + mask.low → has_place mask k ≡ has_bit n k
+pub place_in_number : (mask : Mask) (n k : ℕ) → mask.low < 2 ^ 64 → mask.middle < 2 ^ 64 →
+    n ≡ (mask.high * 2 ^ 64 + mask.middle) * 2 ^ 64 + mask.low → has_place mask k ≡ has_bit n k
 unfolding has_place
 place_in_number mask n k low_fits middle_fits is = elim (cases_lt k 64) [
   | inl l ↦ rw (lt-ltb k 64 l, is) (ap (λ d. nat_eq d 1) (sym (bit_at_cat_low (mask.high * 2 ^ 64 + mask.middle) 64 mask.low k l)))
   | inr g ↦
       let upper = bit_at_cat_high (mask.high * 2 ^ 64 + mask.middle) 64 mask.low k low_fits g in
       elim (cases_lt k 128) [
-        | inl l ↦ rw (le-ltb k 64 g, lt-ltb k 128 l, is) (ap (λ d. nat_eq d 1) (sym (upper ∙ bit_at_cat_low mask.high 64 mask.middle (k - 64) (omega arith))))
+        | inl l ↦ rw (le-ltb k 64 g, lt-ltb k 128 l, is) (ap (λ d. nat_eq d 1)
+            (sym (upper ∙ bit_at_cat_low mask.high 64 mask.middle (k - 64) (omega arith))))
         | inr f ↦
             let next : k - 64 - 64 ≡ k - 128 = omega arith in
-            rw (le-ltb k 64 g, le-ltb k 128 f, is) (ap (λ d. nat_eq d 1) (sym (upper ∙ bit_at_cat_high mask.high 64 mask.middle (k - 64) middle_fits (omega arith) ∙ ap (bit_at mask.high) next)))
+            rw (le-ltb k 64 g, le-ltb k 128 f, is) (ap (λ d. nat_eq d 1)
+            (sym (upper ∙ bit_at_cat_high mask.high 64 mask.middle (k - 64) middle_fits (omega arith) ∙ ap (bit_at mask.high) next)))
       ]
 ]
 
@@ -286,4 +323,5 @@ high_from_below mask within = small_from_bits mask.high 28 (λ i h. sym (high_bi
 pub below_from_high : (mask : Mask) → mask.high < 2 ^ 28 → IsBelow mask 156
 below_from_high mask small k past =
     let back : 128 + (k - 128) ≡ k = omega arith in
-    ap (has_place mask) (sym back) ∙ high_bit mask (k - 128) ∙ ap (λ d. nat_eq d 1) (bit_at_above mask.high 28 (k - 128) small (omega arith))
+    ap (has_place mask) (sym back) ∙ high_bit mask (k - 128)
+    ∙ ap (λ d. nat_eq d 1) (bit_at_above mask.high 28 (k - 128) small (omega arith))

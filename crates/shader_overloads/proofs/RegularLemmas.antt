@@ -1,5 +1,6 @@
 -- The rules of a regular set and their numbers.
-use Rattle.std.proofs.Common.{All, ◌≡◌, ℕ, zero, suc, ◌+◌, ◌*◌, ◌/◌, ◌%◌, ◌^◌, ◌<◌, ◌≤◌, Bool, true, false, ◌&&◌, List, [], ◌∷◌, length, map, refl, sym, ◌∙◌, ap, arith, Some, None, get_or, slice_get, replicate, IfOk, Result, Ok, Err, Option}
+use Rattle.std.proofs.Common.{All, ◌≡◌, ℕ, zero, suc, ◌+◌, ◌*◌, ◌/◌, ◌%◌, ◌^◌, ◌<◌, ◌≤◌, Bool, true, false, ◌&&◌, List, [], ◌∷◌, length}
+use Rattle.std.proofs.Common.{map, refl, sym, ◌∙◌, ap, arith, Some, None, get_or, slice_get, replicate, IfOk, Result, Ok, Err, Option}
 use Rattle.std.specs.List.{filter, flat_map, list_all}
 use Rattle.std.specs.Option.{option_and_then}
 use Rattle.std.proofs.lemmas.Bool.{lt-ltb}
@@ -26,8 +27,10 @@ use Rattle.shader_overloads.specs.Masks.{IsBelow, has_place, rules_at}
 use Rattle.shader_overloads.specs.Regular.{all_rules}
 use Rattle.shader_overloads.specs.ScalarSets.{is_concrete_scalar, scalars_in}
 use Rattle.shader_overloads.specs.Rules.{regular_rules, rule_for}
-use Rattle.shader_overloads.specs.Remaining.{ArgumentFits, RuleFits, RulesFit, accepts, some_takes, takes, leaf_scalar, is_concrete, has_concrete_arguments}
-use Rattle.shader_overloads.proofs.ListLemmas.{ElementAt, element_at, items_where-combinations, items_where-filter, length-combinations, slice_get-combinations, slice_get-within}
+use Rattle.shader_overloads.specs.Remaining.{ArgumentFits, RuleFits, RulesFit, accepts, some_takes}
+use Rattle.shader_overloads.specs.Remaining.{takes, leaf_scalar, is_concrete, has_concrete_arguments}
+use Rattle.shader_overloads.proofs.ListLemmas.{ElementAt, element_at, items_where-combinations, items_where-filter}
+use Rattle.shader_overloads.proofs.ListLemmas.{length-combinations, slice_get-combinations, slice_get-within}
 use Rattle.shader_overloads.proofs.MaskLemmas.{all_bits}
 use Rattle.shader_overloads.proofs.PlaceLemmas.{below_from_high, high_from_below}
 use Rattle.shader_overloads.proofs.SetLemmas.{length-constructors, scalar_place}
@@ -44,16 +47,19 @@ slice_get-replicate_past zero i x h = refl
 slice_get-replicate_past (suc n) zero x h = absurd (omega arith)
 slice_get-replicate_past (suc n) (suc i) x h = slice_get-replicate_past n i x (omega arith)
 
-takes_parts : (ty : TypeInner) (from : Scalar) → leaf_scalar ty ≡ Some from → (size : ConstructorSize) (s : Scalar) → takes ty (to_inner size s) ≡ (is_made_by ty size && is_convertible from s)
+takes_parts : (ty : TypeInner) (from : Scalar) → leaf_scalar ty ≡ Some from → (size : ConstructorSize) (s : Scalar) →
+    takes ty (to_inner size s) ≡ (is_made_by ty size && is_convertible from s)
 takes_parts (types.Scalar t) from e sizes.Scalar s = let same : t ≡ from = cc in ap (λ v. is_convertible v s) same
 takes_parts (types.Scalar t) from e (sizes.Vector n) s = refl
 takes_parts (types.Scalar t) from e (sizes.Matrix m n) s = refl
 takes_parts (types.Vector size t) from e sizes.Scalar s = refl
-takes_parts (types.Vector size t) from e (sizes.Vector n) s = let same : t ≡ from = cc in ap (λ v. same_size size n && is_convertible v s) same
+takes_parts (types.Vector size t) from e (sizes.Vector n) s = let same : t ≡ from = cc in
+    ap (λ v. same_size size n && is_convertible v s) same
 takes_parts (types.Vector size t) from e (sizes.Matrix m n) s = refl
 takes_parts (types.Matrix c r t) from e sizes.Scalar s = refl
 takes_parts (types.Matrix c r t) from e (sizes.Vector n) s = refl
-takes_parts (types.Matrix c r t) from e (sizes.Matrix m n) s = let same : t ≡ from = cc in ap (λ v. same_size c m && same_size r n && is_convertible v s) same
+takes_parts (types.Matrix c r t) from e (sizes.Matrix m n) s = let same : t ≡ from = cc in
+    ap (λ v. same_size c m && same_size r n && is_convertible v s) same
 takes_parts ty from e size s = cc
 
 made_same : (a b : ConstructorSize) (s : Scalar) → is_made_by (to_inner a s) b ≡ same_constructor a b
@@ -67,7 +73,8 @@ made_same (sizes.Matrix m n) sizes.Scalar s = refl
 made_same (sizes.Matrix m n) (sizes.Vector k) s = refl
 made_same (sizes.Matrix m n) (sizes.Matrix c r) s = refl
 
-made_by_same : (ty : TypeInner) (size : ConstructorSize) (s : Scalar) → ty ≡ to_inner size s → (other : ConstructorSize) → is_made_by ty other ≡ same_constructor size other
+made_by_same : (ty : TypeInner) (size : ConstructorSize) (s : Scalar) → ty ≡ to_inner size s → (other : ConstructorSize) →
+    is_made_by ty other ≡ same_constructor size other
 made_by_same ty size s made other = ap (λ t. is_made_by t other) made ∙ made_same size other s
 
 leaf_made : (size : ConstructorSize) (s : Scalar) → leaf_scalar (to_inner size s) ≡ Some s
@@ -78,14 +85,19 @@ leaf_made (sizes.Matrix c r) s = refl
 leaf_of_made : (ty : TypeInner) (size : ConstructorSize) (s : Scalar) → ty ≡ to_inner size s → leaf_scalar ty ≡ Some s
 leaf_of_made ty size s made = ap leaf_scalar made ∙ leaf_made size s
 
-accepts_parts : (types : List «Type») (arity i : ℕ) (conclude : ConclusionRule) (ty : TypeInner) (from : Scalar) → leaf_scalar ty ≡ Some from → i < arity → (size : ConstructorSize) (s : Scalar) → accepts types i ty (rule_for arity conclude size s) ≡ (is_made_by ty size && is_convertible from s)
+accepts_parts : (types : List «Type») (arity i : ℕ) (conclude : ConclusionRule) (ty : TypeInner) (from : Scalar) →
+    leaf_scalar ty ≡ Some from → i < arity → (size : ConstructorSize) (s : Scalar) →
+    accepts types i ty (rule_for arity conclude size s) ≡ (is_made_by ty size && is_convertible from s)
 accepts_parts types arity i conclude ty from e h size s =
-    ap (λ argument. some_takes ty (option_and_then (inner_of types) argument)) (slice_get-replicate arity i (resolutions.Value (to_inner size s)) h)
+    ap (λ argument. some_takes ty (option_and_then (inner_of types) argument))
+    (slice_get-replicate arity i (resolutions.Value (to_inner size s)) h)
     ∙ takes_parts ty from e size s
 
-accepts_past : (types : List «Type») (arity i : ℕ) (conclude : ConclusionRule) (ty : TypeInner) → arity ≤ i → (size : ConstructorSize) (s : Scalar) → accepts types i ty (rule_for arity conclude size s) ≡ false
+accepts_past : (types : List «Type») (arity i : ℕ) (conclude : ConclusionRule) (ty : TypeInner) → arity ≤ i →
+    (size : ConstructorSize) (s : Scalar) → accepts types i ty (rule_for arity conclude size s) ≡ false
 accepts_past types arity i conclude ty h size s =
-    ap (λ argument. some_takes ty (option_and_then (inner_of types) argument)) (slice_get-replicate_past arity i (resolutions.Value (to_inner size s)) h)
+    ap (λ argument. some_takes ty (option_and_then (inner_of types) argument))
+    (slice_get-replicate_past arity i (resolutions.Value (to_inner size s)) h)
 
 list_all-replicate : {X : Type 0} (p : X → Bool) (n : ℕ) (x : X) → 0 < n → list_all p (replicate n x) ≡ p x
 list_all-replicate p zero x h = absurd (omega arith)
@@ -94,12 +106,14 @@ list_all-replicate p (suc (suc n)) x h =
     ap (λ b. p x && b) (list_all-replicate p (suc n) x (omega arith))
     ∙ elim (p x) as (λ b. (b && b) ≡ b) [ true ↦ refl | false ↦ refl ]
 
-is_concrete-to_inner : (types : List «Type») (size : ConstructorSize) (s : Scalar) → is_concrete types (Some (to_inner size s)) ≡ is_concrete_scalar s
+is_concrete-to_inner : (types : List «Type») (size : ConstructorSize) (s : Scalar) →
+    is_concrete types (Some (to_inner size s)) ≡ is_concrete_scalar s
 is_concrete-to_inner types sizes.Scalar s = refl
 is_concrete-to_inner types (sizes.Vector n) s = refl
 is_concrete-to_inner types (sizes.Matrix c r) s = refl
 
-concrete_parts : (types : List «Type») (arity : ℕ) (conclude : ConclusionRule) → 0 < arity → (size : ConstructorSize) (s : Scalar) → has_concrete_arguments types (rule_for arity conclude size s) ≡ is_concrete_scalar s
+concrete_parts : (types : List «Type») (arity : ℕ) (conclude : ConclusionRule) → 0 < arity → (size : ConstructorSize) (s : Scalar) →
+    has_concrete_arguments types (rule_for arity conclude size s) ≡ is_concrete_scalar s
 concrete_parts types arity conclude h size s =
     list_all-replicate (λ argument. is_concrete types (inner_of types argument)) arity (resolutions.Value (to_inner size s)) h
     ∙ is_concrete-to_inner types size s
@@ -112,7 +126,8 @@ length-scalars = refl
 
 pub length-all_rules : (table : RegularRows) → length (all_rules table) ≡ 156
 unfolding regular_rules
-length-all_rules table = length-combinations (rule_for table.arity table.conclude) all_constructors named_scalars ∙ rw (length-constructors, length-scalars) refl
+length-all_rules table = length-combinations (rule_for table.arity table.conclude) all_constructors named_scalars
+    ∙ rw (length-constructors, length-scalars) refl
 
 -- the parts of the rule of a number
 pub record RowParts (table : RegularRows) (row : ℕ) : Type 0 where
@@ -129,7 +144,8 @@ row_parts table row h =
     record {
       size = c;
       scalar = s;
-      is = ap (slice_get (all_rules table)) (sym at) ∙ slice_get-combinations (rule_for table.arity table.conclude) all_constructors named_scalars (row / 12) (row % 12) c.element s.element c.is s.is;
+      is = ap (slice_get (all_rules table)) (sym at) ∙ slice_get-combinations (rule_for table.arity table.conclude) all_constructors
+          named_scalars (row / 12) (row % 12) c.element s.element c.is s.is;
     }
 
 module _ (table : RegularRows) (row : ℕ) (rule : Rule) (at : slice_get (all_rules table) row ≡ Some rule) where
@@ -143,20 +159,25 @@ module _ (table : RegularRows) (row : ℕ) (rule : Rule) (at : slice_get (all_ru
   same_rule = cc (parts.is, at)
 
   -- an argument that the rule has
-  pub row_accepts : (types : List «Type») (i : ℕ) (ty : TypeInner) (size : ConstructorSize) (from : Scalar) (rows : Mask) → ty ≡ to_inner size from → i < table.arity
-      → ((k : ℕ) (other : ConstructorSize) (to : Scalar) → slice_get all_constructors (k / 12) ≡ Some other → slice_get named_scalars (k % 12) ≡ Some to → has_place rows k ≡ (same_constructor size other && is_convertible from to))
+  pub row_accepts : (types : List «Type») (i : ℕ) (ty : TypeInner) (size : ConstructorSize) (from : Scalar) (rows : Mask) →
+      ty ≡ to_inner size from → i < table.arity
+      → ((k : ℕ) (other : ConstructorSize) (to : Scalar) → slice_get all_constructors (k / 12) ≡ Some other →
+      slice_get named_scalars (k % 12) ≡ Some to → has_place rows k ≡ (same_constructor size other && is_convertible from to))
       → has_place rows row ≡ accepts types i ty rule
   row_accepts types i ty size from rows made h has =
       has row parts.size.element parts.scalar.element parts.size.is parts.scalar.is
       ∙ ap (λ b. b && is_convertible from parts.scalar.element) (sym (made_by_same ty size from made parts.size.element))
-      ∙ sym (accepts_parts types table.arity i table.conclude ty from (leaf_of_made ty size from made) h parts.size.element parts.scalar.element)
+      ∙ sym (accepts_parts types table.arity i table.conclude ty from (leaf_of_made ty size from made) h parts.size.element
+      parts.scalar.element)
       ∙ ap (accepts types i ty) same_rule
 
   -- one past its arguments
   pub row_past : (types : List «Type») (i : ℕ) (ty : TypeInner) → table.arity ≤ i → false ≡ accepts types i ty rule
-  row_past types i ty h = sym (accepts_past types table.arity i table.conclude ty h parts.size.element parts.scalar.element) ∙ ap (accepts types i ty) same_rule
+  row_past types i ty h = sym (accepts_past types table.arity i table.conclude ty h parts.size.element parts.scalar.element)
+      ∙ ap (accepts types i ty) same_rule
 
-  pub row_concrete : (types : List «Type») (s : ScalarSet) → 0 < table.arity → scalars_in s ≡ filter is_concrete_scalar named_scalars → has_bit s.0 (row % 12) ≡ has_concrete_arguments types rule
+  pub row_concrete : (types : List «Type») (s : ScalarSet) → 0 < table.arity → scalars_in s ≡ filter is_concrete_scalar named_scalars →
+      has_bit s.0 (row % 12) ≡ has_concrete_arguments types rule
   row_concrete types s many concrete =
       scalar_place is_concrete_scalar s (row % 12) parts.scalar.element concrete parts.scalar.is
       ∙ sym (concrete_parts types table.arity table.conclude many parts.size.element parts.scalar.element)
@@ -168,17 +189,22 @@ module _ (table : RegularRows) (row : ℕ) (rule : Rule) (at : slice_get (all_ru
       ∙ ap (has_concrete_arguments types) same_rule
 
 -- a mask of some numbers is one of those of the rules that pass a test
-pub kept_rows : (table : RegularRows) (q : Rule → Bool) (mask rows both : Mask) → ((row : ℕ) (rule : Rule) → slice_get (all_rules table) row ≡ Some rule → has_place rows row ≡ q rule) → ((k : ℕ) → has_place both k ≡ (has_place mask k && has_place rows k))
+pub kept_rows : (table : RegularRows) (q : Rule → Bool) (mask rows both : Mask) →
+    ((row : ℕ) (rule : Rule) → slice_get (all_rules table) row ≡ Some rule → has_place rows row ≡ q rule) →
+    ((k : ℕ) → has_place both k ≡ (has_place mask k && has_place rows k))
     → rules_at both (all_rules table) ≡ filter q (rules_at mask (all_rules table))
 kept_rows table q mask rows both tested met =
-    items_where-filter q (has_place mask) (has_place both) (all_rules table) (λ k rule at. met k ∙ ap (λ b. has_place mask k && b) (tested k rule at))
+    items_where-filter q (has_place mask) (has_place both) (all_rules table) (λ k rule at. met k
+    ∙ ap (λ b. has_place mask k && b) (tested k rule at))
 
 -- the numbers of the combinations of two sets
-pub rules_of_pairs : (table : RegularRows) (constructors : ConstructorSet) (scalars : ScalarSet) (mask : Mask) → ((k : ℕ) → k < 156 → has_place mask k ≡ (has_bit constructors.0 (k / 12) && has_bit scalars.0 (k % 12)))
+pub rules_of_pairs : (table : RegularRows) (constructors : ConstructorSet) (scalars : ScalarSet) (mask : Mask) →
+    ((k : ℕ) → k < 156 → has_place mask k ≡ (has_bit constructors.0 (k / 12) && has_bit scalars.0 (k % 12)))
     → rules_at mask (all_rules table) ≡ regular_rules table.arity table.conclude (constructors_in constructors) (scalars_in scalars)
 unfolding regular_rules
 rules_of_pairs table constructors scalars mask pairs =
-    items_where-combinations (rule_for table.arity table.conclude) (has_place mask) (has_bit constructors.0) (has_bit scalars.0) all_constructors named_scalars
+    items_where-combinations (rule_for table.arity table.conclude) (has_place mask) (has_bit constructors.0) (has_bit scalars.0)
+    all_constructors named_scalars
     (λ i j l n.
     let i_below : i < 13 = omega (arith, l, length-constructors) in
     let j_below : j < 12 = omega (arith, n, length-scalars) in
@@ -186,17 +212,21 @@ rules_of_pairs table constructors scalars mask pairs =
     let group : (i * 12 + j) / 12 ≡ i = omega arith in
     let place : (i * 12 + j) % 12 ≡ j = omega arith in
     ap (has_place mask) index ∙ pairs (i * 12 + j) (omega arith)
-    ∙ ap (λ k. has_bit constructors.0 k && has_bit scalars.0 ((i * 12 + j) % 12)) group ∙ ap (λ k. has_bit constructors.0 i && has_bit scalars.0 k) place)
+    ∙ ap (λ k. has_bit constructors.0 k && has_bit scalars.0 ((i * 12 + j) % 12)) group
+    ∙ ap (λ k. has_bit constructors.0 i && has_bit scalars.0 k) place)
 
 all_set : (k : ℕ) → k < 16 → has_bit 65535 k ≡ true
 all_set k h = all_bits 16 k ∙ lt-ltb k 16 h
 
 -- the numbers of all constructors and some scalars
-pub any_group : (mask : Mask) (scalars k : ℕ) → k < 156 → ((i : ℕ) → i < 156 → has_place mask i ≡ (has_bit 65535 (i / 12) && has_bit scalars (i % 12))) → has_place mask k ≡ has_bit scalars (k % 12)
+pub any_group : (mask : Mask) (scalars k : ℕ) → k < 156 →
+    ((i : ℕ) → i < 156 → has_place mask i ≡ (has_bit 65535 (i / 12) && has_bit scalars (i % 12))) →
+    has_place mask k ≡ has_bit scalars (k % 12)
 any_group mask scalars k h pairs = pairs k h ∙ ap (λ b. b && has_bit scalars (k % 12)) (all_set (k / 12) (omega arith))
 
 -- the numbers of all
-pub any_row : (mask : Mask) (k : ℕ) → k < 156 → ((i : ℕ) → i < 156 → has_place mask i ≡ (has_bit 65535 (i / 12) && has_bit 65535 (i % 12))) → has_place mask k ≡ true
+pub any_row : (mask : Mask) (k : ℕ) → k < 156 → ((i : ℕ) → i < 156 →
+    has_place mask i ≡ (has_bit 65535 (i / 12) && has_bit 65535 (i % 12))) → has_place mask k ≡ true
 any_row mask k h pairs = any_group mask 65535 k h pairs ∙ all_set (k % 12) (omega arith)
 
 pub regular_within : (table : RegularRows) (mask : Mask) → mask.high < 2 ^ 28 → IsBelow mask (length (all_rules table))
@@ -222,19 +252,23 @@ made_fits types sizes.Scalar s = (((λ k d h. absurd (omega arith)), tt), tt)
 made_fits types (sizes.Vector size) s = (((λ k d h. absurd (omega arith)), tt), tt)
 made_fits types (sizes.Matrix columns rows) s = (((λ k d h. absurd (omega arith)), tt), tt)
 
-rules_of_sizes-fit : (types : List «Type») (arity : ℕ) (conclude : ConclusionRule) (sizes : List ConstructorSize) (scalars : List Scalar) → All (RuleFits types) (flat_map (λ size. map (rule_for arity conclude size) scalars) sizes)
+rules_of_sizes-fit : (types : List «Type») (arity : ℕ) (conclude : ConclusionRule) (sizes : List ConstructorSize) (scalars : List Scalar) →
+    All (RuleFits types) (flat_map (λ size. map (rule_for arity conclude size) scalars) sizes)
 rules_of_sizes-fit types arity conclude [] scalars = λ k d h. absurd (omega arith)
 rules_of_sizes-fit types arity conclude (size ∷ sizes) scalars =
     All-append (RuleFits types) (map (rule_for arity conclude size) scalars) _
-    (All-map (RuleFits types) (rule_for arity conclude size) scalars (λ k d h. All-replicate (ArgumentFits types) arity _ (made_fits types size _)))
+    (All-map (RuleFits types) (rule_for arity conclude size) scalars
+    (λ k d h. All-replicate (ArgumentFits types) arity _ (made_fits types size _)))
     (rules_of_sizes-fit types arity conclude sizes scalars)
 
 -- the rules of a regular set fit any types
-pub regular_rules-fit : (types : List «Type») (arity : ℕ) (conclude : ConclusionRule) (sizes : List ConstructorSize) (scalars : List Scalar) → RulesFit types (regular_rules arity conclude sizes scalars)
+pub regular_rules-fit : (types : List «Type») (arity : ℕ) (conclude : ConclusionRule) (sizes : List ConstructorSize)
+    (scalars : List Scalar) → RulesFit types (regular_rules arity conclude sizes scalars)
 unfolding regular_rules
 regular_rules-fit types arity conclude sizes scalars = record { each = rules_of_sizes-fit types arity conclude sizes scalars }
 
-All_cons : {X : Type 0} (P : X → Type 0) (x : X) (xs : List X) → P x → All P xs → (k : ℕ) (d : X) → k < length (x ∷ xs) → P (get_or (x ∷ xs) k d)
+All_cons : {X : Type 0} (P : X → Type 0) (x : X) (xs : List X) → P x → All P xs → (k : ℕ) (d : X) → k < length (x ∷ xs) →
+    P (get_or (x ∷ xs) k d)
 All_cons P x xs first rest zero d h = first
 All_cons P x xs first rest (suc k) d h = rest k d (omega arith)
 
@@ -244,7 +278,11 @@ All_cons_if P false x xs first rest = rest
 
 All-items_where : {X : Type 0} (P : X → Type 0) (p : ℕ → Bool) (xs : List X) → All P xs → All P (items_where p xs)
 All-items_where P p [] all = all
-All-items_where P p (x ∷ xs) all = All_cons_if P (p 0) x (items_where (λ k. p (suc k)) xs) (All-head P x xs all) (All-items_where P (λ k. p (suc k)) xs (All-tail P x xs all))
+All-items_where P p (x ∷ xs) all = All_cons_if P (p 0) x (items_where (λ k. p (suc k)) xs) (All-head P x xs all)
+    (All-items_where P (λ k. p (suc k)) xs (All-tail P x xs all))
 
 pub masked_rules-fit : (types : List «Type») (table : RegularRows) (mask : Mask) → RulesFit types (rules_at mask (all_rules table))
-masked_rules-fit types table mask = record { each = All-items_where (RuleFits types) (has_place mask) (all_rules table) (regular_rules-fit types table.arity table.conclude all_constructors named_scalars).each }
+masked_rules-fit types table mask = record {
+  each = All-items_where (RuleFits types) (has_place mask) (all_rules table)
+      (regular_rules-fit types table.arity table.conclude all_constructors named_scalars).each;
+}

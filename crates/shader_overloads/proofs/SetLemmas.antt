@@ -1,5 +1,6 @@
 -- Sets of scalars and of constructors, joined and met.
-use Rattle.std.proofs.Common.{◌≡◌, ℕ, ◌<◌, Bool, true, false, ◌&&◌, ◌||◌, Option, length, refl, ◌∙◌, ap, arith, inl, inr, ◌⊎◌, bit_and, nat_eq, min, max, Some, slice_get}
+use Rattle.std.proofs.Common.{◌≡◌, ℕ, ◌<◌, Bool, true, false, ◌&&◌, ◌||◌, Option, length, refl, ◌∙◌}
+use Rattle.std.proofs.Common.{ap, arith, inl, inr, ◌⊎◌, bit_and, nat_eq, min, max, Some, slice_get}
 use Rattle.std.specs.List.{filter}
 use Rattle.std.specs.Int.{bit_at}
 use Rattle.std.specs.Int.RustNames.{bit_or}
@@ -20,7 +21,8 @@ use Rattle.shader_overloads.specs.declared.scalar_set.ScalarSet.{ScalarSet}
 use Rattle.shader_overloads.specs.Bits.{has_bit}
 use Rattle.shader_overloads.specs.ScalarSets.{scalars_in, has_scalar}
 use Rattle.shader_overloads.specs.Constructors.{constructors_in, has_constructor, all_constructors, same_constructor}
-use Rattle.shader_overloads.proofs.ListLemmas.{Places, items_where-and, items_where-filtered, places_from_list, places_of_members, places_of_either, Places-at, slice_get-within}
+use Rattle.shader_overloads.proofs.ListLemmas.{Places, items_where-and, items_where-filtered, places_from_list}
+use Rattle.shader_overloads.proofs.ListLemmas.{places_of_members, places_of_either, Places-at, slice_get-within}
 
 digit_cases : (a : ℕ) → a < 2 → (a ≡ 0) ⊎ (a ≡ 1)
 digit_cases a h = elim (cases_lt a 1) [ inl l ↦ inl (omega arith) | inr l ↦ inr (omega arith) ]
@@ -54,18 +56,61 @@ same_kind_self kinds.AbstractInt = refl
 same_kind_self kinds.AbstractFloat = refl
 
 same_kind_sym : (j k : ScalarKind) → same_kind j k ≡ same_kind k j
-same_kind_sym kinds.Sint k = elim k as (λ v. same_kind kinds.Sint v ≡ same_kind v kinds.Sint) [ kinds.Sint ↦ refl | kinds.Uint ↦ refl | kinds.Float ↦ refl | kinds.Bool ↦ refl | kinds.AbstractInt ↦ refl | kinds.AbstractFloat ↦ refl ]
-same_kind_sym kinds.Uint k = elim k as (λ v. same_kind kinds.Uint v ≡ same_kind v kinds.Uint) [ kinds.Sint ↦ refl | kinds.Uint ↦ refl | kinds.Float ↦ refl | kinds.Bool ↦ refl | kinds.AbstractInt ↦ refl | kinds.AbstractFloat ↦ refl ]
-same_kind_sym kinds.Float k = elim k as (λ v. same_kind kinds.Float v ≡ same_kind v kinds.Float) [ kinds.Sint ↦ refl | kinds.Uint ↦ refl | kinds.Float ↦ refl | kinds.Bool ↦ refl | kinds.AbstractInt ↦ refl | kinds.AbstractFloat ↦ refl ]
-same_kind_sym kinds.Bool k = elim k as (λ v. same_kind kinds.Bool v ≡ same_kind v kinds.Bool) [ kinds.Sint ↦ refl | kinds.Uint ↦ refl | kinds.Float ↦ refl | kinds.Bool ↦ refl | kinds.AbstractInt ↦ refl | kinds.AbstractFloat ↦ refl ]
-same_kind_sym kinds.AbstractInt k = elim k as (λ v. same_kind kinds.AbstractInt v ≡ same_kind v kinds.AbstractInt) [ kinds.Sint ↦ refl | kinds.Uint ↦ refl | kinds.Float ↦ refl | kinds.Bool ↦ refl | kinds.AbstractInt ↦ refl | kinds.AbstractFloat ↦ refl ]
-same_kind_sym kinds.AbstractFloat k = elim k as (λ v. same_kind kinds.AbstractFloat v ≡ same_kind v kinds.AbstractFloat) [ kinds.Sint ↦ refl | kinds.Uint ↦ refl | kinds.Float ↦ refl | kinds.Bool ↦ refl | kinds.AbstractInt ↦ refl | kinds.AbstractFloat ↦ refl ]
+same_kind_sym kinds.Sint k = elim k as (λ v. same_kind kinds.Sint v ≡ same_kind v kinds.Sint) [
+  | kinds.Sint ↦ refl
+  | kinds.Uint ↦ refl
+  | kinds.Float ↦ refl
+  | kinds.Bool ↦ refl
+  | kinds.AbstractInt ↦ refl
+  | kinds.AbstractFloat ↦ refl
+]
+same_kind_sym kinds.Uint k = elim k as (λ v. same_kind kinds.Uint v ≡ same_kind v kinds.Uint) [
+  | kinds.Sint ↦ refl
+  | kinds.Uint ↦ refl
+  | kinds.Float ↦ refl
+  | kinds.Bool ↦ refl
+  | kinds.AbstractInt ↦ refl
+  | kinds.AbstractFloat ↦ refl
+]
+same_kind_sym kinds.Float k = elim k as (λ v. same_kind kinds.Float v ≡ same_kind v kinds.Float) [
+  | kinds.Sint ↦ refl
+  | kinds.Uint ↦ refl
+  | kinds.Float ↦ refl
+  | kinds.Bool ↦ refl
+  | kinds.AbstractInt ↦ refl
+  | kinds.AbstractFloat ↦ refl
+]
+same_kind_sym kinds.Bool k = elim k as (λ v. same_kind kinds.Bool v ≡ same_kind v kinds.Bool) [
+  | kinds.Sint ↦ refl
+  | kinds.Uint ↦ refl
+  | kinds.Float ↦ refl
+  | kinds.Bool ↦ refl
+  | kinds.AbstractInt ↦ refl
+  | kinds.AbstractFloat ↦ refl
+]
+same_kind_sym kinds.AbstractInt k = elim k as (λ v. same_kind kinds.AbstractInt v ≡ same_kind v kinds.AbstractInt) [
+  | kinds.Sint ↦ refl
+  | kinds.Uint ↦ refl
+  | kinds.Float ↦ refl
+  | kinds.Bool ↦ refl
+  | kinds.AbstractInt ↦ refl
+  | kinds.AbstractFloat ↦ refl
+]
+same_kind_sym kinds.AbstractFloat k = elim k as (λ v. same_kind kinds.AbstractFloat v ≡ same_kind v kinds.AbstractFloat) [
+  | kinds.Sint ↦ refl
+  | kinds.Uint ↦ refl
+  | kinds.Float ↦ refl
+  | kinds.Bool ↦ refl
+  | kinds.AbstractInt ↦ refl
+  | kinds.AbstractFloat ↦ refl
+]
 
 pub same_scalar_self : (s : Scalar) → same_scalar s s ≡ true
 same_scalar_self s = and_from _ _ (same_kind_self s.kind) (eq-eqb s.width s.width refl)
 
 same_scalar_sym : (s t : Scalar) → same_scalar s t ≡ same_scalar t s
-same_scalar_sym s t = ap (λ b. b && nat_eq s.width t.width) (same_kind_sym s.kind t.kind) ∙ ap (λ b. same_kind t.kind s.kind && b) (nat_eq_equiv.symm s.width t.width)
+same_scalar_sym s t = ap (λ b. b && nat_eq s.width t.width) (same_kind_sym s.kind t.kind)
+    ∙ ap (λ b. same_kind t.kind s.kind && b) (nat_eq_equiv.symm s.width t.width)
 
 pub same_size_self : (n : VectorSize) → same_size n n ≡ true
 same_size_self Bi = refl
@@ -91,7 +136,8 @@ same_constructor_sym (sizes.Vector n) (sizes.Vector m) = same_size_sym n m
 same_constructor_sym (sizes.Vector n) (sizes.Matrix c r) = refl
 same_constructor_sym (sizes.Matrix c r) sizes.Scalar = refl
 same_constructor_sym (sizes.Matrix c r) (sizes.Vector m) = refl
-same_constructor_sym (sizes.Matrix c r) (sizes.Matrix m n) = ap (λ v. v && same_size r n) (same_size_sym c m) ∙ ap (λ v. same_size m c && v) (same_size_sym r n)
+same_constructor_sym (sizes.Matrix c r) (sizes.Matrix m n) =
+    ap (λ v. v && same_size r n) (same_size_sym c m) ∙ ap (λ v. same_size m c && v) (same_size_sym r n)
 
 -- ---- sets of scalars
 
@@ -100,17 +146,22 @@ unfolding named_scalars
 scalar_members set = places_of_members same_scalar same_scalar_self same_scalar_sym (has_bit set.0) named_scalars refl
 
 pub scalars_of_both : (a b both : ScalarSet) → both.0 ≡ bit_and a.0 b.0 → scalars_in both ≡ filter (has_scalar b) (scalars_in a)
-scalars_of_both a b both e = items_where-and (has_scalar b) (has_bit b.0) (has_bit a.0) (has_bit both.0) named_scalars (scalar_members b) (λ k. ap (λ n. has_bit n k) e ∙ has_bit-and a.0 b.0 k)
+scalars_of_both a b both e = items_where-and (has_scalar b) (has_bit b.0) (has_bit a.0) (has_bit both.0) named_scalars (scalar_members b)
+    (λ k. ap (λ n. has_bit n k) e ∙ has_bit-and a.0 b.0 k)
 
-pub scalars_of_either : (a b either : ScalarSet) → either.0 ≡ bit_or a.0 b.0 → scalars_in either ≡ filter (λ scalar. has_scalar a scalar || has_scalar b scalar) named_scalars
+pub scalars_of_either : (a b either : ScalarSet) → either.0 ≡ bit_or a.0 b.0 →
+    scalars_in either ≡ filter (λ scalar. has_scalar a scalar || has_scalar b scalar) named_scalars
 scalars_of_either a b either e =
     items_where-filtered _ (has_bit either.0) named_scalars
-    (places_of_either (has_scalar a) (has_scalar b) (has_bit a.0) (has_bit b.0) (has_bit either.0) named_scalars (scalar_members a) (scalar_members b) (λ k. ap (λ n. has_bit n k) e ∙ has_bit-or a.0 b.0 k))
+    (places_of_either (has_scalar a) (has_scalar b) (has_bit a.0) (has_bit b.0) (has_bit either.0) named_scalars (scalar_members a)
+    (scalar_members b) (λ k. ap (λ n. has_bit n k) e ∙ has_bit-or a.0 b.0 k))
 
 -- whether a set of the scalars that pass has the scalar of a place
-pub scalar_place : (q : Scalar → Bool) (set : ScalarSet) (k : ℕ) (s : Scalar) → scalars_in set ≡ filter q named_scalars → slice_get named_scalars k ≡ Some s → has_bit set.0 k ≡ q s
+pub scalar_place : (q : Scalar → Bool) (set : ScalarSet) (k : ℕ) (s : Scalar) → scalars_in set ≡ filter q named_scalars →
+    slice_get named_scalars k ≡ Some s → has_bit set.0 k ≡ q s
 unfolding named_scalars
-scalar_place q set k s e at = Places-at (has_bit set.0) q named_scalars k s (places_from_list same_scalar same_scalar_self q (has_bit set.0) named_scalars refl e) at
+scalar_place q set k s e at = Places-at (has_bit set.0) q named_scalars k s
+    (places_from_list same_scalar same_scalar_self q (has_bit set.0) named_scalars refl e) at
 
 -- ---- sets of constructors
 
@@ -120,15 +171,20 @@ same_some _ _ = false
 
 constructor_members : (set : ConstructorSet) → Places (has_bit set.0) (has_constructor set) all_constructors
 unfolding all_constructors
-constructor_members set = places_of_members same_constructor same_constructor_self same_constructor_sym (has_bit set.0) all_constructors refl
+constructor_members set = places_of_members same_constructor same_constructor_self same_constructor_sym (has_bit set.0)
+    all_constructors refl
 
-pub constructors_of_both : (a b both : ConstructorSet) → both.0 ≡ bit_and a.0 b.0 → constructors_in both ≡ filter (has_constructor b) (constructors_in a)
-constructors_of_both a b both e = items_where-and (has_constructor b) (has_bit b.0) (has_bit a.0) (has_bit both.0) all_constructors (constructor_members b) (λ k. ap (λ n. has_bit n k) e ∙ has_bit-and a.0 b.0 k)
+pub constructors_of_both : (a b both : ConstructorSet) → both.0 ≡ bit_and a.0 b.0 →
+    constructors_in both ≡ filter (has_constructor b) (constructors_in a)
+constructors_of_both a b both e = items_where-and (has_constructor b) (has_bit b.0) (has_bit a.0) (has_bit both.0) all_constructors
+    (constructor_members b) (λ k. ap (λ n. has_bit n k) e ∙ has_bit-and a.0 b.0 k)
 
-pub constructors_of_either : (a b either : ConstructorSet) → either.0 ≡ bit_or a.0 b.0 → constructors_in either ≡ filter (λ size. has_constructor a size || has_constructor b size) all_constructors
+pub constructors_of_either : (a b either : ConstructorSet) → either.0 ≡ bit_or a.0 b.0 →
+    constructors_in either ≡ filter (λ size. has_constructor a size || has_constructor b size) all_constructors
 constructors_of_either a b either e =
     items_where-filtered _ (has_bit either.0) all_constructors
-    (places_of_either (has_constructor a) (has_constructor b) (has_bit a.0) (has_bit b.0) (has_bit either.0) all_constructors (constructor_members a) (constructor_members b) (λ k. ap (λ n. has_bit n k) e ∙ has_bit-or a.0 b.0 k))
+    (places_of_either (has_constructor a) (has_constructor b) (has_bit a.0) (has_bit b.0) (has_bit either.0) all_constructors
+    (constructor_members a) (constructor_members b) (λ k. ap (λ n. has_bit n k) e ∙ has_bit-or a.0 b.0 k))
 
 -- the test of equality, by places
 same_at : ℕ → ℕ → Bool
@@ -145,9 +201,11 @@ pub length-constructors : length all_constructors ≡ 13
 unfolding all_constructors
 length-constructors = refl
 
-pub same_place : (j k : ℕ) (size other : ConstructorSize) → slice_get all_constructors j ≡ Some size → slice_get all_constructors k ≡ Some other → nat_eq k j ≡ same_constructor size other
+pub same_place : (j k : ℕ) (size other : ConstructorSize) → slice_get all_constructors j ≡ Some size →
+    slice_get all_constructors k ≡ Some other → nat_eq k j ≡ same_constructor size other
 unfolding same_at same_some
 same_place j k size other at_j at_k =
-    constructors_apart j k (omega (arith, slice_get-within all_constructors j size at_j, length-constructors)) (omega (arith, slice_get-within all_constructors k other at_k, length-constructors))
+    constructors_apart j k (omega (arith, slice_get-within all_constructors j size at_j, length-constructors))
+    (omega (arith, slice_get-within all_constructors k other at_k, length-constructors))
     ∙ ap (λ o. same_some o (slice_get all_constructors k)) at_j
     ∙ ap (same_some (Some size)) at_k

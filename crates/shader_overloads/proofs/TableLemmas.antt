@@ -1,5 +1,6 @@
 -- Walks over the rules whose numbers are in a mask.
-use Rattle.std.proofs.Common.{◌≡◌, ◌≢◌, ℕ, zero, suc, ◌<◌, ◌≤◌, Bool, true, false, not, ◌&&◌, ◌||◌, List, [], ◌∷◌, ◌++◌, length, refl, sym, ◌∙◌, ap, arith, inl, inr, nat_eq, Option, Some, None, slice_get, get_or, append_assoc, IfNone, IfSome, ◌↔◌}
+use Rattle.std.proofs.Common.{◌≡◌, ◌≢◌, ℕ, zero, suc, ◌<◌, ◌≤◌, Bool, true, false, not, ◌&&◌, ◌||◌, List, [], ◌∷◌, ◌++◌, length, refl, sym}
+use Rattle.std.proofs.Common.{◌∙◌, ap, arith, inl, inr, nat_eq, Option, Some, None, slice_get, get_or, append_assoc, IfNone, IfSome, ◌↔◌}
 use Rattle.std.specs.Option.{is_some}
 use Rattle.std.specs.List.{filter}
 use Rattle.std.proofs.lemmas.Bool.{and_parts, both_ways, cases_eq, cases_lt, eq-eqb, ne_eqb}
@@ -8,7 +9,8 @@ use Rattle.shader_overloads.specs.declared.mask.Mask.{Mask}
 use Rattle.shader_overloads.specs.declared.rule.Rule.{Rule}
 use Rattle.shader_overloads.specs.Masks.{IsBelow, IsLeastPlace, IsTaken, RowFits, has_place, rules_at}
 use Rattle.shader_overloads.specs.Remaining.{RuleFits, RulesFit}
-use Rattle.shader_overloads.proofs.ListLemmas.{element_at, first_within, items_where-filter, items_where-first, items_where-none, items_where-split, slice_get-within}
+use Rattle.shader_overloads.proofs.ListLemmas.{element_at, first_within, items_where-filter, items_where-first}
+use Rattle.shader_overloads.proofs.ListLemmas.{items_where-none, items_where-split, slice_get-within}
 use Rattle.shader_overloads.proofs.MaskLemmas.{member_has, no_element}
 
 -- all numbers of one set are in another
@@ -28,14 +30,17 @@ taken_within mask left next row bound within inside taken = elim (cases_lt row b
 ]
 
 -- the rule of a number that is taken is among those that fit
-pub taken_fits : (types : List «Type») (mask left next : Mask) (rows : List Rule) (row : ℕ) → RulesFit types (rules_at mask rows) → IsInside left mask → IsTaken left row next → RowFits types rows row
-taken_fits types mask left next rows row fits inside taken rule at = member_has (RuleFits types) (has_place mask) rows row rule fits.each (inside row taken.first.here) at
+pub taken_fits : (types : List «Type») (mask left next : Mask) (rows : List Rule) (row : ℕ) → RulesFit types (rules_at mask rows) →
+    IsInside left mask → IsTaken left row next → RowFits types rows row
+taken_fits types mask left next rows row fits inside taken rule at =
+    member_has (RuleFits types) (has_place mask) rows row rule fits.each (inside row taken.first.here) at
 
 -- ---- the numbers of the rules that pass a test
 
 -- of the numbers that are no longer left, those are kept whose rule passes
 abbrev pub Decided : (Rule → Bool) → Mask → Mask → Mask → List Rule → Type 0
-Decided q mask left kept rows = (k : ℕ) (rule : Rule) → slice_get rows k ≡ Some rule → has_place kept k ≡ (has_place mask k && (not (has_place left k) && q rule))
+Decided q mask left kept rows = (k : ℕ) (rule : Rule) → slice_get rows k ≡ Some rule →
+    has_place kept k ≡ (has_place mask k && (not (has_place left k) && q rule))
 
 but_true : (b : Bool) → (b && not true) ≡ false
 but_true true = refl
@@ -58,7 +63,9 @@ module _ (q : Rule → Bool) (mask : Mask) (rows : List Rule) where
   pub decided_none : (kept : Mask) → ((k : ℕ) → has_place kept k ≡ false) → Decided q mask mask kept rows
   decided_none kept none k rule at = none k ∙ undecided (has_place mask k) (q rule)
 
-  pub decided_in : (left next kept more : Mask) (row : ℕ) → ((rule : Rule) → slice_get rows row ≡ Some rule → q rule ≡ true) → IsInside left mask → IsTaken left row next → ((k : ℕ) → has_place more k ≡ (nat_eq k row || has_place kept k)) → Decided q mask left kept rows → Decided q mask next more rows
+  pub decided_in : (left next kept more : Mask) (row : ℕ) → ((rule : Rule) → slice_get rows row ≡ Some rule → q rule ≡ true) →
+      IsInside left mask → IsTaken left row next → ((k : ℕ) → has_place more k ≡ (nat_eq k row || has_place kept k)) →
+      Decided q mask left kept rows → Decided q mask next more rows
   decided_in left next kept more row passes inside taken put so k rule at = elim (cases_eq k row) [
     | inl e ↦
         let gone : has_place next k ≡ false = taken.others k ∙ rw (eq-eqb k row e) (but_true (has_place left k)) in
@@ -70,21 +77,26 @@ module _ (q : Rule → Bool) (mask : Mask) (rows : List Rule) where
         put k ∙ rw (ne_eqb k row ne, same) (so k rule at)
   ]
 
-  pub decided_out : (left next kept : Mask) (row : ℕ) → ((rule : Rule) → slice_get rows row ≡ Some rule → q rule ≡ false) → IsTaken left row next → Decided q mask left kept rows → Decided q mask next kept rows
+  pub decided_out : (left next kept : Mask) (row : ℕ) → ((rule : Rule) → slice_get rows row ≡ Some rule → q rule ≡ false) →
+      IsTaken left row next → Decided q mask left kept rows → Decided q mask next kept rows
   decided_out left next kept row fails taken so k rule at = elim (cases_eq k row) [
     | inl e ↦
         let refused : q rule ≡ false = fails rule (sym (ap (slice_get rows) e) ∙ at) in
-        so k rule at ∙ rw refused (failed (has_place mask k) (not (has_place left k)) ∙ sym (failed (has_place mask k) (not (has_place next k))))
+        so k rule at ∙ rw refused (failed (has_place mask k) (not (has_place left k))
+        ∙ sym (failed (has_place mask k) (not (has_place next k))))
     | inr ne ↦
         let same : has_place next k ≡ has_place left k = taken.others k ∙ rw (ne_eqb k row ne) (but_false (has_place left k)) in
         so k rule at ∙ rw same refl
   ]
 
-  pub decided_all : (left kept : Mask) → ((k : ℕ) → has_place left k ≡ false) → Decided q mask left kept rows → rules_at kept rows ≡ filter q (rules_at mask rows)
+  pub decided_all : (left kept : Mask) → ((k : ℕ) → has_place left k ≡ false) → Decided q mask left kept rows →
+      rules_at kept rows ≡ filter q (rules_at mask rows)
   decided_all left kept none so =
-      items_where-filter q (has_place mask) (has_place kept) rows (λ k rule at. so k rule at ∙ ap (λ b. has_place mask k && (not b && q rule)) (none k))
+      items_where-filter q (has_place mask) (has_place kept) rows (λ k rule at. so k rule at
+      ∙ ap (λ b. has_place mask k && (not b && q rule)) (none k))
 
-pub put_within : (kept more : Mask) (row bound : ℕ) → row < bound → ((k : ℕ) → has_place more k ≡ (nat_eq k row || has_place kept k)) → IsBelow kept bound → IsBelow more bound
+pub put_within : (kept more : Mask) (row bound : ℕ) → row < bound → ((k : ℕ) → has_place more k ≡ (nat_eq k row || has_place kept k)) →
+    IsBelow kept bound → IsBelow more bound
 put_within kept more row bound h put within k past = put k ∙ rw (ne_eqb k row (λ e. omega arith)) (within k past)
 
 -- ---- the rules one after another
@@ -94,9 +106,11 @@ get_or-found [] k x at = refl
 get_or-found (y ∷ xs) zero x at = cc
 get_or-found (y ∷ xs) (suc k) x at = get_or-found xs k x at
 
-pub next_rule : (left next : Mask) (rows : List Rule) (row : ℕ) (rule : Rule) → slice_get rows row ≡ Some rule → IsTaken left row next → rules_at left rows ≡ rule ∷ rules_at next rows
+pub next_rule : (left next : Mask) (rows : List Rule) (row : ℕ) (rule : Rule) → slice_get rows row ≡ Some rule → IsTaken left row next →
+    rules_at left rows ≡ rule ∷ rules_at next rows
 next_rule left next rows row rule at taken =
-    items_where-split (has_place left) (has_place next) rows row rule taken.first.least taken.first.here gone same (slice_get-within rows row rule at)
+    items_where-split (has_place left) (has_place next) rows row rule taken.first.least taken.first.here gone same
+    (slice_get-within rows row rule at)
     ∙ ap (λ r. r ∷ rules_at next rows) (get_or-found rows row rule at)
   where
     gone : (i : ℕ) → i ≤ row → has_place next i ≡ false
@@ -109,7 +123,9 @@ next_rule left next rows row rule at taken =
     same i h = taken.others i ∙ rw (ne_eqb i row (λ e. omega arith)) (but_false (has_place left i))
 
 -- the rules so far grow by the next one
-pub listed_next : (mask left next : Mask) (rows done more : List Rule) (row : ℕ) (rule : Rule) → slice_get rows row ≡ Some rule → IsTaken left row next → more ≡ done ++ rule ∷ [] → done ++ rules_at left rows ≡ rules_at mask rows → more ++ rules_at next rows ≡ rules_at mask rows
+pub listed_next : (mask left next : Mask) (rows done more : List Rule) (row : ℕ) (rule : Rule) → slice_get rows row ≡ Some rule →
+    IsTaken left row next → more ≡ done ++ rule ∷ [] → done ++ rules_at left rows ≡ rules_at mask rows →
+    more ++ rules_at next rows ≡ rules_at mask rows
 listed_next mask left next rows done more row rule at taken grown so =
     ap (λ list. list ++ rules_at next rows) grown
     ∙ append_assoc done (rule ∷ []) (rules_at next rows)
@@ -121,7 +137,8 @@ none_at mask rows none = items_where-none (has_place mask) rows (λ i h. none i)
 
 -- ---- the first rule
 
-pub first_at : (mask : Mask) (rows : List Rule) (row : ℕ) → rules_at mask rows ≢ [] → IsLeastPlace mask row → (row < length rows) × (slice_get (rules_at mask rows) 0 ≡ slice_get rows row)
+pub first_at : (mask : Mask) (rows : List Rule) (row : ℕ) → rules_at mask rows ≢ [] → IsLeastPlace mask row →
+    (row < length rows) × (slice_get (rules_at mask rows) 0 ≡ slice_get rows row)
 first_at mask rows row some first =
     let within = first_within (has_place mask) rows row first.least some in
     (within, items_where-first (has_place mask) rows row first.least first.here within)
@@ -130,12 +147,16 @@ some_at : (mask : Mask) (rows : List Rule) (row : ℕ) → IsBelow mask (length 
 some_at mask rows row within first none = elim (cases_lt row (length rows)) [
   | inl near ↦
       let element = element_at rows row near in
-      no_element (rules_at mask rows) 0 element.element none (items_where-first (has_place mask) rows row first.least first.here near ∙ element.is)
+      no_element (rules_at mask rows) 0 element.element none
+      (items_where-first (has_place mask) rows row first.least first.here near ∙ element.is)
   | inr far ↦ both_ways (has_place mask row) (within row far) first.here
 ]
 
-pub empty_mask : (mask : Mask) (rows : List Rule) (found : Option ℕ) (empty : Bool) → IsBelow mask (length rows) → is_some found ≡ not empty → IfNone found ((k : ℕ) → has_place mask k ≡ false) → IfSome found (IsLeastPlace mask) → (empty ≡ true) ↔ (rules_at mask rows ≡ [])
+pub empty_mask : (mask : Mask) (rows : List Rule) (found : Option ℕ) (empty : Bool) → IsBelow mask (length rows) →
+    is_some found ≡ not empty → IfNone found ((k : ℕ) → has_place mask k ≡ false) → IfSome found (IsLeastPlace mask) →
+    (empty ≡ true) ↔ (rules_at mask rows ≡ [])
 empty_mask mask rows None true within told none first = (λ _. none_at mask rows none, λ _. refl)
 empty_mask mask rows None false within told none first = absurd (both_ways false refl told)
 empty_mask mask rows (Some row) true within told none first = absurd (both_ways true told refl)
-empty_mask mask rows (Some row) false within told none first = (λ h. absurd (both_ways false refl h), λ e. absurd (some_at mask rows row within first e))
+empty_mask mask rows (Some row) false within told none first =
+    (λ h. absurd (both_ways false refl h), λ e. absurd (some_at mask rows row within first e))

@@ -37,12 +37,18 @@ pub same_type-told : (a b : TypeInner) → same_type a b ≡ true → a ≡ b
 same_type-told a b e = inner_coded.inj a b (same_code-told (inner_coded.code a) (inner_coded.code b) e)
 
 -- an equivalent type is taken
-pub takes_same : (types : List «Type») (ty : TypeInner) (argument : TypeResolution) (goal : TypeInner) → inner_of types argument ≡ Some goal → canonical types ty ≡ canonical types goal → true ≡ some_list_takes types ty (inner_of types argument)
+pub takes_same : (types : List «Type») (ty : TypeInner) (argument : TypeResolution) (goal : TypeInner) →
+    inner_of types argument ≡ Some goal → canonical types ty ≡ canonical types goal →
+    true ≡ some_list_takes types ty (inner_of types argument)
 takes_same types ty argument goal e same =
-    sym (ap (some_list_takes types ty) e ∙ ap (λ b. b || is_some (conversion (tree_of types ty) (tree_of types goal))) (same_type-from (canonical types ty) (canonical types goal) same))
+    sym (ap (some_list_takes types ty) e ∙ ap (λ b. b || is_some (conversion (tree_of types ty) (tree_of types goal)))
+    (same_type-from (canonical types ty) (canonical types goal) same))
 
 -- another type is taken where it converts
-pub takes_converted : (types : List «Type») (ty : TypeInner) (argument : TypeResolution) (goal : TypeInner) → inner_of types argument ≡ Some goal → (canonical types ty ≡ canonical types goal → ⊥) → is_some (conversion (tree_of types ty) (tree_of types goal)) ≡ some_list_takes types ty (inner_of types argument)
+pub takes_converted : (types : List «Type») (ty : TypeInner) (argument : TypeResolution) (goal : TypeInner) →
+    inner_of types argument ≡ Some goal → (canonical types ty ≡ canonical types goal → ⊥) →
+    is_some (conversion (tree_of types ty) (tree_of types goal)) ≡ some_list_takes types ty (inner_of types argument)
 takes_converted types ty argument goal e other =
     sym (ap (some_list_takes types ty) e
-    ∙ ap (λ b. b || is_some (conversion (tree_of types ty) (tree_of types goal))) (false_from_ne_true _ (λ same. other (same_type-told (canonical types ty) (canonical types goal) same))))
+    ∙ ap (λ b. b || is_some (conversion (tree_of types ty) (tree_of types goal)))
+    (false_from_ne_true _ (λ same. other (same_type-told (canonical types ty) (canonical types goal) same))))

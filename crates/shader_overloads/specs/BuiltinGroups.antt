@@ -9,15 +9,20 @@ use Rattle.shader_overloads.specs.Builtins.{rules_of}
 
 -- floats, component by component
 abbrev pub float_functions : List MathFunction
-float_functions = f.Sin ∷ f.Cos ∷ f.Tan ∷ f.Asin ∷ f.Acos ∷ f.Atan ∷ f.Sinh ∷ f.Cosh ∷ f.Tanh ∷ f.Asinh ∷ f.Acosh ∷ f.Atanh ∷ f.Saturate ∷ f.Radians ∷ f.Degrees ∷ f.Ceil ∷ f.Floor ∷ f.Round ∷ f.Fract ∷ f.Trunc ∷ f.Exp ∷ f.Exp2 ∷ f.Log ∷ f.Log2 ∷ f.Sqrt ∷ f.InverseSqrt ∷ f.Atan2 ∷ f.Pow ∷ f.Step ∷ f.Fma ∷ f.SmoothStep ∷ f.QuantizeToF16 ∷ []
+float_functions = f.Sin ∷ f.Cos ∷ f.Tan ∷ f.Asin ∷ f.Acos ∷ f.Atan ∷ f.Sinh ∷ f.Cosh ∷ f.Tanh ∷ f.Asinh ∷ f.Acosh ∷ f.Atanh ∷ f.Saturate
+    ∷ f.Radians ∷ f.Degrees ∷ f.Ceil ∷ f.Floor ∷ f.Round ∷ f.Fract ∷ f.Trunc ∷ f.Exp ∷ f.Exp2 ∷ f.Log ∷ f.Log2 ∷ f.Sqrt ∷ f.InverseSqrt
+    ∷ f.Atan2 ∷ f.Pow ∷ f.Step ∷ f.Fma ∷ f.SmoothStep ∷ f.QuantizeToF16 ∷ []
 
 -- numbers or integers, component by component
 abbrev pub number_functions : List MathFunction
-number_functions = f.Abs ∷ f.Sign ∷ f.Min ∷ f.Max ∷ f.Clamp ∷ f.CountTrailingZeros ∷ f.CountLeadingZeros ∷ f.CountOneBits ∷ f.ReverseBits ∷ f.FirstTrailingBit ∷ f.FirstLeadingBit ∷ []
+number_functions = f.Abs ∷ f.Sign ∷ f.Min ∷ f.Max ∷ f.Clamp ∷ f.CountTrailingZeros ∷ f.CountLeadingZeros ∷ f.CountOneBits ∷ f.ReverseBits
+    ∷ f.FirstTrailingBit ∷ f.FirstLeadingBit ∷ []
 
 -- numbers that are packed into a word, or words of packed numbers
 abbrev pub packing_functions : List MathFunction
-packing_functions = f.Pack4x8snorm ∷ f.Pack4x8unorm ∷ f.Pack2x16snorm ∷ f.Pack2x16unorm ∷ f.Pack2x16float ∷ f.Pack4xI8 ∷ f.Pack4xI8Clamp ∷ f.Pack4xU8 ∷ f.Pack4xU8Clamp ∷ f.Unpack4x8snorm ∷ f.Unpack4x8unorm ∷ f.Unpack2x16snorm ∷ f.Unpack2x16unorm ∷ f.Unpack2x16float ∷ f.Unpack4xI8 ∷ f.Unpack4xU8 ∷ f.Dot4I8Packed ∷ f.Dot4U8Packed ∷ []
+packing_functions = f.Pack4x8snorm ∷ f.Pack4x8unorm ∷ f.Pack2x16snorm ∷ f.Pack2x16unorm ∷ f.Pack2x16float ∷ f.Pack4xI8 ∷ f.Pack4xI8Clamp
+    ∷ f.Pack4xU8 ∷ f.Pack4xU8Clamp ∷ f.Unpack4x8snorm ∷ f.Unpack4x8unorm ∷ f.Unpack2x16snorm ∷ f.Unpack2x16unorm ∷ f.Unpack2x16float
+    ∷ f.Unpack4xI8 ∷ f.Unpack4xU8 ∷ f.Dot4I8Packed ∷ f.Dot4U8Packed ∷ []
 
 -- vectors, of which products, lengths or directions are taken
 abbrev pub geometric_functions : List MathFunction

@@ -87,7 +87,8 @@ outer_rules =
 -- of two vectors and a scalar
 unfoldable pub refract_rules : List Rule
 refract_rules =
-    flat_map (λ size. map (λ s. rule (types.Vector size s ∷ types.Vector size s ∷ types.Scalar s ∷ []) (types.Vector size s)) all_floats) vector_sizes
+    flat_map (λ size. map (λ s. rule (types.Vector size s ∷ types.Vector size s ∷ types.Scalar s ∷ []) (types.Vector size s))
+    all_floats) vector_sizes
 
 -- of a matrix, the one with columns and rows exchanged
 unfoldable pub transpose_rules : List Rule

@@ -14,7 +14,8 @@ after_call accepting types call rules = filter (λ rule. passes accepting types 
 abbrev pub CallsCommute : Type 0
 CallsCommute =
     (accepting : List «Type» → ℕ → TypeInner → Rule → Bool) (types : List «Type») (first second : SetCall) (rules : List Rule)
-    → after_call accepting types second (after_call accepting types first rules) ≡ after_call accepting types first (after_call accepting types second rules)
+    → after_call accepting types second (after_call accepting types first rules)
+    ≡ after_call accepting types first (after_call accepting types second rules)
 
 -- a call that is repeated leaves all rules
 abbrev pub CallsRepeat : Type 0

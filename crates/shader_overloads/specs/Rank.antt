@@ -1,5 +1,6 @@
 -- How far a conversion goes, and which of two rules the supplied arguments would rather have.
-use Rattle.std.specs.Prelude.{◌≡◌, ◌<◌, ◌&&◌, ℕ, Bool, true, false, List, [], ◌∷◌, ◌++◌, length, map, Option, Some, None, option_and_then, slice_get}
+use Rattle.std.specs.Prelude.{◌≡◌, ◌<◌, ◌&&◌, ℕ, Bool, true, false, List, [], ◌∷◌, ◌++◌}
+use Rattle.std.specs.Prelude.{length, map, Option, Some, None, option_and_then, slice_get}
 use Rattle.shader_ir.specs.declared.scalar.Scalar as s
 use Rattle.shader_ir.specs.declared.scalar.ScalarKind.TheVariants.{Sint, Uint, Float}
 use Rattle.shader_ir.specs.declared.types.«Type».{«Type»}

@@ -1,5 +1,6 @@
 -- Which rules accept an argument, and the rules that remain after the calls on a set.
-use Rattle.std.specs.Prelude.{ℕ, Bool, true, false, not, ◌&&◌, ◌||◌, List, filter, slice_get, length, All, Option, Some, None, option_and_then, is_some, IfSome}
+use Rattle.std.specs.Prelude.{ℕ, Bool, true, false, not, ◌&&◌, ◌||◌, List, filter, slice_get, length}
+use Rattle.std.specs.Prelude.{All, Option, Some, None, option_and_then, is_some, IfSome}
 use Rattle.std.specs.List.{list_all}
 use Rattle.shader_ir.specs.declared.scalar.Scalar as s
 use Rattle.shader_ir.specs.declared.types.«Type».{«Type»}
@@ -95,7 +96,7 @@ pub record RulesFit (types : List «Type») (rules : List Rule) : Type 0 where
 
 -- a struct that is no type of the arena
 abbrev pub is_free_struct : TypeResolution → Bool
-is_free_struct (resolutions.Value (Struct members span)) = true
+is_free_struct (resolutions.Value (Struct span members)) = true
 is_free_struct _ = false
 
 abbrev pub has_no_struct : Rule → Bool

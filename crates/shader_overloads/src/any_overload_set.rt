@@ -9,7 +9,9 @@ use std::alloc::{AllocError, Global};
 /// An overload set of either kind.
 #[derive(Drop)]
 pub enum AnyOverloadSet {
+    /// Rules that are listed one by one.
     List(List),
+    /// All combinations of constructors and scalars.
     Regular(Regular),
 }
 

@@ -1,7 +1,8 @@
 //! Sets of type constructors.
 ghost use Rattle.std.specs.Prelude.{⊤, codes, ◌≡◌, ◌==◌, ◌≢◌, ◌↔◌, ◌<◌, ◌||◌, [], ◌∷◌, length, filter, map, IsTrue, Some, slice_get};
 ghost use Rattle.std.specs.Iterator.{YieldsFirstBy, item_count};
-ghost use Rattle.shader_overloads.specs.Constructors.{all_constructors, constructors_in, has_constructor, is_made_by, same_constructor, to_inner};
+ghost use Rattle.shader_overloads.specs.Constructors.{all_constructors, constructors_in, has_constructor};
+ghost use Rattle.shader_overloads.specs.Constructors.{is_made_by, same_constructor, to_inner};
 
 use bitflags::{Flag, Flags};
 use shader_ir::{Scalar, TypeInner, VectorSize};
@@ -11,8 +12,11 @@ use std::ops::{BitAnd, BitOr};
 /// What a type constructor makes of a scalar.
 #[derive(Clone, Copy, Debug)]
 pub enum ConstructorSize {
+    /// The scalar itself.
     Scalar,
+    /// A vector of it.
     Vector(VectorSize),
+    /// A matrix of it, so many columns of so many rows.
     Matrix {
         columns: VectorSize,
         rows: VectorSize,
@@ -319,7 +323,9 @@ impl Flags for ConstructorSet {
 
     ghost exact = { ⊤ };
 
-    ghost table = { (codes "SCALAR", 1) ∷ (codes "VEC2", 2) ∷ (codes "VEC3", 4) ∷ (codes "VEC4", 8) ∷ (codes "MAT2X2", 16) ∷ (codes "MAT2X3", 32) ∷ (codes "MAT2X4", 64) ∷ (codes "MAT3X2", 128) ∷ (codes "MAT3X3", 256) ∷ (codes "MAT3X4", 512) ∷ (codes "MAT4X2", 1024) ∷ (codes "MAT4X3", 2048) ∷ (codes "MAT4X4", 4096) ∷ [] };
+    ghost table = { (codes "SCALAR", 1) ∷ (codes "VEC2", 2) ∷ (codes "VEC3", 4) ∷ (codes "VEC4", 8) ∷ (codes "MAT2X2", 16)
+        ∷ (codes "MAT2X3", 32) ∷ (codes "MAT2X4", 64) ∷ (codes "MAT3X2", 128) ∷ (codes "MAT3X3", 256) ∷ (codes "MAT3X4", 512)
+        ∷ (codes "MAT4X2", 1024) ∷ (codes "MAT4X3", 2048) ∷ (codes "MAT4X4", 4096) ∷ [] };
 
     ghost set_of = { λ set. set.0 };
 
@@ -349,7 +355,8 @@ impl BitAnd for ConstructorSet {
 impl BitOr for ConstructorSet {
     type Output = ConstructorSet;
 
-    ghost bitor_gives = { λ a b either. constructors_in either ≡ filter (λ size. has_constructor a size || has_constructor b size) all_constructors };
+    ghost bitor_gives = { λ a b either. constructors_in either
+        ≡ filter (λ size. has_constructor a size || has_constructor b size) all_constructors };
 
     fn bitor(self, other: ConstructorSet) -> ConstructorSet {
         ConstructorSet(self.0 | other.0)

@@ -6,7 +6,8 @@ ghost use Rattle.shader_ir.specs.Key.{IsNoStruct, inner_of};
 ghost use Rattle.shader_ir.specs.TypeTree.{IsBackward, PointsBelow};
 ghost use Rattle.shader_overloads.specs.Counts.{IsGreatestCount, IsLeastCount};
 ghost use Rattle.shader_overloads.specs.Masks.{IsBelow, rules_at};
-ghost use Rattle.shader_overloads.specs.Remaining.{ArgumentFits, RuleFits, RulesFit, has_concrete_arguments, has_no_struct, is_concrete, is_free_struct, list_accepts, some_list_takes};
+ghost use Rattle.shader_overloads.specs.Remaining.{ArgumentFits, RuleFits, RulesFit, has_concrete_arguments, has_no_struct};
+ghost use Rattle.shader_overloads.specs.Remaining.{is_concrete, is_free_struct, list_accepts, some_list_takes};
 
 use crate::mask::Mask;
 use crate::masked::{Masked, Table};

@@ -17,12 +17,19 @@ const MOST_RULES: usize = 36;
 /// A builtin whose overload set is a list.
 #[derive(Clone, Copy)]
 pub enum ListForm {
+    /// A float and an exponent, or vectors of both.
     Ldexp,
+    /// Two vectors, to the matrix of all products.
     Outer,
+    /// Two vectors and a scalar.
     Refract,
+    /// A matrix, to the one with columns and rows exchanged.
     Transpose,
+    /// An integer or a vector of it, an offset and a count.
     ExtractBits,
+    /// Two of these, an offset and a count.
     InsertBits,
+    /// Two floats or vectors and a third, or a scalar to mix vectors by.
     Mix,
 }
 

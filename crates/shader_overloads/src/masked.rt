@@ -154,7 +154,8 @@ impl<T: Table> Masked<T> {
         requires backward { IsTrue T.reads_types → IsBackward types.now }
         requires ty_in { IsTrue T.reads_types → PointsBelow (length types.now) ty.now }
         requires fits { IsTrue T.reads_types → RulesFit types.now (rules_at self.now.mask (T.rows self.now.table)) }
-        ensures rules { IfOk result (λ set. rules_at set.mask (T.rows set.table) ≡ filter (T.accepting self.now.table types.now i ty.now) (rules_at self.now.mask (T.rows self.now.table))) }
+        ensures rules { IfOk result (λ set. rules_at set.mask (T.rows set.table)
+            ≡ filter (T.accepting self.now.table types.now i ty.now) (rules_at self.now.mask (T.rows self.now.table))) }
         ensures within { IfOk result (λ set. IsBelow set.mask (length (T.rows set.table))) }
         ensures found { IsTrue T.is_free → IsOk result }
     {
@@ -168,7 +169,8 @@ impl<T: Table> Masked<T> {
         requires within { IsBelow self.mask (length (T.rows self.table)) }
         requires backward { IsTrue T.reads_types → IsBackward types.now }
         requires fits { IsTrue T.reads_types → RulesFit types.now (rules_at self.mask (T.rows self.table)) }
-        ensures rules { rules_at result.mask (T.rows result.table) ≡ filter (has_concrete_arguments types.now) (rules_at self.mask (T.rows self.table)) }
+        ensures rules { rules_at result.mask (T.rows result.table)
+            ≡ filter (has_concrete_arguments types.now) (rules_at self.mask (T.rows self.table)) }
         ensures within { IsBelow result.mask (length (T.rows result.table)) }
     {
         let Masked { mask, table } = self;

@@ -6,7 +6,8 @@ ghost use Rattle.shader_overloads.specs.declared.rule.Rule.{Rule};
 ghost use Rattle.shader_overloads.specs.Rules.{regular_rules};
 ghost use Rattle.shader_overloads.specs.ScalarSets.{scalars_in};
 ghost use Rattle.shader_overloads.specs.Builtins.{acceptance_of, rules_of, scalars_and_vectors};
-ghost use Rattle.shader_overloads.specs.BuiltinGroups.{float_functions, geometric_functions, is_among, is_listed, matrix_functions, number_functions, packing_functions, rules_if, splitting_functions};
+ghost use Rattle.shader_overloads.specs.BuiltinGroups.{float_functions, geometric_functions, is_among, is_listed, matrix_functions};
+ghost use Rattle.shader_overloads.specs.BuiltinGroups.{number_functions, packing_functions, rules_if, splitting_functions};
 ghost use Rattle.shader_overloads.specs.AnySet.{rules_in, acceptance_in};
 ghost use Rattle.shader_overloads.specs.Remaining.{RulesFit};
 

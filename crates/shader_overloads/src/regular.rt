@@ -168,7 +168,8 @@ impl RegularRows {
 
     /// The numbers of the rules that take a value of the type as argument `i`.
     fn accepted_rows(self, i: usize, ty: &TypeInner) -> Mask
-        ensures { (types : List «Type») (row : ℕ) (rule : Rule) → slice_get (all_rules self) row ≡ Some rule → has_place result row ≡ accepts types i ty.now rule }
+        ensures { (types : List «Type») (row : ℕ) (rule : Rule) → slice_get (all_rules self) row ≡ Some rule →
+            has_place result row ≡ accepts types i ty.now rule }
     {
         if i >= self.arity {
             return Mask::empty();
@@ -195,7 +196,8 @@ impl RegularRows {
 
     /// The numbers of the rules without abstract arguments.
     fn concrete_rows(self) -> Mask
-        ensures { (types : List «Type») (row : ℕ) (rule : Rule) → slice_get (all_rules self) row ≡ Some rule → has_place result row ≡ has_concrete_arguments types rule }
+        ensures { (types : List «Type») (row : ℕ) (rule : Rule) → slice_get (all_rules self) row ≡ Some rule →
+            has_place result row ≡ has_concrete_arguments types rule }
     {
         if self.arity == 0 {
             return Mask::pairs(u16::MAX, u16::MAX);
@@ -262,7 +264,8 @@ impl Table for RegularRows {
 /// The numbers of the rules of a constructor and the scalars that this one converts to.
 #[inline(always)]
 fn accepting_rows(size: ConstructorSize, scalar: Scalar) -> Mask
-    ensures { (row : ℕ) (other : ConstructorSize) (to : Scalar) → slice_get all_constructors (row / 12) ≡ Some other → slice_get named_scalars (row % 12) ≡ Some to → has_place result row ≡ (same_constructor size other && is_convertible scalar to) }
+    ensures { (row : ℕ) (other : ConstructorSize) (to : Scalar) → slice_get all_constructors (row / 12) ≡ Some other →
+        slice_get named_scalars (row % 12) ≡ Some to → has_place result row ≡ (same_constructor size other && is_convertible scalar to) }
 {
     let scalars = ScalarSet::convertible_from(scalar);
     Mask::group(place_of(size), scalars.bits())
@@ -304,16 +307,25 @@ fn repeat_argument(
 /// How the rules of a regular set conclude from the type of their arguments.
 #[derive(Clone, Copy, Debug)]
 pub enum ConclusionRule {
+    /// The argument's type.
     ArgumentType,
     /// The leaf scalar of the argument's type.
     Scalar,
+    /// The result type that the module declares for `frexp` of the argument.
     Frexp,
+    /// The result type that the module declares for `modf` of the argument.
     Modf,
+    /// `u32`.
     U32,
+    /// `i32`.
     I32,
+    /// `vec2<f32>`.
     Vec2F,
+    /// `vec4<f32>`.
     Vec4F,
+    /// `vec4<i32>`.
     Vec4I,
+    /// `vec4<u32>`.
     Vec4U,
 }
 

@@ -40,8 +40,10 @@ impl Conclusion {
     ) -> Conclusion
         requires function { (function ≡ MathFunction.Frexp) ⊎ (function ≡ MathFunction.Modf) }
         requires size { IsTrue (is_scalar_or_vector size) }
-        ensures frexp { function ≡ MathFunction.Frexp → result ≡ Conclusion.Predeclared (PredeclaredType.FrexpResult (vector_size size) scalar) }
-        ensures modf { function ≡ MathFunction.Modf → result ≡ Conclusion.Predeclared (PredeclaredType.ModfResult (vector_size size) scalar) }
+        ensures frexp { function ≡ MathFunction.Frexp → result
+            ≡ Conclusion.Predeclared (PredeclaredType.FrexpResult (vector_size size) scalar) }
+        ensures modf { function ≡ MathFunction.Modf → result
+            ≡ Conclusion.Predeclared (PredeclaredType.ModfResult (vector_size size) scalar) }
     {
         let size = vector_size(size);
         Conclusion::Predeclared(match function {
@@ -74,7 +76,7 @@ impl Conclusion {
         }
     }
 
-    /// The same conclusion again. Takes memory for the members of a struct alone.
+    /// Returns an equal copy. Takes memory for the members of a struct alone.
     pub fn copy(&self, alloc: Global) -> Result<Conclusion, AllocError>
         ensures copy { IfOk result (λ conclusion. conclusion ≡ self.now) }
         ensures ok { ConcludesNoMembers self.now → IsOk result }
@@ -102,7 +104,7 @@ pub fn vector_size(size: ConstructorSize) -> Option<VectorSize>
 }
 
 impl Rule {
-    /// The same rule again.
+    /// Returns an equal copy.
     pub fn copy(&self, alloc: Global) -> Result<Rule, AllocError>
         ensures { IfOk result (λ rule. rule ≡ self.now) }
     {
@@ -115,7 +117,7 @@ impl Rule {
     }
 }
 
-/// The same arguments again.
+/// Equal copies of the arguments.
 fn copy_arguments(
     alloc: Global,
     arguments: &[TypeResolution],

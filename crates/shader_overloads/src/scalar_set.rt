@@ -227,7 +227,9 @@ impl Flags for ScalarSet {
 
     ghost exact = { ⊤ };
 
-    ghost table = { (codes "ABSTRACT_INT", 1) ∷ (codes "ABSTRACT_FLOAT", 2) ∷ (codes "I32", 4) ∷ (codes "I16", 8) ∷ (codes "I64", 16) ∷ (codes "U32", 32) ∷ (codes "U16", 64) ∷ (codes "U64", 128) ∷ (codes "F32", 256) ∷ (codes "F16", 512) ∷ (codes "F64", 1024) ∷ (codes "BOOL", 2048) ∷ [] };
+    ghost table = { (codes "ABSTRACT_INT", 1) ∷ (codes "ABSTRACT_FLOAT", 2) ∷ (codes "I32", 4) ∷ (codes "I16", 8) ∷ (codes "I64", 16)
+        ∷ (codes "U32", 32) ∷ (codes "U16", 64) ∷ (codes "U64", 128) ∷ (codes "F32", 256) ∷ (codes "F16", 512) ∷ (codes "F64", 1024)
+        ∷ (codes "BOOL", 2048) ∷ [] };
 
     ghost set_of = { λ set. set.0 };
 

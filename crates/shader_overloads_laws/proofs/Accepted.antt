@@ -1,5 +1,6 @@
 -- Which rules of the builtins remain, by the types of their arguments.
-use Rattle.std.proofs.Common.{◌≡◌, ◌∙◌, ap, sym, refl, inl, inr, ℕ, zero, suc, Bool, true, false, cond, ◌&&◌, List, [], ◌∷◌, Option, Some, None, slice_get}
+use Rattle.std.proofs.Common.{◌≡◌, ◌∙◌, ap, sym, refl, inl, inr, ℕ, zero, suc, Bool, true, false}
+use Rattle.std.proofs.Common.{cond, ◌&&◌, List, [], ◌∷◌, Option, Some, None, slice_get}
 use Rattle.std.specs.List.{filter, list_all}
 use Rattle.std.specs.Option.{option_and_then}
 use Rattle.std.proofs.lemmas.Bool.{and_parts, both_ways, cases_Bool}
@@ -18,11 +19,13 @@ use Rattle.shader_overloads.specs.AcceptanceLaws.{is_named, is_named_or_none}
 use Rattle.shader_overloads.specs.BuiltinGroups.{is_listed}
 use Rattle.shader_overloads.specs.Builtins.{acceptance_of, rules_of}
 use Rattle.shader_overloads.specs.Rank.{leaf_rank, rank_at}
-use Rattle.shader_overloads.specs.Remaining.{accepts, leaf_scalar, list_accepts, list_takes, passes, remaining, some_list_takes, some_takes, takes}
+use Rattle.shader_overloads.specs.Remaining.{accepts, leaf_scalar, list_accepts, list_takes, passes}
+use Rattle.shader_overloads.specs.Remaining.{remaining, some_list_takes, some_takes, takes}
 use Rattle.shader_overloads.proofs.AgreementLemmas.{list_takes_plainly, takes_plainly}
 use Rattle.shader_overloads.proofs.BuiltinLemmas.{is_named_inner, is_named_rule, rules_named}
 use Rattle.shader_overloads_laws.specs.Optimality.{remaining_of}
-use Rattle.shader_overloads_laws.proofs.Arguments.{argument_is, concrete_is, inners, inners_named, made_rank, plain_takes_parts, same_made, leaf}
+use Rattle.shader_overloads_laws.proofs.Arguments.{argument_is, concrete_is, inners, inners_named}
+use Rattle.shader_overloads_laws.proofs.Arguments.{made_rank, plain_takes_parts, same_made, leaf}
 use Rattle.shader_overloads_laws.proofs.Orders.{are_concrete, is_taken, some_taken, taken_rank}
 use Rattle.shader_overloads_laws.proofs.Scalars.{convertible_named}
 
@@ -45,7 +48,8 @@ and_false_twice false b c e = refl
 unnamed_untaken : (ty inner : TypeInner) → is_named_or_none (leaf_scalar ty) ≡ false → takes ty inner ≡ false
 unnamed_untaken (Scalar a) (Scalar b) odd = unconvertible a b odd
 unnamed_untaken (Vector m a) (Vector n b) odd = and_false (same_size m n) (is_convertible a b) (unconvertible a b odd)
-unnamed_untaken (Matrix c r a) (Matrix m n b) odd = and_false_twice (same_size c m) (same_size r n) (is_convertible a b) (unconvertible a b odd)
+unnamed_untaken (Matrix c r a) (Matrix m n b) odd = and_false_twice (same_size c m) (same_size r n) (is_convertible a b)
+    (unconvertible a b odd)
 unnamed_untaken ty inner odd = refl
 
 takes_is : (ty inner : TypeInner) → is_named_inner inner ≡ true → takes ty inner ≡ (is_named_or_none (leaf_scalar ty) && is_taken ty inner)
@@ -64,26 +68,36 @@ accepting true = list_accepts
 accepting false = accepts
 
 module _ (types : List «Type») (ty : TypeInner) where
-  some_list_taken : (all : List TypeInner) (i : ℕ) → list_all is_named_inner all ≡ true → some_list_takes types ty (slice_get all i) ≡ some_taken ty (slice_get all i)
+  some_list_taken : (all : List TypeInner) (i : ℕ) → list_all is_named_inner all ≡ true →
+      some_list_takes types ty (slice_get all i) ≡ some_taken ty (slice_get all i)
   some_list_taken [] i named = refl
-  some_list_taken (inner ∷ all) zero named = sym (list_takes_plainly types ty inner (and_parts (is_named_inner inner) (list_all is_named_inner all) named).0) ∙ plain_takes_parts ty inner
-  some_list_taken (inner ∷ all) (suc i) named = some_list_taken all i (and_parts (is_named_inner inner) (list_all is_named_inner all) named).1
+  some_list_taken (inner ∷ all) zero named = sym (list_takes_plainly types ty inner
+      (and_parts (is_named_inner inner) (list_all is_named_inner all) named).0) ∙ plain_takes_parts ty inner
+  some_list_taken (inner ∷ all) (suc i) named = some_list_taken all i
+      (and_parts (is_named_inner inner) (list_all is_named_inner all) named).1
 
-  some_regular_taken : (all : List TypeInner) (i : ℕ) → list_all is_named_inner all ≡ true → some_takes ty (slice_get all i) ≡ (is_named_or_none (leaf_scalar ty) && some_taken ty (slice_get all i))
+  some_regular_taken : (all : List TypeInner) (i : ℕ) → list_all is_named_inner all ≡ true →
+      some_takes ty (slice_get all i) ≡ (is_named_or_none (leaf_scalar ty) && some_taken ty (slice_get all i))
   some_regular_taken [] i named = sym (and_false (is_named_or_none (leaf_scalar ty)) false refl)
   some_regular_taken (inner ∷ all) zero named = takes_is ty inner (and_parts (is_named_inner inner) (list_all is_named_inner all) named).0
-  some_regular_taken (inner ∷ all) (suc i) named = some_regular_taken all i (and_parts (is_named_inner inner) (list_all is_named_inner all) named).1
+  some_regular_taken (inner ∷ all) (suc i) named = some_regular_taken all i
+      (and_parts (is_named_inner inner) (list_all is_named_inner all) named).1
 
-  accepts_is : (listed : Bool) (rule : Rule) (i : ℕ) → is_named_rule rule ≡ true → accepting listed types i ty rule ≡ (allows listed ty && some_taken ty (slice_get (inners rule) i))
-  accepts_is true rule i named = ap (some_list_takes types ty) (argument_is types rule i named) ∙ some_list_taken (inners rule) i (inners_named rule.arguments named)
-  accepts_is false rule i named = ap (some_takes ty) (argument_is types rule i named) ∙ some_regular_taken (inners rule) i (inners_named rule.arguments named)
+  accepts_is : (listed : Bool) (rule : Rule) (i : ℕ) → is_named_rule rule ≡ true →
+      accepting listed types i ty rule ≡ (allows listed ty && some_taken ty (slice_get (inners rule) i))
+  accepts_is true rule i named = ap (some_list_takes types ty) (argument_is types rule i named)
+      ∙ some_list_taken (inners rule) i (inners_named rule.arguments named)
+  accepts_is false rule i named = ap (some_takes ty) (argument_is types rule i named)
+      ∙ some_regular_taken (inners rule) i (inners_named rule.arguments named)
 
-  found_rank : (found : Option TypeInner) → some_taken ty found ≡ true → leaf_rank (leaf_scalar ty) (option_and_then leaf_scalar found) ≡ taken_rank ty found
+  found_rank : (found : Option TypeInner) → some_taken ty found ≡ true →
+      leaf_rank (leaf_scalar ty) (option_and_then leaf_scalar found) ≡ taken_rank ty found
   found_rank None e = cc
   found_rank (Some inner) e = made_rank ty inner (and_parts (same_made ty inner) _ e).0
 
   -- the rank of a rule at an argument that it takes
-  pub rank_is : (rule : Rule) (i : ℕ) → is_named_rule rule ≡ true → some_taken ty (slice_get (inners rule) i) ≡ true → rank_at types i ty rule ≡ taken_rank ty (slice_get (inners rule) i)
+  pub rank_is : (rule : Rule) (i : ℕ) → is_named_rule rule ≡ true → some_taken ty (slice_get (inners rule) i) ≡ true →
+      rank_at types i ty rule ≡ taken_rank ty (slice_get (inners rule) i)
   rank_is rule i named taken =
       ap (λ found. leaf_rank (leaf_scalar ty) (option_and_then leaf_scalar found)) (argument_is types rule i named)
       ∙ found_rank (slice_get (inners rule) i) taken
@@ -98,17 +112,20 @@ pass listed rule ConcreteOnly = are_concrete (inners rule)
 abbrev pub stays : Bool → List SetCall → Rule → Bool
 stays listed calls rule = list_all (pass listed rule) calls
 
-pass_is : (types : List «Type») (listed : Bool) (rule : Rule) (call : SetCall) → is_named_rule rule ≡ true → passes (accepting listed) types rule call ≡ pass listed rule call
+pass_is : (types : List «Type») (listed : Bool) (rule : Rule) (call : SetCall) → is_named_rule rule ≡ true →
+    passes (accepting listed) types rule call ≡ pass listed rule call
 pass_is types listed rule (Arg i ty) named = accepts_is types ty listed rule i named
 pass_is types listed rule ConcreteOnly named = concrete_is types rule named
 
-stays_is : (types : List «Type») (listed : Bool) (calls : List SetCall) (rule : Rule) → is_named_rule rule ≡ true → list_all (passes (accepting listed) types rule) calls ≡ stays listed calls rule
+stays_is : (types : List «Type») (listed : Bool) (calls : List SetCall) (rule : Rule) → is_named_rule rule ≡ true →
+    list_all (passes (accepting listed) types rule) calls ≡ stays listed calls rule
 stays_is types listed [] rule named = refl
 stays_is types listed (call ∷ calls) rule named =
     ap (λ b. b && list_all (passes (accepting listed) types rule) calls) (pass_is types listed rule call named)
     ∙ ap (λ b. pass listed rule call && b) (stays_is types listed calls rule named)
 
-filter_named : (p q : Rule → Bool) → ((rule : Rule) → is_named_rule rule ≡ true → p rule ≡ q rule) → (rules : List Rule) → list_all is_named_rule rules ≡ true → filter p rules ≡ filter q rules
+filter_named : (p q : Rule → Bool) → ((rule : Rule) → is_named_rule rule ≡ true → p rule ≡ q rule) → (rules : List Rule) →
+    list_all is_named_rule rules ≡ true → filter p rules ≡ filter q rules
 filter_named p q same [] named = refl
 filter_named p q same (rule ∷ rules) named =
     let parts = and_parts (is_named_rule rule) (list_all is_named_rule rules) named in
@@ -120,7 +137,8 @@ acceptance_is f.Ldexp = refl
 acceptance_is _ = refl
 
 -- what remains of a builtin's rules
-pub remaining_is : (function : MathFunction) (types : List «Type») (calls : List SetCall) → remaining_of function types calls ≡ filter (stays (is_listed function) calls) (rules_of function)
+pub remaining_is : (function : MathFunction) (types : List «Type») (calls : List SetCall) →
+    remaining_of function types calls ≡ filter (stays (is_listed function) calls) (rules_of function)
 remaining_is function types calls =
     ap (λ accept. remaining accept types calls (rules_of function)) (acceptance_is function)
     ∙ filter_named (λ rule. list_all (passes (accepting (is_listed function)) types rule) calls) (stays (is_listed function) calls)

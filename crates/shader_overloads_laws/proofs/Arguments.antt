@@ -1,5 +1,6 @@
 -- The types of arguments of the rules of the builtins: scalars, vectors and matrices.
-use Rattle.std.proofs.Common.{◌≡◌, ◌∙◌, ap, sym, refl, ℕ, zero, suc, Bool, true, false, not, ◌&&◌, List, [], ◌∷◌, map, Option, Some, None, slice_get}
+use Rattle.std.proofs.Common.{◌≡◌, ◌∙◌, ap, sym, refl, ℕ, zero, suc, Bool, true, false, not}
+use Rattle.std.proofs.Common.{◌&&◌, List, [], ◌∷◌, map, Option, Some, None, slice_get}
 use Rattle.std.specs.List.{list_all}
 use Rattle.std.specs.Option.{is_some, option_and_then}
 use Rattle.std.proofs.lemmas.Bool.{and_from, and_parts, both_ways}
@@ -157,10 +158,13 @@ module _ (types : List «Type») where
   plain_inner (Value inner) named = refl
   plain_inner (Handle handle) named = cc
 
-  plain_at : (arguments : List TypeResolution) (i : ℕ) → list_all is_named_argument arguments ≡ true → option_and_then (inner_of types) (slice_get arguments i) ≡ slice_get (map plain arguments) i
+  plain_at : (arguments : List TypeResolution) (i : ℕ) → list_all is_named_argument arguments ≡ true →
+      option_and_then (inner_of types) (slice_get arguments i) ≡ slice_get (map plain arguments) i
   plain_at [] i named = refl
-  plain_at (argument ∷ arguments) zero named = plain_inner argument (and_parts (is_named_argument argument) (list_all is_named_argument arguments) named).0
-  plain_at (argument ∷ arguments) (suc i) named = plain_at arguments i (and_parts (is_named_argument argument) (list_all is_named_argument arguments) named).1
+  plain_at (argument ∷ arguments) zero named = plain_inner argument
+      (and_parts (is_named_argument argument) (list_all is_named_argument arguments) named).0
+  plain_at (argument ∷ arguments) (suc i) named = plain_at arguments i
+      (and_parts (is_named_argument argument) (list_all is_named_argument arguments) named).1
 
   pub argument_is : (rule : Rule) (i : ℕ) → is_named_rule rule ≡ true → argument_at types i rule ≡ slice_get (inners rule) i
   argument_is rule i named = plain_at rule.arguments i named
@@ -171,11 +175,13 @@ module _ (types : List «Type») where
   concrete_inner (Matrix m n a) named = refl
   concrete_inner _ named = cc
 
-  concrete_argument : (argument : TypeResolution) → is_named_argument argument ≡ true → is_concrete types (inner_of types argument) ≡ is_plain_concrete (plain argument)
+  concrete_argument : (argument : TypeResolution) → is_named_argument argument ≡ true →
+      is_concrete types (inner_of types argument) ≡ is_plain_concrete (plain argument)
   concrete_argument (Value inner) named = concrete_inner inner named
   concrete_argument (Handle handle) named = cc
 
-  concrete_all : (arguments : List TypeResolution) → list_all is_named_argument arguments ≡ true → list_all (λ argument. is_concrete types (inner_of types argument)) arguments ≡ list_all is_plain_concrete (map plain arguments)
+  concrete_all : (arguments : List TypeResolution) → list_all is_named_argument arguments ≡ true →
+      list_all (λ argument. is_concrete types (inner_of types argument)) arguments ≡ list_all is_plain_concrete (map plain arguments)
   concrete_all [] named = refl
   concrete_all (argument ∷ arguments) named =
       let parts = and_parts (is_named_argument argument) (list_all is_named_argument arguments) named in
@@ -185,9 +191,11 @@ module _ (types : List «Type») where
   pub concrete_is : (rule : Rule) → is_named_rule rule ≡ true → has_concrete_arguments types rule ≡ list_all is_plain_concrete (inners rule)
   concrete_is rule named = concrete_all rule.arguments named
 
-pub values_of : (arguments : List TypeResolution) → list_all is_named_argument arguments ≡ true → arguments ≡ map Value (map plain arguments)
+pub values_of : (arguments : List TypeResolution) → list_all is_named_argument arguments ≡ true →
+    arguments ≡ map Value (map plain arguments)
 values_of [] named = refl
-values_of (Value inner ∷ arguments) named = ap (λ xs. Value inner ∷ xs) (values_of arguments (and_parts (is_named_inner inner) (list_all is_named_argument arguments) named).1)
+values_of (Value inner ∷ arguments) named = ap (λ xs. Value inner ∷ xs)
+    (values_of arguments (and_parts (is_named_inner inner) (list_all is_named_argument arguments) named).1)
 values_of (Handle handle ∷ arguments) named = cc
 
 inner_leaf_named : (inner : TypeInner) → is_named_inner inner ≡ true → is_named (leaf inner) ≡ true
@@ -203,7 +211,8 @@ argument_inner_named (Handle handle) named = cc
 abbrev pub is_leaf_named : TypeInner → Bool
 is_leaf_named inner = is_named (leaf inner)
 
-pub inners_named : (arguments : List TypeResolution) → list_all is_named_argument arguments ≡ true → list_all is_named_inner (map plain arguments) ≡ true
+pub inners_named : (arguments : List TypeResolution) → list_all is_named_argument arguments ≡ true →
+    list_all is_named_inner (map plain arguments) ≡ true
 inners_named [] named = refl
 inners_named (argument ∷ arguments) named =
     let parts = and_parts (is_named_argument argument) (list_all is_named_argument arguments) named in

@@ -14,13 +14,15 @@ use Rattle.shader_ir.specs.Scalars.{named_scalars, same_scalar}
 use Rattle.shader_overloads.specs.declared.rule.Conclusion.{Conclusion}
 use Rattle.shader_overloads.specs.declared.rule.Conclusion.TheVariants.{Value, Predeclared}
 use Rattle.shader_overloads.specs.declared.rule.Rule.{Rule}
-use Rattle.shader_overloads.specs.Builtins.{extract_bits_rules, insert_bits_rules, ldexp_rules, mix_rules, outer_rules, refract_rules, rules_of, transpose_rules}
+use Rattle.shader_overloads.specs.Builtins.{extract_bits_rules, insert_bits_rules, ldexp_rules, mix_rules}
+use Rattle.shader_overloads.specs.Builtins.{outer_rules, refract_rules, rules_of, transpose_rules}
 use Rattle.shader_overloads.specs.BuiltinGroups.{is_listed}
 use Rattle.shader_overloads.specs.Rules.{regular_rules}
 use Rattle.shader_overloads.proofs.AgreementLemmas.{same_scalar_told}
 use Rattle.shader_overloads.proofs.BuiltinLemmas.{is_named_inner}
 use Rattle.shader_overloads.proofs.SetLemmas.{same_scalar_self, same_size_self}
-use Rattle.shader_overloads_laws.proofs.Arguments.{constructor_of, found_first, inners, leaf, same_made, same_made_told, same_parts, same_size_told}
+use Rattle.shader_overloads_laws.proofs.Arguments.{constructor_of, found_first, inners, leaf, same_made}
+use Rattle.shader_overloads_laws.proofs.Arguments.{same_made_told, same_parts, same_size_told}
 use Rattle.shader_overloads_laws.proofs.Orders.{all_fine}
 use Rattle.shader_overloads_laws.proofs.Scalars.{sources_of}
 
@@ -87,7 +89,8 @@ same_result_told _ _ e = cc
 same_inner_told : (a b : TypeInner) → same_inner a b ≡ true → a ≡ b
 same_inner_told a b e =
     let parts = and_parts (same_made a b) (same_scalar (leaf a) (leaf b)) e in
-    same_parts a b (found_first (constructor_of a) (constructor_of b) parts.0) (same_made_told a b parts.0) (same_scalar_told (leaf a) (leaf b) parts.1)
+    same_parts a b (found_first (constructor_of a) (constructor_of b) parts.0) (same_made_told a b parts.0)
+    (same_scalar_told (leaf a) (leaf b) parts.1)
 
 pub same_conclusion_told : (a b : Conclusion) → same_conclusion a b ≡ true → a ≡ b
 same_conclusion_told (Value a) (Value b) e = ap Value (same_inner_told a b e)
@@ -107,6 +110,7 @@ same_inners_self (a ∷ all) named =
     let parts = and_parts (is_named_inner a) (list_all is_named_inner all) named in
     and_from _ _ (same_inner_self a parts.0) (same_inners_self all parts.1)
 
-pub concludes_so : (same : Bool) (rule other : Rule) → concludes_if same rule other ≡ true → same ≡ true → rule.conclusion ≡ other.conclusion
+pub concludes_so : (same : Bool) (rule other : Rule) → concludes_if same rule other ≡ true → same ≡ true →
+    rule.conclusion ≡ other.conclusion
 concludes_so true rule other e h = same_conclusion_told rule.conclusion other.conclusion e
 concludes_so false rule other e h = cc

@@ -1,5 +1,6 @@
 -- Rules of equal ranks are equal, once all arguments are supplied.
-use Rattle.std.proofs.Common.{◌≡◌, ◌∙◌, ◌<◌, ◌==◌, ap, sym, refl, ℕ, zero, suc, Bool, true, List, [], ◌∷◌, length, map, Option, Some, slice_get, arith}
+use Rattle.std.proofs.Common.{◌≡◌, ◌∙◌, ◌<◌, ◌==◌, ap, sym, refl, ℕ, zero, suc, Bool, true}
+use Rattle.std.proofs.Common.{List, [], ◌∷◌, length, map, Option, Some, slice_get, arith}
 use Rattle.std.specs.List.{filter, list_all}
 use Rattle.std.proofs.lemmas.Bool.{and_parts, eqb-true}
 use Rattle.std.proofs.lemmas.List.{length-map}
@@ -24,7 +25,8 @@ use Rattle.shader_overloads_laws.proofs.Tables.{agree, concludes_so, rules_agree
 
 -- ---- lists
 
-lists_same : {X : Type 0} (xs ys : List X) → length xs ≡ length ys → ((i : ℕ) (x y : X) → slice_get xs i ≡ Some x → slice_get ys i ≡ Some y → x ≡ y) → xs ≡ ys
+lists_same : {X : Type 0} (xs ys : List X) → length xs ≡ length ys →
+    ((i : ℕ) (x y : X) → slice_get xs i ≡ Some x → slice_get ys i ≡ Some y → x ≡ y) → xs ≡ ys
 lists_same [] [] long same = refl
 lists_same [] (y ∷ ys) long same = absurd (omega arith)
 lists_same (x ∷ xs) [] long same = absurd (omega arith)
@@ -39,19 +41,25 @@ found_within (y ∷ xs) (suc i) x e = let later = found_within xs i x e in omega
 -- ---- one argument
 
 -- two arguments that take a type at one rank are the same
-same_taken : (ty a b : TypeInner) (rank : ℕ) → some_taken ty (Some a) ≡ true → some_taken ty (Some b) ≡ true → taken_rank ty (Some a) ≡ Some rank → taken_rank ty (Some b) ≡ Some rank → a ≡ b
+same_taken : (ty a b : TypeInner) (rank : ℕ) → some_taken ty (Some a) ≡ true → some_taken ty (Some b) ≡ true →
+    taken_rank ty (Some a) ≡ Some rank → taken_rank ty (Some b) ≡ Some rank → a ≡ b
 same_taken ty a b rank p q at_a at_b =
-    made_same ty a b (and_parts (same_made ty a) (scalar_converts (leaf ty) (leaf a)) p).0 (and_parts (same_made ty b) (scalar_converts (leaf ty) (leaf b)) q).0
+    made_same ty a b (and_parts (same_made ty a) (scalar_converts (leaf ty) (leaf a)) p).0
+    (and_parts (same_made ty b) (scalar_converts (leaf ty) (leaf b)) q).0
     (one_rank_one_target (leaf ty) (leaf a) (leaf b) rank at_a at_b)
 
-same_found_taken : (ty : TypeInner) (found other : Option TypeInner) (a b : TypeInner) (rank : ℕ) → found ≡ Some a → other ≡ Some b → some_taken ty found ≡ true → some_taken ty other ≡ true → taken_rank ty found ≡ Some rank → taken_rank ty other ≡ Some rank → a ≡ b
+same_found_taken : (ty : TypeInner) (found other : Option TypeInner) (a b : TypeInner) (rank : ℕ) → found ≡ Some a → other ≡ Some b →
+    some_taken ty found ≡ true → some_taken ty other ≡ true → taken_rank ty found ≡ Some rank → taken_rank ty other ≡ Some rank → a ≡ b
 same_found_taken ty found other a b rank is_a is_b p q at_a at_b =
-    same_taken ty a b rank (sym (ap (some_taken ty) is_a) ∙ p) (sym (ap (some_taken ty) is_b) ∙ q) (sym (ap (taken_rank ty) is_a) ∙ at_a) (sym (ap (taken_rank ty) is_b) ∙ at_b)
+    same_taken ty a b rank (sym (ap (some_taken ty) is_a) ∙ p) (sym (ap (some_taken ty) is_b) ∙ q) (sym (ap (taken_rank ty) is_a)
+    ∙ at_a) (sym (ap (taken_rank ty) is_b) ∙ at_b)
 
 -- ---- two rules that remain
 
-module _ (types : List «Type») (listed : Bool) (calls : List SetCall) (first rule : Rule) (nf : is_named_rule first ≡ true) (nr : is_named_rule rule ≡ true)
-    (stay_first : stays listed calls first ≡ true) (stay_rule : stays listed calls rule ≡ true) (supplied : IsSupplied calls first) (ranks : HaveEqualRanks types calls rule first) where
+module _ (types : List «Type») (listed : Bool) (calls : List SetCall) (first rule : Rule) (nf : is_named_rule first ≡ true)
+    (nr : is_named_rule rule ≡ true)
+    (stay_first : stays listed calls first ≡ true) (stay_rule : stays listed calls rule ≡ true) (supplied : IsSupplied calls first)
+    (ranks : HaveEqualRanks types calls rule first) where
   same_at : (i : ℕ) (a b : TypeInner) → slice_get (inners rule) i ≡ Some a → slice_get (inners first) i ≡ Some b → a ≡ b
   same_at i a b at_a at_b =
       let within : i < length (inners first) = found_within (inners first) i b at_b in
@@ -67,9 +75,11 @@ module _ (types : List «Type») (listed : Bool) (calls : List SetCall) (first r
   same_rule agreeing =
       let parts = and_parts (length rule.arguments == length first.arguments) _ agreeing in
       let count : length rule.arguments ≡ length first.arguments = eqb-true _ _ parts.0 in
-      let long : length (inners rule) ≡ length (inners first) = length-map rule.arguments plain ∙ count ∙ sym (length-map first.arguments plain) in
+      let long : length (inners rule) ≡ length (inners first) =
+      length-map rule.arguments plain ∙ count ∙ sym (length-map first.arguments plain) in
       let same : inners rule ≡ inners first = lists_same (inners rule) (inners first) long same_at in
-      let told : same_inners (inners rule) (inners first) ≡ true = sym (ap (same_inners (inners rule)) same) ∙ same_inners_self (inners rule) (inners_named rule.arguments nr) in
+      let told : same_inners (inners rule) (inners first) ≡ true =
+      sym (ap (same_inners (inners rule)) same) ∙ same_inners_self (inners rule) (inners_named rule.arguments nr) in
       (values_of rule.arguments nr ∙ ap (map Value) same ∙ sym (values_of first.arguments nf), concludes_so _ rule first parts.1 told)
 
 pub equally_ranked_rules_are_equal : EquallyRankedRulesAreEqual
@@ -81,7 +91,10 @@ equally_ranked_rules_are_equal function types calls first rule place at_first at
     let there : slice_get kept place ≡ Some rule = sym (ap (λ (rules : List Rule). slice_get rules place) is) ∙ at_rule in
     let stay = filter_passes (stays listed calls) (rules_of function) in
     let named = filter_keeps (stays listed calls) is_named_rule (rules_of function) (rules_named function) in
-    let agreeing = all_at (λ f. list_all (agree f) (rules_of function)) kept place rule (filter_keeps (stays listed calls) (λ f. list_all (agree f) (rules_of function)) (rules_of function) (rules_agree function)) there in
-    same_rule types listed calls first rule (all_at is_named_rule kept 0 first named here) (all_at is_named_rule kept place rule named there)
+    let agreeing = all_at (λ f. list_all (agree f) (rules_of function)) kept place rule
+    (filter_keeps (stays listed calls) (λ f. list_all (agree f) (rules_of function)) (rules_of function)
+    (rules_agree function)) there in
+    same_rule types listed calls first rule (all_at is_named_rule kept 0 first named here)
+    (all_at is_named_rule kept place rule named there)
     (all_at (stays listed calls) kept 0 first stay here) (all_at (stays listed calls) kept place rule stay there) supplied ranks
     (all_at (agree rule) kept 0 first (filter_keeps (stays listed calls) (agree rule) (rules_of function) agreeing) here)

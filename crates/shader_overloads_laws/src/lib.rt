@@ -28,6 +28,8 @@ pub fn equally_ranked_rules_are_equal()
 #[tactic(auto, unfolding(shader_ir::specs::Scalars::named_scalars))]
 pub fn ranks_are_of_conversions()
     ensures conversions { ConversionsHaveRanks }
-    ensures from_abstract_int { map (conversion_rank abstract_int) named_scalars ≡ Some 0 ∷ Some 10 ∷ Some 4 ∷ Some 6 ∷ Some 8 ∷ Some 5 ∷ Some 7 ∷ Some 9 ∷ Some 11 ∷ Some 12 ∷ Some 13 ∷ None ∷ [] }
-    ensures from_abstract_float { map (conversion_rank abstract_float) named_scalars ≡ None ∷ Some 0 ∷ None ∷ None ∷ None ∷ None ∷ None ∷ None ∷ Some 1 ∷ Some 2 ∷ Some 3 ∷ None ∷ [] }
+    ensures from_abstract_int { map (conversion_rank abstract_int) named_scalars ≡ Some 0 ∷ Some 10 ∷ Some 4 ∷ Some 6 ∷ Some 8 ∷ Some 5
+        ∷ Some 7 ∷ Some 9 ∷ Some 11 ∷ Some 12 ∷ Some 13 ∷ None ∷ [] }
+    ensures from_abstract_float { map (conversion_rank abstract_float) named_scalars ≡ None ∷ Some 0 ∷ None ∷ None ∷ None ∷ None ∷ None
+        ∷ None ∷ Some 1 ∷ Some 2 ∷ Some 3 ∷ None ∷ [] }
 {}

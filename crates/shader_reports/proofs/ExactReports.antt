@@ -6,7 +6,8 @@ use Rattle.std.specs.Prelude.{All}
 use Rattle.std.proofs.lemmas.List.{length-map}
 use Rattle.std.proofs.lemmas.Option.{get_or_from_slice_get, slice_get-map, slice_get_within}
 use Rattle.shader_chains.specs.Exact.{IsExact, IsExactModule}
-use Rattle.shader_chains.specs.Faults.{BindingArrayElement, Cause, CountFull, IsAccepted, IsFirstFault, MissingCapability, NoPlace, NonUniformControlFlow, Settings, Untyped}
+use Rattle.shader_chains.specs.Faults.{BindingArrayElement, Cause, CountFull, IsAccepted, IsFirstFault, MissingCapability}
+use Rattle.shader_chains.specs.Faults.{NoPlace, NonUniformControlFlow, Settings, Untyped}
 use Rattle.shader_chains.specs.Infos.{Picks, bit_of}
 use Rattle.shader_chains.specs.Origins.{ResultOrigin}
 use Rattle.shader_chains.specs.Program.{Function, Module}
@@ -25,8 +26,9 @@ use Rattle.shader_sweeps.specs.InfoOf.{info_of, infos_of}
 use Rattle.shader_typing.specs.Kept.{KeepsAllPairs, KeepsPairs}
 use Rattle.shader_typing.specs.Processed.{IsFunctionAt, IsInfoAt, site_of}
 use Rattle.shader_typing.specs.Recorded.{Recorded}
-use Rattle.shader_reports.specs.Reports.{AreCounts, ArePairs, AreReports, AreUses, IsFunctionReport, IsModuleReport, Varies, kind_of, places_of}
-use Rattle.shader_reports.specs.Told.{ArePairsOf, AreTold, IsTold, Tells, TellsAll, TellsRefusal, told_kind}
+use Rattle.shader_reports.specs.Reports.{AreCounts, ArePairs, AreReports, AreUses, IsFunctionReport}
+use Rattle.shader_reports.specs.Reports.{IsModuleReport, Varies, kind_of_cause, places_of}
+use Rattle.shader_reports.specs.Told.{ArePairsOf, AreTold, IsTold, TellsFunction, TellsAll, TellsRefusal, told_kind}
 use Rattle.shader_reports.specs.declared.report.FaultKind.{FaultKind}
 use Rattle.shader_reports.specs.declared.report.FunctionReport.{FunctionReport}
 use Rattle.shader_reports.specs.declared.report.ModuleReport.{ModuleReport}
@@ -56,15 +58,17 @@ pairs_are m f info pairs kept told = record {
   );
 }
 
-counts_are : (m : Module) (f : Function) (info : FunctionInfo) → IsExact m f (info_of info) → AreCounts f (map (λ e. e.ref_count) info.expressions)
+counts_are : (m : Module) (f : Function) (info : FunctionInfo) → IsExact m f (info_of info) →
+    AreCounts f (map (λ e. e.ref_count) info.expressions)
 counts_are m f info exact = record { each = exact.tables.counts; exact = exact.counts }
 
-varies_are : (m : Module) (f : Function) (o : Option ℕ) → Picks (λ h. (r : Function) × ResultOrigin m f r h) o → IsTrue (is_some o) ↔ Varies m f
+varies_are : (m : Module) (f : Function) (o : Option ℕ) → Picks (λ h. (r : Function) × ResultOrigin m f r h) o →
+    IsTrue (is_some o) ↔ Varies m f
 varies_are m f (Some h) picked = (λ _. (picked.0, h, picked.1), λ _. refl)
 varies_are m f None picked = (λ e. cc, λ v. absurd (picked v.1 (v.0, v.2)))
 
 report_is : (m : Module) (f : Function) (info : FunctionInfo) (report : FunctionReport) → IsExact m f (info_of info) → KeepsPairs m f info →
-    Tells info report → IsFunctionReport m f report
+    TellsFunction info report → IsFunctionReport m f report
 report_is m f info report exact kept told = record {
   uses = subst (AreUses m f) (sym told.uses) (uses_are m f info exact);
   pairs = pairs_are m f info report.pairs kept told.pairs;
@@ -74,7 +78,8 @@ report_is m f info report exact kept told = record {
 
 -- ---- of a module
 
-info_at : (infos : List FunctionInfo) (i : ℕ) (info : FunctionInfo) → slice_get infos i ≡ Some info → slice_get (infos_of infos) i ≡ Some (info_of info)
+info_at : (infos : List FunctionInfo) (i : ℕ) (info : FunctionInfo) → slice_get infos i ≡ Some info →
+    slice_get (infos_of infos) i ≡ Some (info_of info)
 info_at infos i info at = slice_get-map info_of infos i ∙ ap (option_map info_of) at
 
 -- the info recorded of a place is exact for the function there
@@ -82,12 +87,16 @@ exact_at : (m : Module) (recorded : Recorded) (at : AnalysisPlace) (info : Funct
     IsExactModule m recorded.global_expressions (infos_of recorded.functions) (infos_of recorded.entry_points) →
     IsInfoAt recorded at info → IsFunctionAt m at f → IsExact m f (info_of info)
 exact_at m recorded (place.ConstExpression e) info f exact held there = absurd there
-exact_at m recorded (place.Function i) info f exact held there = exact.exact_functions i f (info_of info) there (info_at recorded.functions i info held)
+exact_at m recorded (place.Function i) info f exact held there =
+    exact.exact_functions i f (info_of info) there (info_at recorded.functions i info held)
 exact_at m recorded (place.EntryPoint i) info f exact held there =
-    subst (λ v. IsExact m v (info_of info)) there.2 (exact.exact_entry_points i there.0 (info_of info) there.1 (info_at recorded.entry_points i info held))
+    subst (λ v. IsExact m v (info_of info)) there.2 (exact.exact_entry_points i there.0 (info_of info) there.1
+    (info_at recorded.entry_points i info held))
 
-told_at : (recorded : Recorded) (reports : List PlaceReport) (i : ℕ) (r : PlaceReport) → All (IsTold recorded) reports → slice_get reports i ≡ Some r → IsTold recorded r
-told_at recorded reports i r told at = subst (IsTold recorded) (get_or_from_slice_get reports i r r at) (told i r (slice_get_within reports i r at))
+told_at : (recorded : Recorded) (reports : List PlaceReport) (i : ℕ) (r : PlaceReport) → All (IsTold recorded) reports →
+    slice_get reports i ≡ Some r → IsTold recorded r
+told_at recorded reports i r told at = subst (IsTold recorded) (get_or_from_slice_get reports i r r at)
+    (told i r (slice_get_within reports i r at))
 
 reports_are : (m : Module) (recorded : Recorded) (reports : List PlaceReport) →
     IsExactModule m recorded.global_expressions (infos_of recorded.functions) (infos_of recorded.entry_points) → KeepsAllPairs m recorded →
@@ -102,13 +111,15 @@ reports_are m recorded reports exact kept told = record {
 -- ---- of a refusal
 
 -- the kind that is told of a refusal is that of the cause that it names
-kind_is : (IsCause : Cause → Type 0) (failure : FunctionError) (kind : FaultKind) → told_kind failure ≡ Some kind → IsNamed IsCause failure →
-    (cause : Cause) × IsCause cause × (kind ≡ kind_of cause)
+kind_is : (IsCause : Cause → Type 0) (failure : FunctionError) (kind : FaultKind) → told_kind failure ≡ Some kind →
+    IsNamed IsCause failure →
+    (cause : Cause) × IsCause cause × (kind ≡ kind_of_cause cause)
 kind_is IsCause (error.Expression e (expression.Resolve failure)) kind told named = (Untyped e (refusal_of failure), named, cc)
 kind_is IsCause (error.Expression e (expression.MissingCapabilities wanted)) kind told named = (MissingCapability e named.0, named.2, cc)
 kind_is IsCause (error.Expression e expression.ExpectedGlobalOrArgument) kind told named = (NoPlace e, named, cc)
 kind_is IsCause (error.Expression e expression.BindingArrayElement) kind told named = (BindingArrayElement e, named, cc)
-kind_is IsCause (error.NonUniformControlFlow needs e blamed) kind told named = (NonUniformControlFlow needs.0 e (disruptor_of blamed), named, cc)
+kind_is IsCause (error.NonUniformControlFlow needs e blamed) kind told named =
+    (NonUniformControlFlow needs.0 e (disruptor_of blamed), named, cc)
 kind_is IsCause (error.CountFull e) kind told named = (CountFull e, named, cc)
 kind_is IsCause error.OutOfMemory kind told named = cc
 

@@ -1,5 +1,6 @@
 -- A module has one report.
-use Rattle.std.proofs.Common.{◌≡◌, ◌∙◌, sym, subst, ap, refl, ℕ, zero, suc, ◌+◌, ◌<◌, ◌↔◌, inl, inr, Bool, List, [], ◌∷◌, Some, map, length, slice_get, arith}
+use Rattle.std.proofs.Common.{◌≡◌, ◌∙◌, sym, subst, ap, refl, ℕ, zero, suc, ◌+◌, ◌<◌, ◌↔◌, inl}
+use Rattle.std.proofs.Common.{inr, Bool, List, [], ◌∷◌, Some, map, length, slice_get, arith}
 use Rattle.std.specs.BTreeSet.{BTreeSet, contains}
 use Rattle.std.specs.Int.{IsBitSet}
 use Rattle.std.specs.List.{Contains, range_with_len}
@@ -125,7 +126,11 @@ same_reports m xs ys a b =
     let second : slice_get (map place_in ys) i ≡ Some y.place = slice_get-map place_in ys i ∙ ap (option_map place_in) other in
     let same : x.place ≡ y.place = same_Some x.place y.place (sym first ∙ ap (λ (v : List AnalysisPlace). slice_get v i) places ∙ second) in
     let stands : slice_get (places_of m) i ≡ Some x.place = sym (ap (λ (v : List AnalysisPlace). slice_get v i) a.places) ∙ first in
-    let f = place_has m x.place (i, slice_get_within (places_of m) i x.place stands, get_or_from_slice_get (places_of m) i x.place x.place stands) in
+    let f = place_has m x.place (
+      i,
+      slice_get_within (places_of m) i x.place stands,
+      get_or_from_slice_get (places_of m) i x.place x.place stands,
+    ) in
     let told : x.report ≡ y.report =
     same_report m f.0 x.report y.report (a.each i x f.0 at f.1) (b.each i y f.0 other (subst (λ p. IsFunctionAt m p f.0) same f.1)) in
     ap (λ (p : AnalysisPlace). record x { place = p }) same ∙ ap (λ (r : FunctionReport). record y { report = r }) told)
@@ -139,10 +144,12 @@ data Order (s t : Site) : Type 0 where
   behind : ComesBefore t s → Order s t
 
 number_order : (a b : ℕ) → (P : Type 0) → (a < b → P) → (a ≡ b → P) → (b < a → P) → P
-number_order a b P less equal more = elim (cases_order a b) [ inl e ↦ equal e | inr other ↦ elim other [ inl lt ↦ less lt | inr gt ↦ more gt ] ]
+number_order a b P less equal more = elim (cases_order a b)
+    [ inl e ↦ equal e | inr other ↦ elim other [ inl lt ↦ less lt | inr gt ↦ more gt ] ]
 
 order : (s t : Site) → Order s t
-order (OfGlobalExpression a) (OfGlobalExpression b) = number_order a b (Order (OfGlobalExpression a) (OfGlobalExpression b)) before (λ e. same (ap OfGlobalExpression e)) behind
+order (OfGlobalExpression a) (OfGlobalExpression b) = number_order a b (Order (OfGlobalExpression a) (OfGlobalExpression b)) before
+    (λ e. same (ap OfGlobalExpression e)) behind
 order (OfGlobalExpression a) (OfFunction b) = before tt
 order (OfGlobalExpression a) (OfEntryPoint b) = before tt
 order (OfFunction a) (OfGlobalExpression b) = behind tt
@@ -150,14 +157,16 @@ order (OfFunction a) (OfFunction b) = number_order a b (Order (OfFunction a) (Of
 order (OfFunction a) (OfEntryPoint b) = before tt
 order (OfEntryPoint a) (OfGlobalExpression b) = behind tt
 order (OfEntryPoint a) (OfFunction b) = behind tt
-order (OfEntryPoint a) (OfEntryPoint b) = number_order a b (Order (OfEntryPoint a) (OfEntryPoint b)) before (λ e. same (ap OfEntryPoint e)) behind
+order (OfEntryPoint a) (OfEntryPoint b) = number_order a b (Order (OfEntryPoint a) (OfEntryPoint b)) before
+    (λ e. same (ap OfEntryPoint e)) behind
 
 settled : (s t : Site) → Order s t → (ComesBefore s t → ⊥) → (ComesBefore t s → ⊥) → s ≡ t
 settled s t (before b) first second = absurd (first b)
 settled s t (same e) first second = e
 settled s t (behind b) first second = absurd (second b)
 
-same_site : (m : Module) (settings : Settings) (s t : Site) (c d : Cause) → IsFirstFault m settings s c → IsFirstFault m settings t d → s ≡ t
+same_site : (m : Module) (settings : Settings) (s t : Site) (c d : Cause) → IsFirstFault m settings s c →
+    IsFirstFault m settings t d → s ≡ t
 same_site m settings s t c d x y = settled s t (order s t) (λ b. y.first s c b x.stands) (λ b. x.first t d b y.stands)
 
 same_place : (p q : AnalysisPlace) → site_of p ≡ site_of q → p ≡ q

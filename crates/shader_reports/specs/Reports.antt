@@ -6,7 +6,8 @@ use Rattle.std.specs.List.Sorted.{IsStrictlySortedBy}
 use Rattle.std.specs.Ordering.{nat_cmp, ordering_then}
 use Rattle.std.specs.declared.cmp.Ordering.{Ordering}
 use Rattle.shader_chains.specs.Counts.{count_of}
-use Rattle.shader_chains.specs.Faults.{Cause, Untyped, MissingCapability, NoPlace, BindingArrayElement, NonUniformControlFlow, CountFull, Settings, IsAccepted, IsFirstFault}
+use Rattle.shader_chains.specs.Faults.{Cause, Untyped, MissingCapability, NoPlace, BindingArrayElement, NonUniformControlFlow}
+use Rattle.shader_chains.specs.Faults.{CountFull, Settings, IsAccepted, IsFirstFault}
 use Rattle.shader_chains.specs.Infos.{Use, bit_of, InGlobal}
 use Rattle.shader_chains.specs.Origins.{ResultOrigin}
 use Rattle.shader_chains.specs.Pairs.{IsPair}
@@ -66,21 +67,21 @@ pub record AreReports (m : Module) (reports : List PlaceReport) : Type 0 where
   pub each : (i : ℕ) (r : PlaceReport) (f : Function) → slice_get reports i ≡ Some r → IsFunctionAt m r.place f →
       IsFunctionReport m f r.report
 
-abbrev pub kind_of : Cause → FaultKind
-kind_of (Untyped e refusal) = kind.Expression
-kind_of (MissingCapability e capability) = kind.Expression
-kind_of (NoPlace e) = kind.Expression
-kind_of (BindingArrayElement e) = kind.Expression
-kind_of (NonUniformControlFlow needs e disruptor) = kind.NonUniformControlFlow
-kind_of (CountFull e) = kind.CountFull
+abbrev pub kind_of_cause : Cause → FaultKind
+kind_of_cause (Untyped e refusal) = kind.Expression
+kind_of_cause (MissingCapability e capability) = kind.Expression
+kind_of_cause (NoPlace e) = kind.Expression
+kind_of_cause (BindingArrayElement e) = kind.Expression
+kind_of_cause (NonUniformControlFlow needs e disruptor) = kind.NonUniformControlFlow
+kind_of_cause (CountFull e) = kind.CountFull
 
 -- the place is the first with a fault, and some fault of that kind stands there
-pub record IsRefusal (m : Module) (settings : Settings) (at : AnalysisPlace) (told : FaultKind) : Type 0 where
+pub record IsFaultReport (m : Module) (settings : Settings) (at : AnalysisPlace) (told : FaultKind) : Type 0 where
   pub cause : Cause
   pub first : IsFirstFault m settings (site_of at) cause
-  pub kind : told ≡ kind_of cause
+  pub kind : told ≡ kind_of_cause cause
 
 -- what is told of a module: all functions and entry points where there is no fault, and else the first place with one
 abbrev pub IsModuleReport : Module → Settings → ModuleReport → Type 0
 IsModuleReport m settings (Accepted reports) = IsAccepted m settings × AreReports m reports
-IsModuleReport m settings (Refused at told) = IsRefusal m settings at told
+IsModuleReport m settings (Refused at told) = IsFaultReport m settings at told

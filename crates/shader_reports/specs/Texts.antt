@@ -13,9 +13,9 @@ use Rattle.shader_reports.specs.declared.report.ModuleReport.TheVariants.{Accept
 use Rattle.shader_reports.specs.declared.report.PlaceReport.{PlaceReport}
 
 -- items with commas between them, or a hyphen where there are none
-abbrev pub listed : {X : Type 0} → (X → List ℕ) → List X → List ℕ
-listed text [] = codes "-"
-listed text (x ∷ xs) = join_by text (codes ",") (x ∷ xs)
+abbrev pub list_text : {X : Type 0} → (X → List ℕ) → List X → List ℕ
+list_text text [] = codes "-"
+list_text text (x ∷ xs) = join_by text (codes ",") (x ∷ xs)
 
 abbrev pub use_text : GlobalUse → List ℕ
 use_text uses = decimal uses.0
@@ -29,8 +29,8 @@ result_text false = codes "uniform"
 
 abbrev pub function_text : FunctionReport → List ℕ
 function_text report =
-    codes "uses " ++ listed use_text report.uses ++ codes " pairs " ++ listed pair_text report.pairs
-    ++ codes " counts " ++ listed decimal report.counts ++ codes " result " ++ result_text report.varies
+    codes "uses " ++ list_text use_text report.uses ++ codes " pairs " ++ list_text pair_text report.pairs
+    ++ codes " counts " ++ list_text decimal report.counts ++ codes " result " ++ result_text report.varies
 
 abbrev pub place_text : AnalysisPlace → List ℕ
 place_text (place.ConstExpression e) = codes "const " ++ decimal e

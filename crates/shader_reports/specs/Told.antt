@@ -23,7 +23,7 @@ pub record ArePairsOf (info : FunctionInfo) (pairs : List (ℕ × ℕ)) : Type 0
   pub members : (image sampler : ℕ) →
       Contains pairs (image, sampler) ↔ Contains info.sampling_set.keys (record { image = image; sampler = sampler })
 
-pub record Tells (info : FunctionInfo) (report : FunctionReport) : Type 0 where
+pub record TellsFunction (info : FunctionInfo) (report : FunctionReport) : Type 0 where
   pub uses : report.uses ≡ info.global_uses
   pub pairs : ArePairsOf info report.pairs
   pub counts : report.counts ≡ map (λ e. e.ref_count) info.expressions
@@ -33,12 +33,12 @@ pub record Tells (info : FunctionInfo) (report : FunctionReport) : Type 0 where
 pub record IsTold (recorded : Recorded) (report : PlaceReport) : Type 0 where
   pub info : FunctionInfo
   pub held : IsInfoAt recorded report.place info
-  pub tells : Tells info report.report
+  pub tells : TellsFunction info report.report
 
 -- one report is added, of the info at the place
 pub record AddsReport (at : AnalysisPlace) (info : FunctionInfo) (old new : List PlaceReport) : Type 0 where
   pub report : FunctionReport
-  pub tells : Tells info report
+  pub tells : TellsFunction info report
   pub added : new ≡ old ++ record { place = at; report = report } ∷ []
 
 -- the reports are of these places, in order, and tell what is recorded there

@@ -3,7 +3,7 @@ ghost use Rattle.std.specs.Prelude.{◌≡◌, [], length, map, IfOk, OnOk};
 ghost use Rattle.std.specs.List.{range_with_len};
 ghost use Rattle.shader_info.specs.declared.error.AnalysisPlace.TheVariants.{Function};
 ghost use Rattle.shader_reports.specs.Reports.{IsModuleReport, places_of};
-ghost use Rattle.shader_reports.specs.Told.{AddsReport, ArePairsOf, AreTold, Tells, TellsAll, TellsRefusal, told_kind};
+ghost use Rattle.shader_reports.specs.Told.{AddsReport, ArePairsOf, AreTold, TellsFunction, TellsAll, TellsRefusal, told_kind};
 ghost use Rattle.shader_resolve.specs.WellFormed.{IsWellFormed};
 ghost use Rattle.shader_steps.specs.Causes.{settings_of};
 
@@ -45,7 +45,7 @@ fn counts_of(alloc: Global, info: &FunctionInfo) -> Result<Items<usize>, AllocEr
 
 /// The report of a function.
 fn function_report(alloc: Global, info: &FunctionInfo) -> Result<FunctionReport, AllocError>
-    ensures { IfOk result (Tells info.now) }
+    ensures { IfOk result (TellsFunction info.now) }
 {
     Ok(FunctionReport {
         uses: info.global_uses.copy(alloc)?,
@@ -144,7 +144,7 @@ fn refused(error: &AnalysisError) -> Result<ModuleReport, AllocError>
 ///
 /// # Errors
 ///
-/// Want of memory.
+/// If allocation fails.
 pub fn report_module(
     alloc: Global,
     module: &Module,

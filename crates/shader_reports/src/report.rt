@@ -1,6 +1,7 @@
 //! What is told of functions, of faults and of modules, and its text.
 ghost use Rattle.std.specs.Prelude.{Some};
-ghost use Rattle.shader_reports.specs.Texts.{fault_text, function_text, listed, pair_text, place_text, placed_text, report_text, use_text};
+ghost use Rattle.shader_reports.specs.Texts.{fault_text, function_text, list_text, pair_text};
+ghost use Rattle.shader_reports.specs.Texts.{place_text, placed_text, report_text, use_text};
 
 use shader_info::{AnalysisPlace, GlobalUse};
 use shader_ir::Items;
@@ -51,7 +52,7 @@ pub enum ModuleReport {
 struct UsesText<'a>(&'a [GlobalUse]);
 
 impl fmt::Display for UsesText<'_> {
-    ghost output = { λ text. Some (listed use_text text.0.now) };
+    ghost output = { λ text. Some (list_text use_text text.0.now) };
 
     fn fmt<W: fmt::Write>(&self, f: &mut fmt::Formatter<W>) -> fmt::Result {
         let Some((first, others)) = self.0.split_first() else {
@@ -70,7 +71,7 @@ impl fmt::Display for UsesText<'_> {
 struct PairsText<'a>(&'a [(usize, usize)]);
 
 impl fmt::Display for PairsText<'_> {
-    ghost output = { λ text. Some (listed pair_text text.0.now) };
+    ghost output = { λ text. Some (list_text pair_text text.0.now) };
 
     fn fmt<W: fmt::Write>(&self, f: &mut fmt::Formatter<W>) -> fmt::Result {
         let Some((first, others)) = self.0.split_first() else {
@@ -91,7 +92,7 @@ struct CountsText<'a>(&'a [usize]);
 impl fmt::Display for CountsText<'_> {
     ghost use Rattle.std.specs.Fmt.{decimal};
 
-    ghost output = { λ text. Some (listed decimal text.0.now) };
+    ghost output = { λ text. Some (list_text decimal text.0.now) };
 
     fn fmt<W: fmt::Write>(&self, f: &mut fmt::Formatter<W>) -> fmt::Result {
         let Some((first, others)) = self.0.split_first() else {

@@ -15,8 +15,10 @@ asked context (form.AccessIndex base index) bound below = below 0 (0, Read) (ome
 asked context (form.Splat size value) bound below = below 0 (0, Read) (omega arith)
 asked context (form.Swizzle size vector pattern) bound below = below 0 (0, Read) (omega arith)
 asked context (form.Load pointer) bound below = below 0 (0, Read) (omega arith)
-asked context (form.ImageSample image sampler (Some gather) coordinate array_index offset level depth_ref clamp_to_edge) bound below = below 0 (0, Read) (omega arith)
-asked context (form.ImageSample image sampler None coordinate array_index offset level depth_ref clamp_to_edge) bound below = below 0 (0, Read) (omega arith)
+asked context (form.ImageSample image sampler (Some gather) clamp_to_edge coordinate array_index offset level depth_ref) bound below =
+    below 0 (0, Read) (omega arith)
+asked context (form.ImageSample image sampler None clamp_to_edge coordinate array_index offset level depth_ref) bound below =
+    below 0 (0, Read) (omega arith)
 asked context (form.ImageLoad image coordinate array_index sample level) bound below = below 0 (0, Read) (omega arith)
 asked context (form.ImageQuery image (query.Size level)) bound below = below 0 (0, Read) (omega arith)
 asked context (form.ImageQuery image other) bound below = tt

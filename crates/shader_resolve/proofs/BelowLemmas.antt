@@ -15,7 +15,8 @@ optional bound (Some handle) slots = refl
 pub ruleset optional_below = (optional)
 
 -- operands below the lesser of two bounds
-pub below_both : (a b : ℕ) (operands : List (ℕ × Label)) → operands_below (min a b) operands ≡ (operands_below a operands && operands_below b operands)
+pub below_both : (a b : ℕ) (operands : List (ℕ × Label)) →
+    operands_below (min a b) operands ≡ (operands_below a operands && operands_below b operands)
 below_both a b operands =
     same_from_decides (operands_below (min a b) operands) (operands_below a operands && operands_below b operands)
     (operands-decide (min a b) operands)

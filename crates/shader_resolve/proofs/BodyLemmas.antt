@@ -14,7 +14,8 @@ in_list-append check (x ∷ xs) ys =
     ap (λ rest. then (check x) rest) (in_list-append check xs ys) ∙ sym (then-assoc (check x) (in_list check xs) (in_list check ys))
 
 module _ (check : Step → Checked) where
-  joined : (first rest : Checked) (xs ys : List Step) → first ≡ in_list check xs → rest ≡ in_list check ys → then first rest ≡ in_list check (xs ++ ys)
+  joined : (first rest : Checked) (xs ys : List Step) → first ≡ in_list check xs → rest ≡ in_list check ys →
+      then first rest ≡ in_list check (xs ++ ys)
   joined first rest xs ys e f = ap (λ a. then a rest) e ∙ ap (λ b. then (in_list check xs) b) f ∙ sym (in_list-append check xs ys)
 
   mutual
@@ -31,7 +32,8 @@ module _ (check : Step → Checked) where
         joined (in_body check accept) (in_body check reject) (statements accept) (statements reject) (body-list accept) (body-list reject)
     within-list (Switch selector cases) = cases-list cases
     within-list (Loop body continuing break_if) =
-        joined (in_body check body) (in_body check continuing) (statements body) (statements continuing) (body-list body) (body-list continuing)
+        joined (in_body check body) (in_body check continuing) (statements body) (statements continuing) (body-list body)
+        (body-list continuing)
 
     cases-list : (cases : Cases) → in_cases check cases ≡ in_list check (case_statements cases)
     cases-list NoCase = refl

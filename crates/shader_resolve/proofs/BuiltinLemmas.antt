@@ -1,5 +1,6 @@
 -- Which rules of a builtin remain, what they read of types, and what they conclude.
-use Rattle.std.proofs.Common.{◌≡◌, ◌∙◌, ap, sym, refl, subst, ℕ, ◌<◌, Bool, true, false, cond, ◌&&◌, List, [], ◌∷◌, ◌++◌, map, Option, Some, None, IfSome, All, length, slice_get}
+use Rattle.std.proofs.Common.{◌≡◌, ◌∙◌, ap, sym, refl, subst, ℕ, ◌<◌, Bool, true, false, cond, ◌&&◌, List}
+use Rattle.std.proofs.Common.{[], ◌∷◌, ◌++◌, map, Option, Some, None, IfSome, All, length, slice_get}
 use Rattle.std.specs.List.{filter, flat_map, list_all}
 use Rattle.std.proofs.lemmas.List.Elements.{All-nil, All-append, All-cons, All-filter, All-head, All-map, All-weaker, filter_agree}
 use Rattle.std.proofs.lemmas.List.Sums.{AllPass-from_list_all}
@@ -22,7 +23,8 @@ use Rattle.shader_overloads.specs.declared.regular.ConclusionRule.TheVariants as
 use Rattle.shader_overloads.specs.declared.rule.Conclusion.{Conclusion}
 use Rattle.shader_overloads.specs.declared.rule.Conclusion.TheVariants.{Value, Predeclared}
 use Rattle.shader_overloads.specs.declared.rule.Rule.{Rule}
-use Rattle.shader_overloads.specs.Builtins.{acceptance_of, rules_of, ldexp_rules, outer_rules, refract_rules, transpose_rules, extract_bits_rules, insert_bits_rules, mix_rules}
+use Rattle.shader_overloads.specs.Builtins.{acceptance_of, rules_of, ldexp_rules, outer_rules, refract_rules}
+use Rattle.shader_overloads.specs.Builtins.{transpose_rules, extract_bits_rules, insert_bits_rules, mix_rules}
 use Rattle.shader_overloads.specs.Remaining.{remaining}
 use Rattle.shader_overloads.specs.Resolutions.{registered, resolution_of, same_predeclared}
 use Rattle.shader_overloads.specs.Rules.{conclusion_of, regular_rules, rule_for}
@@ -45,7 +47,8 @@ module _ (accepting : List «Type» → ℕ → TypeInner → Rule → Bool) (ty
   pub after_one-is : filter (accepting types 0 first) rules ≡ remaining accepting types (Arg 0 first ∷ []) rules
   after_one-is = filter_agree _ _ (λ rule. and-true (accepting types 0 first rule)) rules
 
-  pub after_two-is : (second : TypeInner) → filter (accepting types 1 second) (remaining accepting types (Arg 0 first ∷ []) rules) ≡ remaining accepting types (Arg 0 first ∷ Arg 1 second ∷ []) rules
+  pub after_two-is : (second : TypeInner) → filter (accepting types 1 second) (remaining accepting types (Arg 0 first ∷ []) rules)
+      ≡ remaining accepting types (Arg 0 first ∷ Arg 1 second ∷ []) rules
   after_two-is second =
       filter-filter (accepting types 1 second) _ rules
       ∙ filter_agree _ _ (λ rule. and-more (accepting types 0 first rule) (accepting types 1 second rule)) rules
@@ -53,7 +56,8 @@ module _ (accepting : List «Type» → ℕ → TypeInner → Rule → Bool) (ty
 -- ---- canonical forms
 
 -- a type and its canonical form are accepted by the same rules of a builtin
-acceptance-canonical : (fun : MathFunction) (types : List «Type») (i : ℕ) (ty : TypeInner) (rule : Rule) → acceptance_of fun types i (canonical types ty) rule ≡ acceptance_of fun types i ty rule
+acceptance-canonical : (fun : MathFunction) (types : List «Type») (i : ℕ) (ty : TypeInner) (rule : Rule) →
+    acceptance_of fun types i (canonical types ty) rule ≡ acceptance_of fun types i ty rule
 acceptance-canonical f.Ldexp types i ty rule = list_accepts-canonical types i ty rule
 acceptance-canonical f.Outer types i ty rule = list_accepts-canonical types i ty rule
 acceptance-canonical f.Refract types i ty rule = list_accepts-canonical types i ty rule
@@ -67,11 +71,15 @@ module _ (types : List «Type») (fun : MathFunction) where
   pub one-canonical : (first : TypeInner) → rules_after_one types fun first ≡ rules_after_one types fun (canonical types first)
   one-canonical first = filter_agree _ _ (λ rule. ap (λ b. b && true) (sym (acceptance-canonical fun types 0 first rule))) (rules_of fun)
 
-  pub first-canonical : (first second : TypeInner) → rules_after_two types fun first second ≡ rules_after_two types fun (canonical types first) second
-  first-canonical first second = filter_agree _ _ (λ rule. ap (λ b. b && (acceptance_of fun types 1 second rule && true)) (sym (acceptance-canonical fun types 0 first rule))) (rules_of fun)
+  pub first-canonical : (first second : TypeInner) → rules_after_two types fun first second
+      ≡ rules_after_two types fun (canonical types first) second
+  first-canonical first second = filter_agree _ _ (λ rule. ap (λ b. b && (acceptance_of fun types 1 second rule && true))
+      (sym (acceptance-canonical fun types 0 first rule))) (rules_of fun)
 
-  pub second-canonical : (first second : TypeInner) → rules_after_two types fun first second ≡ rules_after_two types fun first (canonical types second)
-  second-canonical first second = filter_agree _ _ (λ rule. ap (λ b. acceptance_of fun types 0 first rule && (b && true)) (sym (acceptance-canonical fun types 1 second rule))) (rules_of fun)
+  pub second-canonical : (first second : TypeInner) → rules_after_two types fun first second
+      ≡ rules_after_two types fun first (canonical types second)
+  second-canonical first second = filter_agree _ _ (λ rule. ap (λ b. acceptance_of fun types 0 first rule && (b && true))
+      (sym (acceptance-canonical fun types 1 second rule))) (rules_of fun)
 
 -- ---- conclusions
 
@@ -101,11 +109,14 @@ conclusion-plain conclude size s = refl
 module _ (arity : ℕ) (conclude : ConclusionRule) where
   size-plain : (size : ConstructorSize) (scalars : List Scalar) → ArePlain (map (rule_for arity conclude size) scalars)
   size-plain size [] = All-nil (λ rule. concludes_plainly rule ≡ true)
-  size-plain size (s ∷ scalars) = All-cons (λ rule. concludes_plainly rule ≡ true) _ _ (conclusion-plain conclude size s) (size-plain size scalars)
+  size-plain size (s ∷ scalars) = All-cons (λ rule. concludes_plainly rule ≡ true) _ _ (conclusion-plain conclude size s)
+      (size-plain size scalars)
 
-  sizes-plain : (sizes : List ConstructorSize) (scalars : List Scalar) → ArePlain (flat_map (λ size. map (rule_for arity conclude size) scalars) sizes)
+  sizes-plain : (sizes : List ConstructorSize) (scalars : List Scalar) →
+      ArePlain (flat_map (λ size. map (rule_for arity conclude size) scalars) sizes)
   sizes-plain [] scalars = All-nil (λ rule. concludes_plainly rule ≡ true)
-  sizes-plain (size ∷ sizes) scalars = All-append (λ rule. concludes_plainly rule ≡ true) _ _ (size-plain size scalars) (sizes-plain sizes scalars)
+  sizes-plain (size ∷ sizes) scalars = All-append (λ rule. concludes_plainly rule ≡ true) _ _ (size-plain size scalars)
+      (sizes-plain sizes scalars)
 
   regular-plain : (sizes : List ConstructorSize) (scalars : List Scalar) → ArePlain (regular_rules arity conclude sizes scalars)
   unfolding regular_rules
@@ -164,7 +175,8 @@ module _ (types : List «Type») where
   plain-fits inner e = absurd (cc)
 
   module _ (special : SpecialTypes) (held : All (λ (entry : PredeclaredType × ℕ). entry.1 < length types) special.predeclared_types) where
-    registered-fits : (predeclared : PredeclaredType) (found : Option ℕ) → IfSome found (λ ty. ty < length types) → registered special predeclared ≡ found → AnswerFits (concluded (resolution_of special (Predeclared predeclared)))
+    registered-fits : (predeclared : PredeclaredType) (found : Option ℕ) → IfSome found (λ ty. ty < length types) →
+        registered special predeclared ≡ found → AnswerFits (concluded (resolution_of special (Predeclared predeclared)))
     registered-fits predeclared (Some handle) lt e = rw e lt
     registered-fits predeclared None lt e = rw e tt
 
@@ -176,7 +188,8 @@ module _ (types : List «Type») where
 
     -- the first of such rules concludes what is in the arena
     pub first-fits : (p : Rule → Bool) (fun : MathFunction) → AnswerFits (first_conclusion special (filter p (rules_of fun)))
-    first-fits p fun = at_first (filter p (rules_of fun)) (All-filter p (λ rule. concludes_plainly rule ≡ true) (rules_of fun) (rules-plain fun))
+    first-fits p fun = at_first (filter p (rules_of fun)) (All-filter p (λ rule. concludes_plainly rule ≡ true) (rules_of fun)
+        (rules-plain fun))
       where
         at_first : (rules : List Rule) → ArePlain rules → AnswerFits (first_conclusion special rules)
         at_first [] plain = tt

@@ -4,7 +4,8 @@ use Rattle.shader_ir.specs.declared.types.«Type».{«Type»}
 use Rattle.shader_ir.specs.declared.proc.type_resolution.TypeResolution.{TypeResolution}
 use Rattle.shader_ir.specs.Key.{key_of}
 use Rattle.shader_resolve.specs.declared.error.ResolveError.{ResolveError}
-use Rattle.shader_resolve.specs.CongruenceLaws.{AreAlike, AreToldAlike, KeysRestOnKeys, Respects, ResultsAreAlike, RowsRespectKeys, TellAlike}
+use Rattle.shader_resolve.specs.CongruenceLaws.{AreAlike, AreToldAlike, KeysRestOnKeys, Respects}
+use Rattle.shader_resolve.specs.CongruenceLaws.{ResultsAreAlike, RowsRespectKeys, TellAlike}
 use Rattle.shader_resolve.specs.Follows.{Answered, Follows, Told, takes_memory}
 use Rattle.shader_resolve.specs.Outcome.{Given, Meets, Outcome, Refused}
 use Rattle.shader_resolve.specs.Rows.{One, Plain, Row, Two, row}
@@ -13,7 +14,8 @@ use Rattle.shader_resolve.proofs.FollowLemmas.{row_key-agrees}
 use Rattle.shader_resolve.proofs.RowLemmas.{row-respects}
 
 module _ (types : List «Type») (memory : Bool) where
-  meets-alike : (result other : Result TypeResolution ResolveError) (first second : Outcome) → outcome_key types first ≡ outcome_key types second
+  meets-alike : (result other : Result TypeResolution ResolveError) (first second : Outcome) →
+      outcome_key types first ≡ outcome_key types second
       → Meets memory result first → Meets memory other second → AreAlike types memory result other
   meets-alike (Err failure) (Err another) first second same met meets = tt
   meets-alike (Ok given) (Ok found) (Given a) (Given b) same met meets = cc
@@ -28,22 +30,29 @@ module _ (types : List «Type») (memory : Bool) where
     -- it is enough to look at operands that both are told
     answered-alike : (operand : ℕ) (Rest Others : TypeResolution → Type 0)
         → ((told another : Told) → Post operand told → Other operand another → AreToldAlike types told another)
-        → ((first second : TypeResolution) → key_of types first ≡ key_of types second → Rest first → Others second → AreAlike types memory result other)
+        → ((first second : TypeResolution) → key_of types first ≡ key_of types second → Rest first → Others second →
+        AreAlike types memory result other)
         → Answered Post result operand Rest → Answered Other other operand Others → AreAlike types memory result other
-    answered-alike operand Rest Others tells goes (Ok first, posted, rest) (Ok second, told, others) = goes first.now second.now (tells (Ok first) (Ok second) posted told) rest others
+    answered-alike operand Rest Others tells goes (Ok first, posted, rest) (Ok second, told, others) =
+        goes first.now second.now (tells (Ok first) (Ok second) posted told) rest others
     answered-alike operand Rest Others tells goes (Err failure, posted, is) (Err another, told, also) = rw (is, also) tt
-    answered-alike operand Rest Others tells goes (Ok first, posted, rest) (Err another, told, also) = absurd (tells (Ok first) (Err another) posted told)
-    answered-alike operand Rest Others tells goes (Err failure, posted, is) (Ok second, told, others) = absurd (tells (Err failure) (Ok second) posted told)
+    answered-alike operand Rest Others tells goes (Ok first, posted, rest) (Err another, told, also) =
+        absurd (tells (Ok first) (Err another) posted told)
+    answered-alike operand Rest Others tells goes (Err failure, posted, is) (Ok second, told, others) =
+        absurd (tells (Err failure) (Ok second) posted told)
 
-    follows-alike : (asked : Row) → Respects types asked → TellAlike types Post Other asked → Follows memory Post result asked → Follows memory Other other asked
+    follows-alike : (asked : Row) → Respects types asked → TellAlike types Post Other asked → Follows memory Post result asked →
+        Follows memory Other other asked
         → AreAlike types memory result other
     follows-alike (Plain outcome) respects tells met meets = meets-alike result other outcome outcome refl met meets
     follows-alike (One operand answer) respects tells met meets =
-        answered-alike operand _ _ tells (λ first second same. meets-alike result other (answer first) (answer second) (respects first second same)) met meets
+        answered-alike operand _ _ tells (λ first second same. meets-alike result other (answer first) (answer second)
+        (respects first second same)) met meets
     follows-alike (Two left right answer) respects tells met meets =
         answered-alike left _ _ tells.0
         (λ first second same. answered-alike right _ _ tells.1
-        (λ third fourth alike. meets-alike result other (answer first third) (answer second fourth) (respects first second third fourth same alike)))
+        (λ third fourth alike. meets-alike result other (answer first third) (answer second fourth)
+        (respects first second third fourth same alike)))
         met meets
 
 pub keys-agree : KeysRestOnKeys
@@ -54,4 +63,5 @@ rows-respect context expression = row-respects context expression
 
 pub results-alike : (Post Other : ℕ → Told → Type 0) → ResultsAreAlike Post Other
 results-alike Post Other context expression result other tells met meets =
-    follows-alike context.types (takes_memory expression) Post Other result other (row context expression) (row-respects context expression) tells met meets
+    follows-alike context.types (takes_memory expression) Post Other result other (row context expression) (row-respects context expression)
+    tells met meets

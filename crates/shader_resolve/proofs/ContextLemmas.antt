@@ -18,13 +18,15 @@ use Rattle.shader_resolve.proofs.PlaceLemmas.{all-places}
 asked-earlier : (context : Context) (expressions : List Expression) → AtEach OperandsBelow expressions → AskedEarlier context expressions
 asked-earlier context expressions earlier place expression is = asked context expression place (earlier place expression is)
 
-step-in : (checked : Module) (expression : Expression) → IsInRange (context_of checked [] []) expression → IsStep checked.constants checked.overrides expression
+step-in : (checked : Module) (expression : Expression) → IsInRange (context_of checked [] []) expression →
+    IsStep checked.constants checked.overrides expression
 step-in checked (form.Constant constant) lt = lt
 step-in checked (form.Override override) lt = lt
 step-in checked expression any = tt
 
 module _ (checked : Module) (held : HandlesInRange checked) where
-  types-in_range : (locals : List LocalVariable) (arguments : List FunctionArgument) → All (λ (variable : LocalVariable). IsType checked variable.ty) locals
+  types-in_range : (locals : List LocalVariable) (arguments : List FunctionArgument) →
+      All (λ (variable : LocalVariable). IsType checked variable.ty) locals
       → All (λ (argument : FunctionArgument). IsType checked argument.ty) arguments → TypesInRange (context_of checked locals arguments)
   types-in_range locals arguments local_types argument_types =
       let functions = all-places (FunctionInRange checked) checked.functions held.functions.functions in
@@ -40,7 +42,8 @@ module _ (checked : Module) (held : HandlesInRange checked) where
         predeclared = held.special_types.predeclared;
       }
 
-  function-fits : (function : Function) → FunctionInRange checked function → AtEach OperandsBelow function.expressions → FunctionFits checked function
+  function-fits : (function : Function) → FunctionInRange checked function → AtEach OperandsBelow function.expressions →
+      FunctionFits checked function
   function-fits function range earlier = record {
     types = types-in_range function.local_variables function.arguments (λ k d lt. (range.locals k d lt).ty) range.arguments;
     names = λ k d lt. (range.expressions k d lt).names;
@@ -55,7 +58,8 @@ module _ (checked : Module) (held : HandlesInRange checked) where
     sizes = λ k d lt. (held.types k d lt).sized;
     constants_in = λ k d lt. (held.constants k d lt).init;
     overrides_in = λ k d lt. (held.overrides k d lt).init;
-    steps = All-weaker (IsInRange (context_of checked [] [])) (IsStep checked.constants checked.overrides) (step-in checked) checked.global_expressions global-names;
+    steps = All-weaker (IsInRange (context_of checked [] [])) (IsStep checked.constants checked.overrides) (step-in checked)
+        checked.global_expressions global-names;
   }
 
 pub contexts_of_well_formed : WellFormedContextsFit
@@ -66,8 +70,10 @@ contexts_of_well_formed checked is =
       backward = is.types;
       functions =
           all-places (FunctionFits checked) checked.functions
-          (λ place function at. function-fits checked is.handles function (range.functions place function at) (earlier.functions place function at));
-      entry_points = λ k d lt. function-fits checked is.handles (get_or checked.entry_points k d).function (range.entry_points k d lt) (earlier.entry_points k d lt);
+          (λ place function at. function-fits checked is.handles function (range.functions place function at)
+          (earlier.functions place function at));
+      entry_points = λ k d lt. function-fits checked is.handles (get_or checked.entry_points k d).function (range.entry_points k d lt)
+          (earlier.entry_points k d lt);
       global_expressions = record {
         types =
             types-in_range checked is.handles [] [] (All-nil (λ (variable : LocalVariable). IsType checked variable.ty))

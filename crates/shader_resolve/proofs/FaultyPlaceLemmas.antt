@@ -1,5 +1,6 @@
 -- What find_fault answers is the first of a module's places at which a fault stands, and none where check_module answers none.
-use Rattle.std.proofs.Common.{◌≡◌, ◌↔◌, ◌∙◌, inl, inr, sym, ap, subst, refl, ℕ, suc, ◌+◌, Bool, true, false, ◌&&◌, List, [], ◌∷◌, ◌++◌, Option, Some, IfSome, IsOk, IsNone, Ok, Err, All, map, length, slice_get, arith}
+use Rattle.std.proofs.Common.{◌≡◌, ◌↔◌, ◌∙◌, inl, inr, sym, ap, subst, refl, ℕ, suc, ◌+◌, Bool, true, false, ◌&&◌, List, []}
+use Rattle.std.proofs.Common.{◌∷◌, ◌++◌, Option, Some, IfSome, IsOk, IsNone, Ok, Err, All, map, length, slice_get, arith}
 use Rattle.std.specs.Bool.{Decides}
 use Rattle.std.specs.List.{enumerate_from, flat_map}
 use Rattle.std.specs.Result.{result_err}
@@ -9,10 +10,19 @@ use Rattle.shader_ir.specs.declared.function.EntryPoint.{EntryPoint}
 use Rattle.shader_ir.specs.declared.function.Function.{Function}
 use Rattle.shader_ir.specs.declared.function.FunctionArgument.{FunctionArgument}
 use Rattle.shader_ir.specs.declared.module.Module.{Module}
-use Rattle.shader_resolve.specs.FaultyPlaces.{DeclarationsLack, ExpressionLacks, FilterLacks, FunctionLacks, HandlesLack, IsFirstFault, OfEntryPoint, OfFunction, PlaceLacks, StandsFirst, TypeLacks, at_each, function_places, in_entry_point, in_function, places, places_within, variable_places}
-use Rattle.shader_resolve.specs.ModuleTests.{Checked, bounds_of, check_argument, check_entry_point, check_expression, check_filter, check_function, check_module, check_statement, check_type, constant_in_range, every, every_entry, function_in_range, global_bounds, global_in_range, guard, in_arena, in_body, in_entries, in_list, override_in_range, passed, special_in_range, then, variables_in_range}
-use Rattle.shader_resolve.specs.PlaceTests.{Found, check_declarations, find_constants, find_entry_points, find_expressions, find_filters, find_functions, find_global_expressions, find_globals, find_in_entry_point, find_in_function, find_in_module, find_overrides, find_types, find_variables, first_in, first_within, found_here, handles_tested, or_later, within}
-use Rattle.shader_resolve.specs.WellFormed.{ConstantInRange, GlobalInRange, IsWellFormed, Lacks, OverrideInRange, SpecialTypesInRange, Stands}
+use Rattle.shader_resolve.specs.FaultyPlaces.{DeclarationsLack, ExpressionLacks, FilterLacks, FunctionLacks, HandlesLack, IsFirstFault}
+use Rattle.shader_resolve.specs.FaultyPlaces.{OfEntryPoint, OfFunction, PlaceLacks, StandsFirst, TypeLacks, at_each, function_places}
+use Rattle.shader_resolve.specs.FaultyPlaces.{in_entry_point, in_function, places, places_within, variable_places}
+use Rattle.shader_resolve.specs.ModuleTests.{Checked, bounds_of, check_argument, check_entry_point, check_expression, check_filter}
+use Rattle.shader_resolve.specs.ModuleTests.{check_function, check_module, check_statement, check_type, constant_in_range, every}
+use Rattle.shader_resolve.specs.ModuleTests.{every_entry, function_in_range, global_bounds, global_in_range, guard, in_arena, in_body}
+use Rattle.shader_resolve.specs.ModuleTests.{in_entries, in_list, override_in_range, passed, special_in_range, then, variables_in_range}
+use Rattle.shader_resolve.specs.PlaceTests.{Found, check_declarations, find_constants, find_entry_points, find_expressions}
+use Rattle.shader_resolve.specs.PlaceTests.{find_filters, find_functions, find_global_expressions, find_globals, find_in_entry_point}
+use Rattle.shader_resolve.specs.PlaceTests.{find_in_function, find_in_module, find_overrides, find_types, find_variables}
+use Rattle.shader_resolve.specs.PlaceTests.{first_in, first_within, found_here, handles_tested, or_later, within}
+use Rattle.shader_resolve.specs.WellFormed.{ConstantInRange, GlobalInRange, IsWellFormed, Lacks}
+use Rattle.shader_resolve.specs.WellFormed.{OverrideInRange, SpecialTypesInRange, Stands}
 use Rattle.shader_resolve.specs.declared.well_formed.ModuleFault.{ModuleFault}
 use Rattle.shader_resolve.specs.declared.well_formed.ModuleFault.TheVariants.{HandleOutOfRange, ValuePointerArgument}
 use Rattle.shader_resolve.specs.declared.well_formed.places.FunctionPlace.{FunctionPlace}
@@ -20,8 +30,10 @@ use Rattle.shader_resolve.specs.declared.well_formed.places.FunctionPlace.TheVar
 use Rattle.shader_resolve.specs.declared.well_formed.places.ModulePlace.{ModulePlace}
 use Rattle.shader_resolve.specs.declared.well_formed.places.ModulePlace.TheVariants as place
 use Rattle.shader_resolve.proofs.BodyLemmas.{then-assoc}
-use Rattle.shader_resolve.proofs.ModuleLemmas.{ArgumentFacts, Sound, along, any-item, argument-sound, body-sound, expression-sound, filter-sound, guarded, in_list-sound, module-sound, ok-decides, then-sound, type-sound}
-use Rattle.shader_resolve.proofs.TestLemmas.{OthersInRange, constant-decides, function-decides, global-decides, override-decides, special-decides}
+use Rattle.shader_resolve.proofs.ModuleLemmas.{ArgumentFacts, Sound, along, any-item, argument-sound, body-sound, expression-sound}
+use Rattle.shader_resolve.proofs.ModuleLemmas.{filter-sound, guarded, in_list-sound, module-sound, ok-decides, then-sound, type-sound}
+use Rattle.shader_resolve.proofs.TestLemmas.{OthersInRange, constant-decides, function-decides}
+use Rattle.shader_resolve.proofs.TestLemmas.{global-decides, override-decides, special-decides}
 
 -- no fault stands at the places
 abbrev NoneOf : {P : Type 0} → (P → ModuleFault → Type 0) → List P → Type 0

@@ -15,14 +15,16 @@ use Rattle.shader_resolve.proofs.TypingLemmas.{key_of-standing}
 use Rattle.shader_ir.specs.declared.types.«Type».{«Type»}
 
 -- equal keys at the operands that are asked give one key, or none
-pub row_key-agrees : (types : List «Type») (asked : Row) (keys others : ℕ → Option Key) → EachAsked (λ operand. keys operand ≡ others operand) asked → row_key types keys asked ≡ row_key types others asked
+pub row_key-agrees : (types : List «Type») (asked : Row) (keys others : ℕ → Option Key) →
+    EachAsked (λ operand. keys operand ≡ others operand) asked → row_key types keys asked ≡ row_key types others asked
 row_key-agrees types (Plain outcome) keys others same = refl
 row_key-agrees types (One operand answer) keys others same = ap (λ key. at_key key (λ told. outcome_key types (answer told))) same
 row_key-agrees types (Two left right answer) keys others same =
     ap (λ key. at_key key (λ first. at_key (keys right) (λ second. outcome_key types (answer first second)))) same.0
     ∙ ap (λ key. at_key (others left) (λ first. at_key key (λ second. outcome_key types (answer first second)))) same.1
 
-at_key-same : (key : Option Key) (first second : TypeResolution → Option Key) → ((told : TypeResolution) → first told ≡ second told) → at_key key first ≡ at_key key second
+at_key-same : (key : Option Key) (first second : TypeResolution → Option Key) → ((told : TypeResolution) → first told ≡ second told) →
+    at_key key first ≡ at_key key second
 at_key-same (Some key) first second same = same (standing key)
 at_key-same None first second same = refl
 
@@ -32,7 +34,8 @@ wanted true failure wants = wants
 wanted false failure wants = absurd wants
 
 module _ (memory : Bool) (types : List «Type») where
-  meets-key : (result : Result TypeResolution ResolveError) (outcome : Outcome) → Meets memory result outcome → HasKey types result (outcome_key types outcome)
+  meets-key : (result : Result TypeResolution ResolveError) (outcome : Outcome) → Meets memory result outcome →
+      HasKey types result (outcome_key types outcome)
   meets-key (Ok resolution) (Given given) meets = ap (λ told. Some (key_of types told)) (sym meets)
   meets-key (Ok resolution) (Refused refusal) meets = absurd meets
   meets-key (Err failure) (Given given) meets = inr (wanted memory failure meets)
@@ -41,35 +44,45 @@ module _ (memory : Bool) (types : List «Type») where
   failed : (result : Result TypeResolution ResolveError) (failure : ResolveError) → result ≡ Err failure → HasKey types result None
   failed result failure is = subst (λ answer. HasKey types answer None) (sym is) (inl refl)
 
-  along : (result : Result TypeResolution ResolveError) (key other : Option Key) → key ≡ other → HasKey types result other → HasKey types result key
+  along : (result : Result TypeResolution ResolveError) (key other : Option Key) → key ≡ other → HasKey types result other →
+      HasKey types result key
   along result key other same has = subst (λ told. HasKey types result told) (sym same) has
 
   module _ (Post : ℕ → Told → Type 0) (result : Result TypeResolution ResolveError) (keys : ℕ → Option Key) where
-    one : (operand : ℕ) (answer : TypeResolution → Outcome) → ((told : Told) → Post operand told → keys operand ≡ told_key types told) → Respects types (One operand answer) → Answered Post result operand (λ told. Meets memory result (answer told)) → HasKey types result (row_key types keys (One operand answer))
+    one : (operand : ℕ) (answer : TypeResolution → Outcome) → ((told : Told) → Post operand told → keys operand ≡ told_key types told) →
+        Respects types (One operand answer) → Answered Post result operand (λ told. Meets memory result (answer told)) →
+        HasKey types result (row_key types keys (One operand answer))
     one operand answer tells respects (Ok told, posted, meets) =
         along result _ _
         (ap (λ key. at_key key (λ there. outcome_key types (answer there))) (tells (Ok told) posted)
         ∙ respects (standing (key_of types told.now)) told.now (key_of-standing types told.now))
         (meets-key result (answer told.now) meets)
     one operand answer tells respects (Err failure, posted, is) =
-        along result _ _ (ap (λ key. at_key key (λ there. outcome_key types (answer there))) (tells (Err failure) posted)) (failed result failure is)
+        along result _ _ (ap (λ key. at_key key (λ there. outcome_key types (answer there))) (tells (Err failure) posted))
+        (failed result failure is)
 
     -- the result has the key that the row gives on keys
-    pub follows-key : (asked : Row) → TellsKeys types Post keys asked → Respects types asked → Follows memory Post result asked → HasKey types result (row_key types keys asked)
+    pub follows-key : (asked : Row) → TellsKeys types Post keys asked → Respects types asked → Follows memory Post result asked →
+        HasKey types result (row_key types keys asked)
     follows-key (Plain outcome) tells respects follows = meets-key result outcome follows
     follows-key (One operand answer) tells respects follows = one operand answer tells respects follows
     follows-key (Two left right answer) tells respects (Err failure, posted, is) =
-        along result _ _ (ap (λ key. at_key key (λ first. at_key (keys right) (λ second. outcome_key types (answer first second)))) (tells.0 (Err failure) posted)) (failed result failure is)
+        along result _ _ (ap (λ key. at_key key (λ first. at_key (keys right) (λ second. outcome_key types (answer first second))))
+        (tells.0 (Err failure) posted)) (failed result failure is)
     follows-key (Two left right answer) tells respects (Ok first, posted, follows) =
         let key = key_of types first.now in
         along result _ _
-        (ap (λ told. at_key told (λ there. at_key (keys right) (λ second. outcome_key types (answer there second)))) (tells.0 (Ok first) posted)
+        (ap (λ told. at_key told (λ there. at_key (keys right) (λ second. outcome_key types (answer there second))))
+        (tells.0 (Ok first) posted)
         ∙ at_key-same (keys right) _ _ (λ second. respects (standing key) first.now second second (key_of-standing types first.now) refl))
-        (one right (λ second. answer first.now second) tells.1 (λ second third same. respects first.now first.now second third refl same) follows)
+        (one right (λ second. answer first.now second) tells.1
+        (λ second third same. respects first.now first.now second third refl same) follows)
 
 -- the result of an expression has the key that the expression has by the keys of its operands
-pub resolved-key : (context : Context) (expression : Expression) (memory : Bool) (Post : ℕ → Told → Type 0) (result : Result TypeResolution ResolveError)
+pub resolved-key : (context : Context) (expression : Expression) (memory : Bool) (Post : ℕ → Told →
+    Type 0) (result : Result TypeResolution ResolveError)
     → Follows memory Post result (row context expression)
-    → (keys : ℕ → Option Key) → TellsKeys context.types Post keys (row context expression) → HasKey context.types result (typing context keys expression)
+    → (keys : ℕ → Option Key) → TellsKeys context.types Post keys (row context expression) →
+    HasKey context.types result (typing context keys expression)
 resolved-key context expression memory Post result follows keys tells =
     follows-key memory context.types Post result keys (row context expression) tells (row-respects context expression) follows

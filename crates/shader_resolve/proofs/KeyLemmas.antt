@@ -13,7 +13,7 @@ at_place P xs i x all is = subst P (get_or_from_slice_get xs i x x is) (all i x 
 
 -- the type of a struct's member is below what the struct is
 pub member_below : (place : ℕ) (members : List StructMember) (span index : ℕ) (member : StructMember)
-    → PointsBelow place (Struct members span) → slice_get members index ≡ Some member → member.ty < place
+    → PointsBelow place (Struct span members) → slice_get members index ≡ Some member → member.ty < place
 member_below place members span index member h is =
     at_place (λ (member : StructMember). member.ty < place) members index member
     (λ k d lt.
@@ -23,5 +23,6 @@ member_below place members span index member h is =
 
 module _ (types : List «Type») where
   -- the types that a type of the arena names are in the arena
-  pub found_below : IsBackward types → (place : ℕ) (type : «Type») → slice_get types place ≡ Some type → PointsBelow (length types) type.inner
+  pub found_below : IsBackward types → (place : ℕ) (type : «Type») → slice_get types place ≡ Some type →
+      PointsBelow (length types) type.inner
   found_below backward place type at = backward.in_range place type at

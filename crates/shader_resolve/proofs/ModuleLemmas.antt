@@ -1,5 +1,6 @@
 -- What check_module answers decides which faults stand.
-use Rattle.std.proofs.Common.{◌≡◌, ◌↔◌, sym, subst, refl, ℕ, zero, suc, ◌+◌, ◌<◌, Bool, true, false, List, [], ◌∷◌, IfSome, IsOk, IfErr, Ok, Err, All, length, arith}
+use Rattle.std.proofs.Common.{◌≡◌, ◌↔◌, sym, subst, refl, ℕ, zero, suc, ◌+◌, ◌<◌, Bool, true, false}
+use Rattle.std.proofs.Common.{List, [], ◌∷◌, IfSome, IsOk, IfErr, Ok, Err, All, length, arith}
 use Rattle.std.specs.List.{enumerate_from}
 use Rattle.std.proofs.lemmas.Bool.Decides.{not_from_Decides}
 use Rattle.std.proofs.lemmas.List.Elements.{All-nil, All-cons, All-head, All-tail, All-weaker}
@@ -19,14 +20,22 @@ use Rattle.shader_ir.specs.declared.module.Module.{Module}
 use Rattle.shader_ir.specs.declared.types.«Type».{«Type»}
 use Rattle.shader_resolve.specs.Context.{context_of, IsInRange}
 use Rattle.shader_resolve.specs.FaultyPlaces.{ExpressionLacks, FilterLacks, StatementLacks, TypeLacks}
-use Rattle.shader_resolve.specs.ModuleTests.{Checked, bounds_of, check_argument, check_data, check_entry_point, check_expression, check_filter, check_function, check_module, check_statement, check_type, global_bounds, guard, in_arena, in_body, in_entries, in_list, passed, then}
+use Rattle.shader_resolve.specs.ModuleTests.{Checked, bounds_of, check_argument, check_data, check_entry_point, check_expression}
+use Rattle.shader_resolve.specs.ModuleTests.{check_filter, check_function, check_module, check_statement, check_type, global_bounds}
+use Rattle.shader_resolve.specs.ModuleTests.{guard, in_arena, in_body, in_entries, in_list, passed, then}
 use Rattle.shader_resolve.specs.Statements.{statement_callee}
-use Rattle.shader_resolve.specs.WellFormed.{AtEach, CalleesBelow, CountMatches, EmitsBelow, ExpressionInRange, FunctionInRange, IsEarlier, IsNoPointerArgument, IsType, IsWellFormed, Lacks, OperandsBelow, Stands, StatementInRange, TypeInRange, expression_callee}
+use Rattle.shader_resolve.specs.WellFormed.{AtEach, CalleesBelow, CountMatches, EmitsBelow, ExpressionInRange, FunctionInRange}
+use Rattle.shader_resolve.specs.WellFormed.{IsEarlier, IsNoPointerArgument, IsType, IsWellFormed, Lacks, OperandsBelow}
+use Rattle.shader_resolve.specs.WellFormed.{Stands, StatementInRange, TypeInRange, expression_callee}
 use Rattle.shader_resolve.specs.declared.well_formed.ModuleFault.{ModuleFault}
-use Rattle.shader_resolve.specs.declared.well_formed.ModuleFault.TheVariants.{HandleOutOfRange, TypeNotEarlier, OperandNotEarlier, CalleeNotEarlier, ArgumentCount, FilterNotEarlier, ValuePointerArgument, EmitRange}
+use Rattle.shader_resolve.specs.declared.well_formed.ModuleFault.TheVariants.{HandleOutOfRange, TypeNotEarlier, OperandNotEarlier}
+use Rattle.shader_resolve.specs.declared.well_formed.ModuleFault.TheVariants.{CalleeNotEarlier, ArgumentCount, FilterNotEarlier}
+use Rattle.shader_resolve.specs.declared.well_formed.ModuleFault.TheVariants.{ValuePointerArgument, EmitRange}
 use Rattle.shader_resolve.proofs.BodyLemmas.{body-list}
 use Rattle.shader_resolve.proofs.PlaceLemmas.{all-places, each-place}
-use Rattle.shader_resolve.proofs.TestLemmas.{VariablesInRange, OthersInRange, argument-decides, callee-decides, counts-decide, emits-decide, expression-decides, function-decides, handles-decide, operands-decide, optional-decides, statement-decides, type-decides, variables-decide}
+use Rattle.shader_resolve.proofs.TestLemmas.{VariablesInRange, OthersInRange, argument-decides, callee-decides, counts-decide}
+use Rattle.shader_resolve.proofs.TestLemmas.{emits-decide, expression-decides, function-decides, handles-decide, operands-decide}
+use Rattle.shader_resolve.proofs.TestLemmas.{optional-decides, statement-decides, type-decides, variables-decide}
 use Rattle.std.proofs.lemmas.Bool.Decides.{Decides-ltb}
 
 -- where no fault is answered each fact holds, and that of an answered fault doesn't
@@ -34,31 +43,39 @@ abbrev pub Sound : Checked → (ModuleFault → Type 0) → Type 0
 Sound (Ok nothing) Fact = (fault : ModuleFault) → Fact fault
 Sound (Err fault) Fact = ¬ Fact fault
 
-pub then-sound : (first rest : Checked) (F G : ModuleFault → Type 0) → Sound first F → Sound rest G → Sound (then first rest) (λ fault. F fault × G fault)
+pub then-sound : (first rest : Checked) (F G : ModuleFault → Type 0) → Sound first F → Sound rest G →
+    Sound (then first rest) (λ fault. F fault × G fault)
 then-sound (Ok nothing) (Ok more) F G f g = λ fault. (f fault, g fault)
 then-sound (Ok nothing) (Err failure) F G f g = λ both. g both.1
 then-sound (Err failure) rest F G f g = λ both. f both.0
 
-pub along : (answer : Checked) (F G : ModuleFault → Type 0) → ((fault : ModuleFault) → F fault → G fault) → ((fault : ModuleFault) → G fault → F fault) → Sound answer F → Sound answer G
+pub along : (answer : Checked) (F G : ModuleFault → Type 0) → ((fault : ModuleFault) → F fault → G fault) →
+    ((fault : ModuleFault) → G fault → F fault) → Sound answer F → Sound answer G
 along (Ok nothing) F G to from sound = λ fault. to fault (sound fault)
 along (Err failure) F G to from sound = λ g. sound (from failure g)
 
-pub guarded : (test : Bool) (fault : ModuleFault) (rest : Checked) (F : ModuleFault → Type 0) → (test ≡ true → Sound rest F) → (test ≡ false → ¬ F fault) → Sound (guard test fault rest) F
+pub guarded : (test : Bool) (fault : ModuleFault) (rest : Checked) (F : ModuleFault → Type 0) → (test ≡ true → Sound rest F) →
+    (test ≡ false → ¬ F fault) → Sound (guard test fault rest) F
 guarded true fault rest F passes fails = passes refl
 guarded false fault rest F passes fails = fails refl
 
-pub in_list-sound : {T : Type 0} (check : T → Checked) (F : T → ModuleFault → Type 0) → ((item : T) → Sound (check item) (F item)) → (items : List T)
+pub in_list-sound : {T : Type 0} (check : T → Checked) (F : T → ModuleFault → Type 0) → ((item : T) → Sound (check item) (F item)) →
+    (items : List T)
     → Sound (in_list check items) (λ fault. All (λ (item : T). F item fault) items)
 in_list-sound {T} check F each [] = λ fault. All-nil (λ (item : T). F item fault)
 in_list-sound {T} check F each (item ∷ items) =
-    along (then (check item) (in_list check items)) (λ fault. F item fault × All (λ (item : T). F item fault) items) (λ fault. All (λ (item : T). F item fault) (item ∷ items))
+    along (then (check item) (in_list check items)) (λ fault. F item fault ×
+    All (λ (item : T). F item fault) items) (λ fault. All (λ (item : T). F item fault) (item ∷ items))
     (λ fault both. All-cons (λ (item : T). F item fault) item items both.0 both.1)
     (λ fault all. (All-head (λ (item : T). F item fault) item items all, All-tail (λ (item : T). F item fault) item items all))
-    (then-sound (check item) (in_list check items) (F item) (λ fault. All (λ (item : T). F item fault) items) (each item) (in_list-sound check F each items))
+    (then-sound (check item) (in_list check items) (F item) (λ fault. All (λ (item : T). F item fault) items) (each item)
+    (in_list-sound check F each items))
 
-module _ {T : Type 0} (check : ℕ → T → Checked) (F : ℕ → T → ModuleFault → Type 0) (each : (place : ℕ) (item : T) → Sound (check place item) (F place item)) where
+module _ {T : Type 0} (check : ℕ → T → Checked) (F : ℕ → T → ModuleFault → Type 0) (each : (place : ℕ) (item : T) →
+    Sound (check place item) (F place item)) where
   AtEach-cons : (fault : ModuleFault) (first : ℕ) (item : T) (items : List T)
-      → F first item fault × AtEach (λ place item. F (first + 1 + place) item fault) items → AtEach (λ place item. F (first + place) item fault) (item ∷ items)
+      → F first item fault × AtEach (λ place item. F (first + 1 + place) item fault) items →
+      AtEach (λ place item. F (first + place) item fault) (item ∷ items)
   AtEach-cons fault first item items both zero found is =
       let same : first ≡ first + 0 = omega arith in
       let there : item ≡ found = cc in
@@ -68,7 +85,8 @@ module _ {T : Type 0} (check : ℕ → T → Checked) (F : ℕ → T → ModuleF
       subst (λ place. F place found fault) same (both.1 place found is)
 
   AtEach-parts : (fault : ModuleFault) (first : ℕ) (item : T) (items : List T)
-      → AtEach (λ place item. F (first + place) item fault) (item ∷ items) → F first item fault × AtEach (λ place item. F (first + 1 + place) item fault) items
+      → AtEach (λ place item. F (first + place) item fault) (item ∷ items) →
+      F first item fault × AtEach (λ place item. F (first + 1 + place) item fault) items
   AtEach-parts fault first item items all =
       let same : first + 0 ≡ first = omega arith in (
         subst (λ place. F place item fault) same (all 0 item refl),
@@ -77,7 +95,8 @@ module _ {T : Type 0} (check : ℕ → T → Checked) (F : ℕ → T → ModuleF
             subst (λ place. F place found fault) next (all (suc place) found is),
       )
 
-  entries-sound : (first : ℕ) (items : List T) → Sound (in_entries check (enumerate_from first items)) (λ fault. AtEach (λ place item. F (first + place) item fault) items)
+  entries-sound : (first : ℕ) (items : List T) → Sound (in_entries check (enumerate_from first items))
+      (λ fault. AtEach (λ place item. F (first + place) item fault) items)
   entries-sound first [] = λ fault place item is. absurd (cc)
   entries-sound first (item ∷ items) =
       along (then (check first item) (in_entries check (enumerate_from (first + 1) items)))
@@ -85,13 +104,17 @@ module _ {T : Type 0} (check : ℕ → T → Checked) (F : ℕ → T → ModuleF
       (λ fault. AtEach (λ place item. F (first + place) item fault) (item ∷ items))
       (λ fault. AtEach-cons fault first item items)
       (λ fault. AtEach-parts fault first item items)
-      (then-sound (check first item) (in_entries check (enumerate_from (first + 1) items)) (F first item) _ (each first item) (entries-sound (first + 1) items))
+      (then-sound (check first item) (in_entries check (enumerate_from (first + 1) items)) (F first item) _ (each first item)
+      (entries-sound (first + 1) items))
 
   in_arena-sound : (items : List T) → Sound (in_arena check items) (λ fault. AtEach (λ place item. F place item fault) items)
   in_arena-sound items =
-      along (in_arena check items) (λ fault. AtEach (λ place item. F (0 + place) item fault) items) (λ fault. AtEach (λ place item. F place item fault) items)
-      (λ fault all place item is. let same : 0 + place ≡ place = omega arith in subst (λ place. F place item fault) same (all place item is))
-      (λ fault all place item is. let same : place ≡ 0 + place = omega arith in subst (λ place. F place item fault) same (all place item is))
+      along (in_arena check items) (λ fault. AtEach (λ place item. F (0 + place) item fault) items)
+      (λ fault. AtEach (λ place item. F place item fault) items)
+      (λ fault all place item is. let same : 0 + place ≡ place = omega arith in
+      subst (λ place. F place item fault) same (all place item is))
+      (λ fault all place item is. let same : place ≡ 0 + place = omega arith in
+      subst (λ place. F place item fault) same (all place item is))
       (entries-sound 0 items)
 
 -- nothing is asked of some
@@ -105,7 +128,8 @@ module _ (checked : Module) where
   abbrev pub TypeFacts : ℕ → «Type» → ModuleFault → Type 0
   TypeFacts = TypeLacks checked
 
-  type-facts : (place : ℕ) (type : «Type») → TypeInRange checked type.inner → PointsBelow place type.inner → (fault : ModuleFault) → TypeFacts place type fault
+  type-facts : (place : ℕ) (type : «Type») → TypeInRange checked type.inner → PointsBelow place type.inner → (fault : ModuleFault) →
+      TypeFacts place type fault
   type-facts place type range earlier HandleOutOfRange = range
   type-facts place type range earlier TypeNotEarlier = earlier
   type-facts place type range earlier fault = tt
@@ -115,7 +139,8 @@ module _ (checked : Module) where
       guarded _ HandleOutOfRange _ (TypeFacts place type)
       (λ range.
       guarded _ TypeNotEarlier passed (TypeFacts place type)
-      (λ earlier. type-facts place type ((type-decides checked type.inner).0 range) ((handles-decide place (type_handles type.inner)).0 earlier))
+      (λ earlier. type-facts place type ((type-decides checked type.inner).0 range)
+      ((handles-decide place (type_handles type.inner)).0 earlier))
       (λ fails. not_from_Decides _ (handles-decide place (type_handles type.inner)) fails))
       (λ fails. not_from_Decides _ (type-decides checked type.inner) fails)
 
@@ -133,11 +158,13 @@ module _ (checked : Module) where
       guarded _ HandleOutOfRange _ (FilterFacts place node)
       (λ range.
       guarded _ FilterNotEarlier passed (FilterFacts place node)
-      (λ earlier. filter-facts place node ((optional-decides (length checked.diagnostic_filters) node.parent).0 range) ((optional-decides place node.parent).0 earlier))
+      (λ earlier. filter-facts place node ((optional-decides (length checked.diagnostic_filters) node.parent).0 range)
+      ((optional-decides place node.parent).0 earlier))
       (λ fails. not_from_Decides _ (optional-decides place node.parent) fails))
       (λ fails. not_from_Decides _ (optional-decides (length checked.diagnostic_filters) node.parent) fails)
 
-  callee-there : (locals : List LocalVariable) (arguments : List FunctionArgument) (expression : Expression) → IsInRange (context_of checked locals arguments) expression
+  callee-there : (locals : List LocalVariable) (arguments : List FunctionArgument) (expression : Expression) →
+      IsInRange (context_of checked locals arguments) expression
       → IfSome (expression_callee expression) (λ callee. callee < length checked.functions)
   callee-there locals arguments (form.CallResult function) there = there
   callee-there locals arguments expression there = tt
@@ -146,7 +173,8 @@ module _ (checked : Module) where
     abbrev pub ExpressionFacts : ℕ → Expression → ModuleFault → Type 0
     ExpressionFacts = ExpressionLacks checked earlier locals arguments expressions
 
-    expression-facts : (place : ℕ) (expression : Expression) → ExpressionInRange checked (context_of checked locals arguments) expressions expression → OperandsBelow place expression
+    expression-facts : (place : ℕ) (expression : Expression) →
+        ExpressionInRange checked (context_of checked locals arguments) expressions expression → OperandsBelow place expression
         → IfSome (expression_callee expression) (IsEarlier checked earlier) → (fault : ModuleFault) → ExpressionFacts place expression fault
     expression-facts place expression range operands callee HandleOutOfRange = range
     expression-facts place expression range operands callee OperandNotEarlier = operands
@@ -154,16 +182,19 @@ module _ (checked : Module) where
     expression-facts place expression range operands callee fault = tt
 
     pub expression-sound : (place : ℕ) (expression : Expression)
-        → Sound (check_expression checked (record { earlier = earlier; locals = length locals; expressions = length expressions }) place expression) (ExpressionFacts place expression)
+        → Sound (check_expression checked (record { earlier = earlier; locals = length locals; expressions = length expressions }) place
+        expression) (ExpressionFacts place expression)
     expression-sound place expression =
         guarded _ HandleOutOfRange _ (ExpressionFacts place expression)
         (λ range.
         let in_range = (expression-decides checked locals arguments expressions expression).0 range in
-        let decides = callee-decides checked earlier (expression_callee expression) (callee-there locals arguments expression in_range.names) in
+        let decides = callee-decides checked earlier (expression_callee expression)
+        (callee-there locals arguments expression in_range.names) in
         guarded _ OperandNotEarlier _ (ExpressionFacts place expression)
         (λ operands.
         guarded _ CalleeNotEarlier passed (ExpressionFacts place expression)
-        (λ callee. expression-facts place expression in_range ((operands-decide place (expression_operands expression)).0 operands) (decides.0 callee))
+        (λ callee. expression-facts place expression in_range ((operands-decide place (expression_operands expression)).0 operands)
+        (decides.0 callee))
         (λ fails. not_from_Decides _ decides fails))
         (λ fails. not_from_Decides _ (operands-decide place (expression_operands expression)) fails))
         (λ fails. not_from_Decides _ (expression-decides checked locals arguments expressions expression) fails)
@@ -173,7 +204,8 @@ module _ (checked : Module) where
   ArgumentFacts argument ValuePointerArgument = IsNoPointerArgument checked argument
   ArgumentFacts argument _ = Unit {0}
 
-  argument-facts : (argument : FunctionArgument) → IsType checked argument.ty → IsNoPointerArgument checked argument → (fault : ModuleFault) → ArgumentFacts argument fault
+  argument-facts : (argument : FunctionArgument) → IsType checked argument.ty → IsNoPointerArgument checked argument →
+      (fault : ModuleFault) → ArgumentFacts argument fault
   argument-facts argument range pointer HandleOutOfRange = range
   argument-facts argument range pointer ValuePointerArgument = pointer
   argument-facts argument range pointer fault = tt
@@ -183,7 +215,8 @@ module _ (checked : Module) where
       guarded _ HandleOutOfRange _ (ArgumentFacts argument)
       (λ range.
       guarded _ ValuePointerArgument passed (ArgumentFacts argument)
-      (λ pointer. argument-facts argument ((Decides-ltb argument.ty (length checked.types)).0 range) ((argument-decides checked argument).0 pointer))
+      (λ pointer. argument-facts argument ((Decides-ltb argument.ty (length checked.types)).0 range)
+      ((argument-decides checked argument).0 pointer))
       (λ fails. not_from_Decides _ (argument-decides checked argument) fails))
       (λ fails. not_from_Decides _ (Decides-ltb argument.ty (length checked.types)) fails)
 
@@ -191,7 +224,8 @@ module _ (checked : Module) where
     abbrev pub StatementFacts : Step → ModuleFault → Type 0
     StatementFacts = StatementLacks checked earlier function
 
-    statement-facts : (step : Step) → StatementInRange checked function step → IfSome (statement_callee step) (IsEarlier checked earlier) → CountMatches checked step
+    statement-facts : (step : Step) → StatementInRange checked function step → IfSome (statement_callee step) (IsEarlier checked earlier) →
+        CountMatches checked step
         → EmitsBelow (length function.expressions) step → (fault : ModuleFault) → StatementFacts step fault
     statement-facts step range callee count emits HandleOutOfRange = range
     statement-facts step range callee count emits CalleeNotEarlier = callee
@@ -210,7 +244,8 @@ module _ (checked : Module) where
         guarded _ ArgumentCount _ (StatementFacts step)
         (λ count.
         guarded _ EmitRange passed (StatementFacts step)
-        (λ emits. statement-facts step in_range (decides.0 callee) ((counts-decide checked step).0 count) ((emits-decide (length function.expressions) step).0 emits))
+        (λ emits. statement-facts step in_range (decides.0 callee) ((counts-decide checked step).0 count)
+        ((emits-decide (length function.expressions) step).0 emits))
         (λ fails. not_from_Decides _ (emits-decide (length function.expressions) step) fails))
         (λ fails. not_from_Decides _ (counts-decide checked step) fails))
         (λ fails. not_from_Decides _ decides fails))
@@ -229,7 +264,8 @@ module _ (checked : Module) where
     abbrev PartFacts : ModuleFault → Type 0
     PartFacts fault =
         All (λ (argument : FunctionArgument). ArgumentFacts argument fault) function.arguments
-        × (AtEach (λ place expression. ExpressionFacts earlier function.local_variables function.arguments function.expressions place expression fault) function.expressions
+        × (AtEach (λ place expression. ExpressionFacts earlier function.local_variables function.arguments function.expressions place
+        expression fault) function.expressions
         × All (λ (step : Step). StatementFacts step fault) (statements function.body))
 
     function-facts : OthersInRange checked function → (fault : ModuleFault) → PartFacts fault → FunctionFacts fault
@@ -237,7 +273,8 @@ module _ (checked : Module) where
       arguments = parts.0;
       result = others.result;
       locals = others.locals;
-      expressions = all-places (ExpressionInRange checked (context_of checked function.local_variables function.arguments) function.expressions) function.expressions parts.1.0;
+      expressions = all-places (ExpressionInRange checked (context_of checked function.local_variables function.arguments)
+          function.expressions) function.expressions parts.1.0;
       named = others.named;
       filter = others.filter;
       statements = parts.1.1;
@@ -255,20 +292,29 @@ module _ (checked : Module) where
     part-facts : (fault : ModuleFault) → FunctionFacts fault → PartFacts fault
     part-facts HandleOutOfRange is = (
       is.arguments,
-      (each-place (ExpressionInRange checked (context_of checked function.local_variables function.arguments) function.expressions) function.expressions is.expressions, is.statements),
+      (
+        each-place (ExpressionInRange checked (context_of checked function.local_variables function.arguments) function.expressions)
+            function.expressions is.expressions,
+        is.statements,
+      ),
     )
     part-facts TypeNotEarlier is = (any-item function.arguments, (any-place function.expressions, any-item (statements function.body)))
     part-facts OperandNotEarlier is = (any-item function.arguments, (is, any-item (statements function.body)))
     part-facts CalleeNotEarlier is = (
       any-item function.arguments,
-      (each-place (λ expression. IfSome (expression_callee expression) (IsEarlier checked earlier)) function.expressions is.results, is.calls),
+      (
+        each-place (λ expression. IfSome (expression_callee expression) (IsEarlier checked earlier)) function.expressions
+            is.results,
+        is.calls,
+      ),
     )
     part-facts ArgumentCount is = (any-item function.arguments, (any-place function.expressions, is))
     part-facts FilterNotEarlier is = (any-item function.arguments, (any-place function.expressions, any-item (statements function.body)))
     part-facts ValuePointerArgument is = (is, (any-place function.expressions, any-item (statements function.body)))
     part-facts EmitRange is = (any-item function.arguments, (any-place function.expressions, is))
 
-    pub body-sound : Sound (in_body (check_statement checked (bounds_of earlier function)) function.body) (λ fault. All (λ (step : Step). StatementFacts step fault) (statements function.body))
+    pub body-sound : Sound (in_body (check_statement checked (bounds_of earlier function)) function.body)
+        (λ fault. All (λ (step : Step). StatementFacts step fault) (statements function.body))
     body-sound =
         subst (λ answer. Sound answer (λ fault. All (λ (step : Step). StatementFacts step fault) (statements function.body)))
         (sym (body-list (check_statement checked (bounds_of earlier function)) function.body))
@@ -280,10 +326,13 @@ module _ (checked : Module) where
         (in_body (check_statement checked (bounds_of earlier function)) function.body)))
         PartFacts
     parts-sound =
-        then-sound (in_list (check_argument checked) function.arguments) _ (λ fault. All (λ (argument : FunctionArgument). ArgumentFacts argument fault) function.arguments) _
+        then-sound (in_list (check_argument checked) function.arguments) _
+        (λ fault. All (λ (argument : FunctionArgument). ArgumentFacts argument fault) function.arguments) _
         (in_list-sound (check_argument checked) ArgumentFacts argument-sound function.arguments)
-        (then-sound (in_arena (check_expression checked (bounds_of earlier function)) function.expressions) (in_body (check_statement checked (bounds_of earlier function)) function.body) _ _
-        (in_arena-sound (check_expression checked (bounds_of earlier function)) (ExpressionFacts earlier function.local_variables function.arguments function.expressions)
+        (then-sound (in_arena (check_expression checked (bounds_of earlier function)) function.expressions)
+        (in_body (check_statement checked (bounds_of earlier function)) function.body) _ _
+        (in_arena-sound (check_expression checked (bounds_of earlier function))
+        (ExpressionFacts earlier function.local_variables function.arguments function.expressions)
         (expression-sound earlier function.local_variables function.arguments function.expressions) function.expressions)
         body-sound)
 
@@ -291,7 +340,8 @@ module _ (checked : Module) where
     function-sound =
         guarded _ HandleOutOfRange _ FunctionFacts
         (λ others. along _ PartFacts FunctionFacts (function-facts ((function-decides checked function).0 others)) part-facts parts-sound)
-        (λ fails is. not_from_Decides _ (function-decides checked function) fails (record { result = is.result; locals = is.locals; named = is.named; filter = is.filter }))
+        (λ fails is. not_from_Decides _ (function-decides checked function) fails
+        (record { result = is.result; locals = is.locals; named = is.named; filter = is.filter }))
 
   -- the facts of what is checked after the handles of variables
   abbrev RestFacts : ModuleFault → Type 0
@@ -316,7 +366,8 @@ module _ (checked : Module) where
       guarded _ HandleOutOfRange _ DataFacts
       (λ range.
       along _ RestFacts DataFacts (data-facts ((variables-decide checked).0 range)) rest-facts
-      (then-sound (in_arena (λ place type. check_type checked place type.inner) checked.types) (in_arena (check_filter checked) checked.diagnostic_filters) _ _
+      (then-sound (in_arena (λ place type. check_type checked place type.inner) checked.types)
+      (in_arena (check_filter checked) checked.diagnostic_filters) _ _
       (in_arena-sound (λ place type. check_type checked place type.inner) TypeFacts type-sound checked.types)
       (in_arena-sound (check_filter checked) FilterFacts filter-sound checked.diagnostic_filters)))
       (λ fails both. not_from_Decides _ (variables-decide checked) fails both.0)
@@ -343,7 +394,8 @@ module _ (checked : Module) where
   backward earlier = record {
     in_range = λ place type at.
         let lt = slice_get_within checked.types place type at in
-        All-weaker (λ handle. handle < place) (λ handle. handle < length checked.types) (λ handle below. omega arith) (type_handles type.inner) (earlier place type at);
+        All-weaker (λ handle. handle < place) (λ handle. handle < length checked.types) (λ handle below. omega arith)
+        (type_handles type.inner) (earlier place type at);
     earlier = earlier;
   }
 
@@ -354,14 +406,21 @@ module _ (checked : Module) where
     constants = all.0.0.constants;
     overrides = all.0.0.overrides;
     global_variables = all.0.0.global_variables;
-    global_expressions = all-places (ExpressionInRange checked (context_of checked [] []) checked.global_expressions) checked.global_expressions all.1.0;
-    filters = all-places (λ (node : DiagnosticFilterNode). IfSome node.parent (λ parent. parent < length checked.diagnostic_filters)) checked.diagnostic_filters all.0.1.1;
+    global_expressions = all-places (ExpressionInRange checked (context_of checked [] []) checked.global_expressions)
+        checked.global_expressions all.1.0;
+    filters = all-places (λ (node : DiagnosticFilterNode). IfSome node.parent (λ parent. parent < length checked.diagnostic_filters))
+        checked.diagnostic_filters all.0.1.1;
     functions = record { functions = all.1.1.0; entry_points = all.1.1.1 };
   }
   lacks TypeNotEarlier all = backward all.0.0
-  lacks OperandNotEarlier all = record { global_expressions = all.1.0; functions = record { functions = all.1.1.0; entry_points = all.1.1.1 } }
+  lacks OperandNotEarlier all = record {
+    global_expressions = all.1.0;
+    functions =
+        record { functions = all.1.1.0; entry_points = all.1.1.1 };
+  }
   lacks CalleeNotEarlier all = record {
-    global_expressions = all-places (λ expression. IfSome (expression_callee expression) (IsEarlier checked 0)) checked.global_expressions all.1.0;
+    global_expressions = all-places (λ expression. IfSome (expression_callee expression) (IsEarlier checked 0))
+        checked.global_expressions all.1.0;
     functions = record { functions = all.1.1.0; entry_points = all.1.1.1 };
   }
   lacks ArgumentCount all = record { functions = all.1.1.0; entry_points = all.1.1.1 }
@@ -369,30 +428,45 @@ module _ (checked : Module) where
   lacks ValuePointerArgument all = record { functions = all.1.1.0; entry_points = all.1.1.1 }
   lacks EmitRange all = record { functions = all.1.1.0; entry_points = all.1.1.1 }
 
-  no-data : AtEach (λ place (type : «Type»). Unit {0}) checked.types × (AtEach (λ place (node : DiagnosticFilterNode). Unit {0}) checked.diagnostic_filters)
+  no-data : AtEach (λ place (type : «Type»). Unit {0}) checked.types ×
+      (AtEach (λ place (node : DiagnosticFilterNode). Unit {0}) checked.diagnostic_filters)
   no-data = (any-place checked.types, any-place checked.diagnostic_filters)
 
   facts : (fault : ModuleFault) → Lacks checked fault → AllFacts fault
   facts HandleOutOfRange is = (
     (
-      record { special_types = is.special_types; constants = is.constants; overrides = is.overrides; global_variables = is.global_variables },
+      record {
+        special_types = is.special_types;
+        constants = is.constants;
+        overrides = is.overrides;
+        global_variables =
+            is.global_variables;
+      },
       (
         each-place (λ (type : «Type»). TypeInRange checked type.inner) checked.types is.types,
-        each-place (λ (node : DiagnosticFilterNode). IfSome node.parent (λ parent. parent < length checked.diagnostic_filters)) checked.diagnostic_filters is.filters,
+        each-place (λ (node : DiagnosticFilterNode). IfSome node.parent (λ parent. parent < length checked.diagnostic_filters))
+            checked.diagnostic_filters is.filters,
       ),
     ),
     (
-      each-place (ExpressionInRange checked (context_of checked [] []) checked.global_expressions) checked.global_expressions is.global_expressions,
+      each-place (ExpressionInRange checked (context_of checked [] []) checked.global_expressions) checked.global_expressions
+          is.global_expressions,
       (is.functions.functions, is.functions.entry_points),
     ),
   )
-  facts TypeNotEarlier is =
-      ((is.earlier, any-place checked.diagnostic_filters), (any-place checked.global_expressions, (any-place checked.functions, any-item checked.entry_points)))
+  facts TypeNotEarlier is = (
+    (is.earlier, any-place checked.diagnostic_filters),
+    (
+      any-place checked.global_expressions,
+      (any-place checked.functions, any-item checked.entry_points),
+    ),
+  )
   facts OperandNotEarlier is = (no-data, (is.global_expressions, (is.functions.functions, is.functions.entry_points)))
   facts CalleeNotEarlier is = (
     no-data,
     (
-      each-place (λ expression. IfSome (expression_callee expression) (IsEarlier checked 0)) checked.global_expressions is.global_expressions,
+      each-place (λ expression. IfSome (expression_callee expression) (IsEarlier checked 0)) checked.global_expressions
+          is.global_expressions,
       (is.functions.functions, is.functions.entry_points),
     ),
   )

@@ -31,7 +31,10 @@ module _ (levels : ℕ) (nested : Module) where
   nesting-decides answer joins =
       Decides-at _ _ joins (like _
       (Decides-and _ _
-      (every-decides (λ (function : Function). nat_le (depth function.body) levels) (λ (function : Function). depth function.body ≤ levels) (λ function. within-decides (depth function.body) levels) nested.functions)
-      (all-decides (λ (entry : EntryPoint). nat_le (depth entry.function.body) levels) (λ (entry : EntryPoint). depth entry.function.body ≤ levels) (λ entry. within-decides (depth entry.function.body) levels) nested.entry_points))
+      (every-decides (λ (function : Function). nat_le (depth function.body) levels) (λ (function : Function). depth function.body ≤ levels)
+      (λ function. within-decides (depth function.body) levels) nested.functions)
+      (all-decides (λ (entry : EntryPoint). nat_le (depth entry.function.body) levels)
+      (λ (entry : EntryPoint). depth entry.function.body ≤ levels) (λ entry. within-decides (depth entry.function.body) levels)
+      nested.entry_points))
       (λ both. record { functions = both.0; entry_points = both.1 })
       (λ nests. (nests.functions, nests.entry_points)))

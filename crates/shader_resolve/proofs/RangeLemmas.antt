@@ -1,5 +1,6 @@
 -- The greatest place of a range is its last.
-use Rattle.std.proofs.Common.{◌≡◌, ◌∙◌, ap, sym, refl, ℕ, zero, suc, ◌+◌, ◌-◌, ◌<◌, ◌≤◌, nat_lt, Bool, true, false, cond, ◌&&◌, Option, Some, None, arith}
+use Rattle.std.proofs.Common.{◌≡◌, ◌∙◌, ap, sym, refl, ℕ, zero, suc, ◌+◌, ◌-◌, ◌<◌, ◌≤◌, nat_lt}
+use Rattle.std.proofs.Common.{Bool, true, false, cond, ◌&&◌, Option, Some, None, arith}
 use Rattle.std.specs.List.{list_all}
 use Rattle.std.proofs.lemmas.Bool.{lt-ltb, le-ltb, ltb-true}
 use Rattle.shader_arena.specs.Places.{places_from, places_between, ends_between}
@@ -33,14 +34,17 @@ abbrev pub last_below : ℕ → Option (ℕ × ℕ) → Bool
 last_below bound (Some ends) = nat_lt ends.1 bound
 last_below bound None = true
 
-pub places_below : (bound start end : ℕ) → list_all (λ place. nat_lt place bound) (places_between start end) ≡ last_below bound (ends_between start end)
+pub places_below : (bound start end : ℕ) → list_all (λ place. nat_lt place bound) (places_between start end)
+    ≡ last_below bound (ends_between start end)
 places_below bound start end = by (end - start) refl
   where
-    by : (count : ℕ) → end - start ≡ count → list_all (λ place. nat_lt place bound) (places_from start count) ≡ last_below bound (ends_between start end)
+    by : (count : ℕ) → end - start ≡ count → list_all (λ place. nat_lt place bound) (places_from start count)
+        ≡ last_below bound (ends_between start end)
     by zero e =
         let none : nat_lt start end ≡ false = le-ltb start end (omega arith) in
         ap (λ test. last_below bound (cond test (Some (start, end - 1)) None)) (sym none)
     by (suc n) e =
         let some : nat_lt start end ≡ true = lt-ltb start end (omega arith) in
         let last : start + n ≡ end - 1 = omega arith in
-        from-below bound n start ∙ ap (λ place. nat_lt place bound) last ∙ ap (λ test. last_below bound (cond test (Some (start, end - 1)) None)) (sym some)
+        from-below bound n start ∙ ap (λ place. nat_lt place bound) last
+        ∙ ap (λ test. last_below bound (cond test (Some (start, end - 1)) None)) (sym some)

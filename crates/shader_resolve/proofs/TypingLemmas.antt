@@ -8,22 +8,25 @@ use Rattle.shader_ir.specs.declared.scalar.Scalar.{Scalar}
 use Rattle.shader_ir.specs.declared.scalar.VectorSize.{VectorSize}
 use Rattle.shader_ir.specs.declared.proc.type_resolution.TypeResolution.{TypeResolution}
 use Rattle.shader_ir.specs.declared.proc.type_resolution.TypeResolution.TheVariants.{Handle, Value}
-use Rattle.shader_ir.specs.Key.{Key, StructKey, InnerKey, pointer_to, pointer_at, canonical, shape_key, found_key, key_of, found_inner, inner_of}
+use Rattle.shader_ir.specs.Key.{Key, StructKey, InnerKey, pointer_to, pointer_at, canonical}
+use Rattle.shader_ir.specs.Key.{shape_key, found_key, key_of, found_inner, inner_of}
 use Rattle.shader_ir.proofs.KeyLemmas.{StructKey-told}
 use Rattle.shader_resolve.specs.Outcome.{Outcome, at_inner, at_shape}
 use Rattle.shader_resolve.specs.Typing.{outcome_key, standing}
 
 module _ (types : List «Type») where
   shape-told : (handle : ℕ) (inner told : TypeInner) → shape_key types handle inner ≡ InnerKey told → canonical types inner ≡ told
-  shape-told handle (type.Struct members span) told e = absurd (cc)
+  shape-told handle (type.Struct span members) told e = absurd (cc)
   shape-told handle inner told e = cc
 
-  found-told : (handle : ℕ) (found : Option «Type») (told : TypeInner) → found_key types handle found ≡ InnerKey told → (inner : TypeInner) × (found_inner found ≡ Some inner) × (canonical types inner ≡ told)
+  found-told : (handle : ℕ) (found : Option «Type») (told : TypeInner) → found_key types handle found ≡ InnerKey told →
+      (inner : TypeInner) × (found_inner found ≡ Some inner) × (canonical types inner ≡ told)
   found-told handle (Some type) told e = (type.inner, refl, shape-told handle type.inner told e)
   found-told handle None told e = absurd (cc)
 
   -- a key that is no struct's tells the canonical form of a shape
-  pub InnerKey-told : (resolution : TypeResolution) (told : TypeInner) → key_of types resolution ≡ InnerKey told → (inner : TypeInner) × (inner_of types resolution ≡ Some inner) × (canonical types inner ≡ told)
+  pub InnerKey-told : (resolution : TypeResolution) (told : TypeInner) → key_of types resolution ≡ InnerKey told →
+      (inner : TypeInner) × (inner_of types resolution ≡ Some inner) × (canonical types inner ≡ told)
   InnerKey-told (Handle handle) told e = found-told handle (slice_get types handle) told e
   InnerKey-told (Value inner) told e = (inner, refl, cc)
 
@@ -33,7 +36,8 @@ module _ (types : List «Type») where
 
   -- what holds of a type and itself, and of a pointer and a value pointer, holds of a type and its canonical form
   pub canonical_cases : (Q : TypeInner → TypeInner → Type 0) → ((inner : TypeInner) → Q inner inner)
-      → ((base : ℕ) (size : Option VectorSize) (scalar : Scalar) (space : AddressSpace) → Q (type.Pointer base space) (type.ValuePointer size scalar space))
+      → ((base : ℕ) (size : Option VectorSize) (scalar : Scalar) (space : AddressSpace) →
+      Q (type.Pointer base space) (type.ValuePointer size scalar space))
       → (inner : TypeInner) → Q inner (canonical types inner)
   canonical_cases Q itself value (type.Pointer base space) = at_found (slice_get types base)
     where
@@ -50,7 +54,8 @@ module _ (types : List «Type») where
   -- an answer that refuses all pointers
   pub refuses_pointers : (answer : TypeInner → Outcome)
       → ((base : ℕ) (space : AddressSpace) → outcome_key types (answer (type.Pointer base space)) ≡ None)
-      → ((size : Option VectorSize) (scalar : Scalar) (space : AddressSpace) → outcome_key types (answer (type.ValuePointer size scalar space)) ≡ None)
+      → ((size : Option VectorSize) (scalar : Scalar) (space : AddressSpace) →
+      outcome_key types (answer (type.ValuePointer size scalar space)) ≡ None)
       → ReadsCanonical answer
   refuses_pointers answer pointer value =
       canonical_cases (λ inner other. outcome_key types (answer inner) ≡ outcome_key types (answer other)) (λ inner. refl)
@@ -58,40 +63,49 @@ module _ (types : List «Type») where
 
   -- it is enough to look at pointers to types that are there
   pub reads_pointers : (answer : TypeInner → Outcome)
-      → ((base : ℕ) (space : AddressSpace) (found : «Type») → slice_get types base ≡ Some found → outcome_key types (answer (type.Pointer base space)) ≡ outcome_key types (answer (pointer_to base space found.inner)))
+      → ((base : ℕ) (space : AddressSpace) (found : «Type») → slice_get types base ≡ Some found →
+      outcome_key types (answer (type.Pointer base space)) ≡ outcome_key types (answer (pointer_to base space found.inner)))
       → ReadsCanonical answer
   reads_pointers answer same (type.Pointer base space) = at_found (slice_get types base) refl
     where
-      at_found : (found : Option «Type») → slice_get types base ≡ found → outcome_key types (answer (type.Pointer base space)) ≡ outcome_key types (answer (pointer_at base space found))
+      at_found : (found : Option «Type») → slice_get types base ≡ found →
+          outcome_key types (answer (type.Pointer base space)) ≡ outcome_key types (answer (pointer_at base space found))
       at_found (Some found) e = same base space found e
       at_found None e = refl
   reads_pointers answer same inner = refl
 
-  at_told : (answer : TypeInner → Outcome) → ReadsCanonical answer → (resolution : TypeResolution) (told : TypeInner) → key_of types resolution ≡ InnerKey told
+  at_told : (answer : TypeInner → Outcome) → ReadsCanonical answer → (resolution : TypeResolution) (told : TypeInner) →
+      key_of types resolution ≡ InnerKey told
       → outcome_key types (at_shape types resolution answer) ≡ outcome_key types (answer told)
   at_told answer reads resolution told e =
       let shape = InnerKey-told resolution told e in
-      ap (λ found. outcome_key types (at_inner found answer)) shape.1 ∙ reads shape.0 ∙ ap (λ inner. outcome_key types (answer inner)) shape.2
+      ap (λ found. outcome_key types (at_inner found answer)) shape.1 ∙ reads shape.0
+      ∙ ap (λ inner. outcome_key types (answer inner)) shape.2
 
   -- such an answer gives one key at equal keys
-  pub at_same_keys : (answer : TypeInner → Outcome) → ReadsCanonical answer → (first second : TypeResolution) → key_of types first ≡ key_of types second
+  pub at_same_keys : (answer : TypeInner → Outcome) → ReadsCanonical answer → (first second : TypeResolution) →
+      key_of types first ≡ key_of types second
       → outcome_key types (at_shape types first answer) ≡ outcome_key types (at_shape types second answer)
   at_same_keys answer reads first second same = by_key (key_of types second) same refl
     where
-      by_key : (key : Key) → key_of types first ≡ key → key_of types second ≡ key → outcome_key types (at_shape types first answer) ≡ outcome_key types (at_shape types second answer)
-      by_key (StructKey handle) e f = ap (λ told. outcome_key types (at_shape types told answer)) (StructKey-told types first handle e ∙ sym (StructKey-told types second handle f))
+      by_key : (key : Key) → key_of types first ≡ key → key_of types second ≡ key →
+          outcome_key types (at_shape types first answer) ≡ outcome_key types (at_shape types second answer)
+      by_key (StructKey handle) e f = ap (λ told. outcome_key types (at_shape types told answer)) (StructKey-told types first handle e
+          ∙ sym (StructKey-told types second handle f))
       by_key (InnerKey told) e f = at_told answer reads first told e ∙ sym (at_told answer reads second told f)
 
   -- canonical forms are canonical
   pub canonical-again : (inner : TypeInner) → canonical types (canonical types inner) ≡ canonical types inner
   canonical-again (type.Pointer base space) = again (slice_get types base) refl
     where
-      to : (found : «Type») → slice_get types base ≡ Some found → (inner : TypeInner) → found.inner ≡ inner → canonical types (pointer_to base space inner) ≡ pointer_to base space inner
+      to : (found : «Type») → slice_get types base ≡ Some found → (inner : TypeInner) → found.inner ≡ inner →
+          canonical types (pointer_to base space inner) ≡ pointer_to base space inner
       to found e (type.Scalar scalar) is = refl
       to found e (type.Vector size scalar) is = refl
       to found e inner is = ap (λ there. pointer_at base space there) e ∙ ap (λ a. pointer_to base space a) is
 
-      again : (found : Option «Type») → slice_get types base ≡ found → canonical types (pointer_at base space found) ≡ pointer_at base space found
+      again : (found : Option «Type») → slice_get types base ≡ found →
+          canonical types (pointer_at base space found) ≡ pointer_at base space found
       again (Some found) e = to found e found.inner refl
       again None e = ap (λ there. pointer_at base space there) e
   canonical-again inner = refl

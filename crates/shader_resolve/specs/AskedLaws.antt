@@ -9,4 +9,5 @@ use Rattle.shader_resolve.specs.WellFormed.{OperandsBelow}
 -- where all operands are below a bound, so are those that are asked
 abbrev pub AskedAreOperands : Type 0
 AskedAreOperands =
-    (context : Context) (expression : Expression) (bound : ℕ) → OperandsBelow bound expression → EachAsked (λ operand. operand < bound) (row context expression)
+    (context : Context) (expression : Expression) (bound : ℕ) → OperandsBelow bound expression →
+    EachAsked (λ operand. operand < bound) (row context expression)

@@ -48,4 +48,5 @@ module _ (types : List «Type») (special : SpecialTypes) (fun : MathFunction) w
   -- the type of a call, by its first two arguments; a third and a fourth don't matter
   abbrev pub math_of_two : TypeResolution → TypeResolution → Outcome
   math_of_two first second =
-      at_shape types first (λ first_inner. at_shape types second (λ second_inner. first_conclusion special (rules_after_two types fun first_inner second_inner)))
+      at_shape types first (λ first_inner. at_shape types second
+      (λ second_inner. first_conclusion special (rules_after_two types fun first_inner second_inner)))

@@ -15,8 +15,10 @@ module _ (types : List «Type») where
   -- at operands of equal keys the row gives types of equal keys, or refuses under both
   abbrev pub Respects : Row → Type 0
   Respects (Plain outcome) = Unit {0}
-  Respects (One operand answer) = (first second : TypeResolution) → key_of types first ≡ key_of types second → outcome_key types (answer first) ≡ outcome_key types (answer second)
-  Respects (Two left right answer) = (first second third fourth : TypeResolution) → key_of types first ≡ key_of types second → key_of types third ≡ key_of types fourth
+  Respects (One operand answer) = (first second : TypeResolution) → key_of types first ≡ key_of types second →
+      outcome_key types (answer first) ≡ outcome_key types (answer second)
+  Respects (Two left right answer) = (first second third fourth : TypeResolution) → key_of types first ≡ key_of types second →
+      key_of types third ≡ key_of types fourth
       → outcome_key types (answer first third) ≡ outcome_key types (answer second fourth)
 
   -- both are told to be of equal keys, or both are refused
@@ -27,7 +29,8 @@ module _ (types : List «Type») where
 
   -- what the two closures tell of each operand that the row asks is alike
   abbrev pub TellAlike : (Post Other : ℕ → Told → Type 0) → Row → Type 0
-  TellAlike Post Other asked = EachAsked (λ operand. (told other : Told) → Post operand told → Other operand other → AreToldAlike told other) asked
+  TellAlike Post Other asked = EachAsked (λ operand. (told other : Told) → Post operand told → Other operand other →
+      AreToldAlike told other) asked
 
   -- both are of equal keys, or both are errors; one alone is an error where memory is taken and ran out
   abbrev pub AreAlike : Bool → Result TypeResolution ResolveError → Result TypeResolution ResolveError → Type 0
@@ -52,5 +55,6 @@ abbrev pub ResultsAreAlike : (Post Other : ℕ → Told → Type 0) → Type 0
 ResultsAreAlike Post Other =
     (context : Context) (expression : Expression) (result other : Result TypeResolution ResolveError)
     → TellAlike context.types Post Other (row context expression)
-    → Follows (takes_memory expression) Post result (row context expression) → Follows (takes_memory expression) Other other (row context expression)
+    → Follows (takes_memory expression) Post result (row context expression) →
+    Follows (takes_memory expression) Other other (row context expression)
     → AreAlike context.types (takes_memory expression) result other

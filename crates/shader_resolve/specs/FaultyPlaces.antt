@@ -16,9 +16,13 @@ use Rattle.shader_ir.specs.declared.name.Name.{Name}
 use Rattle.shader_ir.specs.declared.types.«Type».{«Type»}
 use Rattle.shader_resolve.specs.Context.{context_of}
 use Rattle.shader_resolve.specs.Statements.{statement_callee}
-use Rattle.shader_resolve.specs.WellFormed.{ConstantInRange, CountMatches, EmitsBelow, ExpressionInRange, GlobalInRange, IsEarlier, IsNoPointerArgument, IsType, LocalInRange, OperandsBelow, OverrideInRange, SpecialTypesInRange, StatementInRange, TypeInRange, expression_callee}
+use Rattle.shader_resolve.specs.WellFormed.{ConstantInRange, CountMatches, EmitsBelow, ExpressionInRange, GlobalInRange}
+use Rattle.shader_resolve.specs.WellFormed.{IsEarlier, IsNoPointerArgument, IsType, LocalInRange, OperandsBelow, OverrideInRange}
+use Rattle.shader_resolve.specs.WellFormed.{SpecialTypesInRange, StatementInRange, TypeInRange, expression_callee}
 use Rattle.shader_resolve.specs.declared.well_formed.ModuleFault.{ModuleFault}
-use Rattle.shader_resolve.specs.declared.well_formed.ModuleFault.TheVariants.{HandleOutOfRange, TypeNotEarlier, OperandNotEarlier, CalleeNotEarlier, ArgumentCount, FilterNotEarlier, ValuePointerArgument, EmitRange}
+use Rattle.shader_resolve.specs.declared.well_formed.ModuleFault.TheVariants.{HandleOutOfRange, TypeNotEarlier, OperandNotEarlier}
+use Rattle.shader_resolve.specs.declared.well_formed.ModuleFault.TheVariants.{CalleeNotEarlier, ArgumentCount, FilterNotEarlier}
+use Rattle.shader_resolve.specs.declared.well_formed.ModuleFault.TheVariants.{ValuePointerArgument, EmitRange}
 use Rattle.shader_resolve.specs.declared.well_formed.places.FunctionPlace.{FunctionPlace}
 use Rattle.shader_resolve.specs.declared.well_formed.places.FunctionPlace.TheVariants as part
 use Rattle.shader_resolve.specs.declared.well_formed.places.ModulePlace.{ModulePlace}

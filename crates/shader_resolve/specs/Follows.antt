@@ -31,7 +31,8 @@ takes_memory _ = false
 module _ (Post : ℕ → Told → Type 0) (result : Result TypeResolution ResolveError) where
   -- the operand is told to be a type from which the rest follows, or an error, which is the result
   abbrev pub Answered : ℕ → (TypeResolution → Type 0) → Type 0
-  Answered operand Rest = (told : Told) × Post operand told × MatchResult told (λ resolution. Rest resolution.now) (λ failure. result ≡ Err failure)
+  Answered operand Rest = (told : Told) × Post operand told ×
+      MatchResult told (λ resolution. Rest resolution.now) (λ failure. result ≡ Err failure)
 
 -- the result is what the row answers, or the first error of an operand; or, where some is taken, memory ran out
 abbrev pub Follows : Bool → (ℕ → Told → Type 0) → Result TypeResolution ResolveError → Row → Type 0
@@ -62,7 +63,7 @@ IsAccessing _ = ⊥
 
 -- the forms that ask an image
 abbrev pub IsOfImage : Expression → Type 0
-IsOfImage (form.ImageSample image sampler gather coordinate array_index offset level depth_ref clamp_to_edge) = Unit {0}
+IsOfImage (form.ImageSample image sampler gather clamp_to_edge coordinate array_index offset level depth_ref) = Unit {0}
 IsOfImage (form.ImageLoad image coordinate array_index sample level) = Unit {0}
 IsOfImage (form.ImageQuery image query) = Unit {0}
 IsOfImage _ = ⊥
@@ -91,7 +92,7 @@ IsAsking (form.Splat size value) = Unit {0}
 IsAsking (form.Swizzle size vector pattern) = Unit {0}
 IsAsking (form.Load pointer) = Unit {0}
 IsAsking (form.CooperativeLoad columns rows role tile) = Unit {0}
-IsAsking (form.ImageSample image sampler gather coordinate array_index offset level depth_ref clamp_to_edge) = Unit {0}
+IsAsking (form.ImageSample image sampler gather clamp_to_edge coordinate array_index offset level depth_ref) = Unit {0}
 IsAsking (form.ImageLoad image coordinate array_index sample level) = Unit {0}
 IsAsking (form.ImageQuery image query) = Unit {0}
 IsAsking (form.Unary op expr) = Unit {0}

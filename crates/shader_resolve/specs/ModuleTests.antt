@@ -1,5 +1,6 @@
 -- What the parts of check_module answer; cited by no public clause.
-use Rattle.std.specs.Prelude.{ℕ, ◌==◌, Bool, true, false, ◌&&◌, not, List, [], ◌∷◌, length, slice_get, Option, Some, None, Result, Ok, Err, nat_lt}
+use Rattle.std.specs.Prelude.{ℕ, ◌==◌, Bool, true, false, ◌&&◌, not, List, [], ◌∷◌, length}
+use Rattle.std.specs.Prelude.{slice_get, Option, Some, None, Result, Ok, Err, nat_lt}
 use Rattle.std.specs.List.{list_all, enumerate_from}
 use Rattle.shader_arena.specs.Places.{places_between}
 use Rattle.shader_ir.specs.Body.{Emit, Call, Body, End, Then, Step, Leaf, Nested, If, Switch, Loop, Cases, NoCase, Case}
@@ -26,7 +27,9 @@ use Rattle.shader_resolve.specs.Statements.{statement_callee, statement_result}
 use Rattle.shader_resolve.specs.WellFormed.{expression_callee, sizing_override}
 use Rattle.shader_resolve.specs.declared.well_formed.Bounds.{Bounds}
 use Rattle.shader_resolve.specs.declared.well_formed.ModuleFault.{ModuleFault}
-use Rattle.shader_resolve.specs.declared.well_formed.ModuleFault.TheVariants.{HandleOutOfRange, TypeNotEarlier, OperandNotEarlier, CalleeNotEarlier, ArgumentCount, FilterNotEarlier, ValuePointerArgument, EmitRange}
+use Rattle.shader_resolve.specs.declared.well_formed.ModuleFault.TheVariants.{HandleOutOfRange, TypeNotEarlier, OperandNotEarlier}
+use Rattle.shader_resolve.specs.declared.well_formed.ModuleFault.TheVariants.{CalleeNotEarlier, ArgumentCount, FilterNotEarlier}
+use Rattle.shader_resolve.specs.declared.well_formed.ModuleFault.TheVariants.{ValuePointerArgument, EmitRange}
 
 -- a fault, or none
 abbrev pub Checked : Type 0
@@ -112,7 +115,8 @@ is_emitted bound _ = true
 module _ (checked : Module) where
   abbrev pub check_type : ℕ → TypeInner → Checked
   check_type place inner =
-      guard (all_below (length checked.types) (type_handles inner) && is_below (length checked.overrides) (sizing_override inner)) HandleOutOfRange
+      guard (all_below (length checked.types) (type_handles inner) && is_below (length checked.overrides) (sizing_override inner))
+      HandleOutOfRange
       (guard (all_below place (type_handles inner)) TypeNotEarlier passed)
 
   abbrev pub special_in_range : SpecialTypes → Bool
@@ -131,7 +135,8 @@ module _ (checked : Module) where
 
   abbrev pub check_filter : ℕ → DiagnosticFilterNode → Checked
   check_filter place node =
-      guard (is_below (length checked.diagnostic_filters) node.parent) HandleOutOfRange (guard (is_below place node.parent) FilterNotEarlier passed)
+      guard (is_below (length checked.diagnostic_filters) node.parent) HandleOutOfRange
+      (guard (is_below place node.parent) FilterNotEarlier passed)
 
   abbrev pub variables_in_range : Bool
   variables_in_range =
@@ -203,7 +208,12 @@ module _ (checked : Module) where
 
 -- what the expressions and statements of a function with so many earlier ones may name
 abbrev pub bounds_of : ℕ → Function → Bounds
-bounds_of earlier function = record { earlier = earlier; locals = length function.local_variables; expressions = length function.expressions }
+bounds_of earlier function = record {
+  earlier = earlier;
+  locals = length function.local_variables;
+  expressions =
+      length function.expressions;
+}
 
 -- what global expressions may name
 abbrev pub global_bounds : Module → Bounds

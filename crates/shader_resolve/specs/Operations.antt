@@ -38,7 +38,8 @@ pub data Product : Type 0 where
   NoProduct : Product
 
 abbrev pub product_of : TypeInner → TypeInner → Product
-product_of (type.Matrix columns rows scalar) (type.Matrix right_columns right_rows right_scalar) = Made (type.Matrix right_columns rows scalar)
+product_of (type.Matrix columns rows scalar) (type.Matrix right_columns right_rows right_scalar) =
+    Made (type.Matrix right_columns rows scalar)
 product_of (type.Matrix columns rows scalar) (type.Vector size right_scalar) = Made (type.Vector rows scalar)
 product_of (type.Vector size scalar) (type.Matrix columns rows right_scalar) = Made (type.Vector columns right_scalar)
 product_of (type.Scalar scalar) _ = AsRight
@@ -58,12 +59,14 @@ product_type NoProduct left right = Refused IncompatibleOperands
 abbrev pub cast_type : ScalarKind → Option ℕ → TypeInner → Outcome
 cast_type kind convert (type.Scalar old) = Given (Value (type.Scalar (scalar kind (unwrap_or convert old.width))))
 cast_type kind convert (type.Vector size old) = Given (Value (type.Vector size (scalar kind (unwrap_or convert old.width))))
-cast_type kind convert (type.Matrix columns rows old) = Given (Value (type.Matrix columns rows (scalar old.kind (unwrap_or convert old.width))))
+cast_type kind convert (type.Matrix columns rows old) = Given
+    (Value (type.Matrix columns rows (scalar old.kind (unwrap_or convert old.width))))
 cast_type kind convert _ = Refused IncompatibleOperands
 
 module _ (types : List «Type») where
   abbrev pub product : TypeResolution → TypeResolution → Outcome
-  product left right = at_shape types left (λ left_inner. at_shape types right (λ right_inner. product_type (product_of left_inner right_inner) left right))
+  product left right = at_shape types left (λ left_inner. at_shape types right
+      (λ right_inner. product_type (product_of left_inner right_inner) left right))
 
   -- the type of an operation that asks its left side alone
   abbrev pub left_type : BinaryOperator → TypeResolution → Outcome

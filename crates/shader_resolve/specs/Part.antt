@@ -35,7 +35,7 @@ part index (type.Vector size scalar) = checked index (vector_count size) (part_k
 part index (type.Matrix columns rows scalar) = checked index (vector_count columns) (part_kind.Vector rows scalar)
 part index (type.Array base size stride) = Ok (part_kind.Type base)
 part index (type.BindingArray base size) = Ok (part_kind.Type base)
-part index (type.Struct members span) = indexed_member index members
+part index (type.Struct span members) = indexed_member index members
 part index _ = Err NotIndexable
 
 -- a part by value
@@ -70,5 +70,6 @@ pointed_outcome base index pointed space None = Refused NoSuchHandle
 abbrev pub lifted : List «Type» → ℕ → Option ℕ → TypeInner → Outcome
 lifted types base index (type.Pointer pointed space) = pointed_outcome base index pointed space (found_inner (slice_get types pointed))
 lifted types base index (type.ValuePointer (Some size) scalar space) =
-    part_outcome base (InvalidAccess base (is_some index)) (λ reached. Value (part_pointer space reached)) (part index (type.Vector size scalar))
+    part_outcome base (InvalidAccess base (is_some index)) (λ reached. Value (part_pointer space reached))
+    (part index (type.Vector size scalar))
 lifted types base index inner = part_outcome base (InvalidAccess base (is_some index)) part_value (part index inner)

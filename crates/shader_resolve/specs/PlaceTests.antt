@@ -6,7 +6,9 @@ use Rattle.shader_ir.specs.declared.function.EntryPoint.{EntryPoint}
 use Rattle.shader_ir.specs.declared.function.Function.{Function}
 use Rattle.shader_ir.specs.declared.module.Module.{Module}
 use Rattle.shader_resolve.specs.FaultyPlaces.{in_entry_point, in_function}
-use Rattle.shader_resolve.specs.ModuleTests.{Checked, bounds_of, check_argument, check_expression, check_filter, check_statement, check_type, constant_in_range, function_in_range, global_bounds, global_in_range, guard, in_body, in_list, override_in_range, passed, special_in_range, then}
+use Rattle.shader_resolve.specs.ModuleTests.{Checked, bounds_of, check_argument, check_expression, check_filter, check_statement}
+use Rattle.shader_resolve.specs.ModuleTests.{check_type, constant_in_range, function_in_range, global_bounds, global_in_range}
+use Rattle.shader_resolve.specs.ModuleTests.{guard, in_body, in_list, override_in_range, passed, special_in_range, then}
 use Rattle.shader_resolve.specs.declared.well_formed.Bounds.{Bounds}
 use Rattle.shader_resolve.specs.declared.well_formed.ModuleFault.{ModuleFault}
 use Rattle.shader_resolve.specs.declared.well_formed.ModuleFault.TheVariants.{HandleOutOfRange}

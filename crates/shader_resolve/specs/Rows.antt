@@ -39,7 +39,8 @@ use Rattle.shader_ir.specs.Queries.{scalar_of}
 use Rattle.shader_ir.specs.Scalars.{scalar}
 use Rattle.shader_resolve.specs.Images.{bool_scalar, u32_scalar, i32_scalar, f32_scalar, extent_type, gather_type, sample_type}
 use Rattle.shader_resolve.specs.Operations.{cast_type, left_type, product, test_type}
-use Rattle.shader_resolve.specs.Outcome.{NoSuchHandle, InvalidScalar, InvalidVector, InvalidPointer, FunctionReturnsVoid, FunctionArgumentNotFound, MissingSpecialType, Outcome, Given, Refused, at_shape}
+use Rattle.shader_resolve.specs.Outcome.{NoSuchHandle, InvalidScalar, InvalidVector, InvalidPointer, FunctionReturnsVoid}
+use Rattle.shader_resolve.specs.Outcome.{FunctionArgumentNotFound, MissingSpecialType, Outcome, Given, Refused, at_shape}
 use Rattle.shader_resolve.specs.Part.{lifted}
 
 -- the operands that a form asks, in order, and its answer from what they are told to be
@@ -186,7 +187,8 @@ row context (form.FunctionArgument index) = Plain (argument_type index (slice_ge
 row context (form.GlobalVariable variable) = Plain (global_type (slice_get context.globals variable))
 row context (form.LocalVariable variable) = Plain (local_type (slice_get context.locals variable))
 row context (form.Load pointer) = on_shape context.types pointer (load_type pointer context.types)
-row context (form.ImageSample image sampler gather coordinate array_index offset level depth_ref clamp_to_edge) = sample_row context.types image gather
+row context (form.ImageSample image sampler gather clamp_to_edge coordinate array_index offset level depth_ref) =
+    sample_row context.types image gather
 row context (form.ImageLoad image coordinate array_index sample level) = on_shape context.types image (sample_type image)
 row context (form.ImageQuery image query) = query_row context.types image query
 row context (form.Unary op expr) = as_operand expr
@@ -205,5 +207,6 @@ row context form.RayQueryProceedResult = Plain (scalar_value bool_scalar)
 row context (form.RayQueryGetIntersection query committed) = Plain (special_type context.special_types.ray_intersection)
 row context form.SubgroupBallotResult = Plain (Given (Value (type.Vector Quad u32_scalar)))
 row context (form.SubgroupOperationResult ty) = Plain (Given (Handle ty))
-row context (form.CooperativeLoad columns rows role tile) = on_shape context.types tile.pointer (tile_type tile.pointer context.types columns rows role)
+row context (form.CooperativeLoad columns rows role tile) =
+    on_shape context.types tile.pointer (tile_type tile.pointer context.types columns rows role)
 row context (form.CooperativeMultiplyAdd a b c) = as_operand c

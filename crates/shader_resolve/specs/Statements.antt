@@ -1,6 +1,7 @@
 -- What a statement names beside its operands.
 use Rattle.std.specs.Prelude.{ℕ, Option, Some, None}
-use Rattle.shader_ir.specs.Body.{Simple, Atomic, WorkGroupUniformLoad, Call, RayQuery, SubgroupBallot, SubgroupGather, SubgroupCollectiveOperation, Step, Leaf}
+use Rattle.shader_ir.specs.Body.{Simple, Atomic, WorkGroupUniformLoad, Call, RayQuery, SubgroupBallot}
+use Rattle.shader_ir.specs.Body.{SubgroupGather, SubgroupCollectiveOperation, Step, Leaf}
 use Rattle.shader_ir.specs.declared.statement.RayQueryFunction.{RayQueryFunction}
 use Rattle.shader_ir.specs.declared.statement.RayQueryFunction.TheVariants.{Proceed}
 

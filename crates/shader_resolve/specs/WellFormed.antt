@@ -29,7 +29,9 @@ use Rattle.shader_ir.specs.declared.types.TypeInner.TheVariants.{Array, BindingA
 use Rattle.shader_resolve.specs.Context.{Context, context_of, IsInRange}
 use Rattle.shader_resolve.specs.Statements.{statement_callee, statement_result}
 use Rattle.shader_resolve.specs.declared.well_formed.ModuleFault.{ModuleFault}
-use Rattle.shader_resolve.specs.declared.well_formed.ModuleFault.TheVariants.{HandleOutOfRange, TypeNotEarlier, OperandNotEarlier, CalleeNotEarlier, ArgumentCount, FilterNotEarlier, ValuePointerArgument, EmitRange}
+use Rattle.shader_resolve.specs.declared.well_formed.ModuleFault.TheVariants.{HandleOutOfRange, TypeNotEarlier, OperandNotEarlier}
+use Rattle.shader_resolve.specs.declared.well_formed.ModuleFault.TheVariants.{CalleeNotEarlier, ArgumentCount, FilterNotEarlier}
+use Rattle.shader_resolve.specs.declared.well_formed.ModuleFault.TheVariants.{ValuePointerArgument, EmitRange}
 
 -- a fact of each item at its place
 abbrev pub AtEach : {T : Type 0} → (ℕ → T → Type 0) → List T → Type 0
@@ -115,7 +117,8 @@ module _ (checked : Module) where
     pub arguments : All (λ (argument : FunctionArgument). IsType argument.ty) function.arguments
     pub result : IfSome function.result (λ (result : FunctionResult). IsType result.ty)
     pub locals : All (LocalInRange function) function.local_variables
-    pub expressions : All (ExpressionInRange (context_of checked function.local_variables function.arguments) function.expressions) function.expressions
+    pub expressions : All (ExpressionInRange (context_of checked function.local_variables function.arguments) function.expressions)
+        function.expressions
     pub named : All (λ (entry : ℕ × Name). entry.0 < length function.expressions) function.named_expressions
     pub filter : IfSome function.diagnostic_filter_leaf (λ filter. filter < length checked.diagnostic_filters)
     pub statements : All (StatementInRange function) (statements function.body)
@@ -131,7 +134,8 @@ module _ (checked : Module) where
 
   -- a call gives as many arguments as its callee takes, where that is there
   abbrev pub CountMatches : Step → Type 0
-  CountMatches (Leaf (Call function arguments result)) = IfSome (slice_get checked.functions function) (λ callee. length callee.arguments ≡ length arguments)
+  CountMatches (Leaf (Call function arguments result)) = IfSome (slice_get checked.functions function)
+      (λ callee. length callee.arguments ≡ length arguments)
   CountMatches _ = Unit {0}
 
   abbrev pub IsNoPointerArgument : FunctionArgument → Type 0
@@ -150,7 +154,8 @@ module _ (checked : Module) where
     pub overrides : All OverrideInRange checked.overrides
     pub global_variables : All GlobalInRange checked.global_variables
     pub global_expressions : All (ExpressionInRange (context_of checked [] []) checked.global_expressions) checked.global_expressions
-    pub filters : All (λ (node : DiagnosticFilterNode). IfSome node.parent (λ parent. parent < length checked.diagnostic_filters)) checked.diagnostic_filters
+    pub filters : All (λ (node : DiagnosticFilterNode). IfSome node.parent (λ parent. parent < length checked.diagnostic_filters))
+        checked.diagnostic_filters
     pub functions : EachFunction (λ earlier function. FunctionInRange function)
 
   -- each type names earlier types alone

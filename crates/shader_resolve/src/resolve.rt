@@ -34,7 +34,7 @@ impl<'a> ResolveContext<'a> {
     ///
     /// # Errors
     ///
-    /// The refusal of the expression's form; an error of `past`, the first that it answers; want of memory, for the forms that copy
+    /// The refusal of the expression's form; an error of `past`, the first that it returns; want of memory, for the forms that copy
     /// an operand's type, ask for the rules of a builtin or name an operation in their refusal.
     pub fn resolve<F>(&self, alloc: Global, expr: &Expression, past: F) -> Resolved
     where
@@ -42,9 +42,11 @@ impl<'a> ResolveContext<'a> {
         requires backward { IsBackward self.now.types }
         requires in_range { IsInRange self.now expr.now }
         requires asked { EachAsked (F.pre past) (row self.now expr.now) }
-        requires told_fits { EachAsked (λ operand. (told : _) → F.post past operand told → FitsTold self.now.types told) (row self.now expr.now) }
+        requires told_fits { EachAsked (λ operand. (told : _) → F.post past operand told →
+            FitsTold self.now.types told) (row self.now expr.now) }
         ensures follows { Follows (takes_memory expr.now) (F.post past) result (row self.now expr.now) }
-        ensures key { (keys : ℕ → Option Key) → TellsKeys self.now.types (F.post past) keys (row self.now expr.now) → HasKey self.now.types result (typing self.now keys expr.now) }
+        ensures key { (keys : ℕ → Option Key) → TellsKeys self.now.types (F.post past) keys (row self.now expr.now) →
+            HasKey self.now.types result (typing self.now keys expr.now) }
         ensures fits { TypesInRange self.now → IfOk result (λ resolution. FitsTypes self.now.types resolution) }
     {
         self.resolve_row(alloc, expr, past)
@@ -56,7 +58,8 @@ impl<'a> ResolveContext<'a> {
         requires backward { IsBackward self.now.types }
         requires in_range { IsInRange self.now expr.now }
         requires asked { EachAsked (F.pre past) (row self.now expr.now) }
-        requires told_fits { EachAsked (λ operand. (told : _) → F.post past operand told → FitsTold self.now.types told) (row self.now expr.now) }
+        requires told_fits { EachAsked (λ operand. (told : _) → F.post past operand told →
+            FitsTold self.now.types told) (row self.now expr.now) }
         ensures { Follows (takes_memory expr.now) (F.post past) result (row self.now expr.now) }
     {
         if let Some(resolved) = self.leaf_type(expr) {
@@ -95,7 +98,8 @@ impl<'a> ResolveContext<'a> {
         requires backward { IsBackward self.now.types }
         requires form { IsAccessing expr.now }
         requires asked { EachAsked (F.pre past) (row self.now expr.now) }
-        requires told_fits { EachAsked (λ operand. (told : _) → F.post past operand told → FitsTold self.now.types told) (row self.now expr.now) }
+        requires told_fits { EachAsked (λ operand. (told : _) → F.post past operand told →
+            FitsTold self.now.types told) (row self.now expr.now) }
         ensures { Follows (takes_memory expr.now) (F.post past) result (row self.now expr.now) }
     {
         match expr {
@@ -133,7 +137,8 @@ impl<'a> ResolveContext<'a> {
         requires backward { IsBackward self.now.types }
         requires form { IsOfImage expr.now }
         requires asked { EachAsked (F.pre past) (row self.now expr.now) }
-        requires told_fits { EachAsked (λ operand. (told : _) → F.post past operand told → FitsTold self.now.types told) (row self.now expr.now) }
+        requires told_fits { EachAsked (λ operand. (told : _) → F.post past operand told →
+            FitsTold self.now.types told) (row self.now expr.now) }
         ensures { Follows (takes_memory expr.now) (F.post past) result (row self.now expr.now) }
     {
         match expr {
@@ -161,7 +166,8 @@ impl<'a> ResolveContext<'a> {
         requires backward { IsBackward self.now.types }
         requires form { IsOperation expr.now }
         requires asked { EachAsked (F.pre past) (row self.now expr.now) }
-        requires told_fits { EachAsked (λ operand. (told : _) → F.post past operand told → FitsTold self.now.types told) (row self.now expr.now) }
+        requires told_fits { EachAsked (λ operand. (told : _) → F.post past operand told →
+            FitsTold self.now.types told) (row self.now expr.now) }
         ensures { Follows (takes_memory expr.now) (F.post past) result (row self.now expr.now) }
     {
         match expr {
@@ -209,7 +215,8 @@ impl<'a> ResolveContext<'a> {
         F: Fn(Handle<mark::Expression>) -> Result<&'a TypeResolution, ResolveError>,
         requires backward { IsBackward self.now.types }
         requires asked { EachAsked (F.pre past) (math_row self.now fun arg arg1) }
-        requires told_fits { EachAsked (λ operand. (told : _) → F.post past operand told → FitsTold self.now.types told) (math_row self.now fun arg arg1) }
+        requires told_fits { EachAsked (λ operand. (told : _) → F.post past operand told →
+            FitsTold self.now.types told) (math_row self.now fun arg arg1) }
         ensures { Follows true (F.post past) result (math_row self.now fun arg arg1) }
     {
         match arg1 {

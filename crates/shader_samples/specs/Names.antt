@@ -16,9 +16,10 @@ name_text s.DerivativeUniform = codes "derivative-uniform"
 name_text s.Derivative = codes "derivative"
 name_text s.DerivativeOff = codes "derivative-off"
 
-abbrev pub samples : List Sample
-samples = s.Named ∷ s.Stored ∷ s.Sampling ∷ s.Exit ∷ s.NoFall ∷ s.ExitOff ∷ s.Counts ∷ s.DerivativeUniform ∷ s.Derivative ∷ s.DerivativeOff ∷ []
+abbrev pub all_samples : List Sample
+all_samples = s.Named ∷ s.Stored ∷ s.Sampling ∷ s.Exit ∷ s.NoFall ∷ s.ExitOff ∷ s.Counts ∷ s.DerivativeUniform ∷ s.Derivative
+    ∷ s.DerivativeOff ∷ []
 
 -- the sample that a name names
 abbrev pub sample_named : List ℕ → Option Sample
-sample_named name = find (λ sample. bytes_eq (name_text sample) name) samples
+sample_named name = find (λ sample. bytes_eq (name_text sample) name) all_samples

@@ -85,7 +85,7 @@ abbrev pub sampling_types : List TypeInner
 sampling_types = image ∷ type.Sampler false ∷ type.Vector size.Bi (scalar kinds.Float 4) ∷ type.Vector size.Quad (scalar kinds.Float 4) ∷ []
 
 abbrev pub sample_of : Expression
-sample_of = form.ImageSample 0 1 None 2 None None level.Zero None false
+sample_of = form.ImageSample 0 1 None false 2 None None level.Zero None
 
 -- samples its first argument with its second, and returns what that gives
 abbrev pub taking_both : Function
@@ -95,14 +95,16 @@ taking_both = function_with (argument 0 ∷ argument 1 ∷ []) (Some (record { t
 
 -- calls that with its argument and the global sampler
 abbrev pub taking_the_image : Function
-taking_the_image = function_with (argument 0 ∷ []) None (form.FunctionArgument 0 ∷ form.GlobalVariable 1 ∷ []) [] (just (Leaf (Call 0 (0 ∷ 1 ∷ []) None)))
+taking_the_image = function_with (argument 0 ∷ []) None (form.FunctionArgument 0 ∷ form.GlobalVariable 1 ∷ []) []
+    (just (Leaf (Call 0 (0 ∷ 1 ∷ []) None)))
 
 -- calls that twice with the global image
 abbrev pub calling_twice : Function
 calling_twice = function_with [] None (form.GlobalVariable 0 ∷ []) [] (both (Leaf (Call 1 (0 ∷ []) None)) (Leaf (Call 1 (0 ∷ []) None)))
 
 abbrev pub sampling_module : Module
-sampling_module = module_with (map unnamed sampling_types) (resource 0 ∷ resource 1 ∷ []) (taking_both ∷ taking_the_image ∷ calling_twice ∷ [])
+sampling_module = module_with (map unnamed sampling_types) (resource 0 ∷ resource 1 ∷ [])
+    (taking_both ∷ taking_the_image ∷ calling_twice ∷ [])
 
 -- ---- a matrix that a whole subgroup is to load
 
@@ -116,7 +118,8 @@ abbrev pub with_matrix : Body → Function
 with_matrix body = function_with (argument 1 ∷ []) None matrix_expressions [] body
 
 abbrev pub over_a_float : List Function → Module
-over_a_float functions = module_with (map unnamed (type.Scalar (scalar kinds.Float 4) ∷ type.Scalar (scalar kinds.Bool 1) ∷ [])) (storage 0 ∷ []) functions
+over_a_float functions = module_with (map unnamed (type.Scalar (scalar kinds.Float 4) ∷ type.Scalar (scalar kinds.Bool 1) ∷ []))
+    (storage 0 ∷ []) functions
 
 -- some return in the first case, which may fall into the second, where the matrix is loaded
 abbrev pub switching : Bool → Function
@@ -153,7 +156,8 @@ derivative_expressions =
     number 0 ∷ derivative_of_first ∷ form.GlobalVariable 0 ∷ form.GlobalVariable 1 ∷ form.ArrayLength 3 ∷ form.AccessIndex 2 1 ∷ []
 
 abbrev pub over_two_vectors : Function → Module
-over_two_vectors f = module_with (map unnamed (type.Vector size.Bi (scalar kinds.Float 4) ∷ [])) (resource 0 ∷ variable space.Uniform 0 ∷ []) (f ∷ [])
+over_two_vectors f = module_with (map unnamed (type.Vector size.Bi (scalar kinds.Float 4) ∷ []))
+    (resource 0 ∷ variable space.Uniform 0 ∷ []) (f ∷ [])
 
 abbrev pub with_derivatives : Body → Function
 with_derivatives body = function_with [] None derivative_expressions [] body
@@ -173,14 +177,14 @@ derivative_off_module = record (over_two_vectors (filtered (with_derivatives on_
 
 -- ---- by name
 
-abbrev pub module_of : Sample → Module
-module_of s.Named = named_module
-module_of s.Stored = stored_module
-module_of s.Sampling = sampling_module
-module_of s.Exit = exit_module true
-module_of s.NoFall = exit_module false
-module_of s.ExitOff = exit_off_module
-module_of s.Counts = counts_module
-module_of s.DerivativeUniform = over_two_vectors (with_derivatives on_shared)
-module_of s.Derivative = over_two_vectors (with_derivatives on_varying)
-module_of s.DerivativeOff = derivative_off_module
+abbrev pub sample_module : Sample → Module
+sample_module s.Named = named_module
+sample_module s.Stored = stored_module
+sample_module s.Sampling = sampling_module
+sample_module s.Exit = exit_module true
+sample_module s.NoFall = exit_module false
+sample_module s.ExitOff = exit_off_module
+sample_module s.Counts = counts_module
+sample_module s.DerivativeUniform = over_two_vectors (with_derivatives on_shared)
+sample_module s.Derivative = over_two_vectors (with_derivatives on_varying)
+sample_module s.DerivativeOff = derivative_off_module

@@ -107,7 +107,7 @@ fn calling_twice(alloc: Global) -> Result<Function, AllocError>
 ///
 /// # Errors
 ///
-/// Want of memory.
+/// If allocation fails.
 pub fn sampling(alloc: Global) -> Result<Module, AllocError>
     ensures { IfOk result (λ made. made ≡ sampling_module) }
 {

@@ -34,7 +34,7 @@ fn tripled(alloc: Global) -> Result<Expression, AllocError>
 ///
 /// # Errors
 ///
-/// Want of memory.
+/// If allocation fails.
 pub fn counts(alloc: Global) -> Result<Module, AllocError>
     ensures { IfOk result (λ made. made ≡ counts_module) }
 {

@@ -2,7 +2,8 @@
 ghost use Rattle.std.specs.Prelude.{◌≡◌, IfOk};
 ghost use Rattle.shader_ir.specs.BodyOf.{body_of};
 ghost use Rattle.shader_ir.specs.declared.types.AddressSpace.TheVariants.{Uniform};
-ghost use Rattle.shader_samples.specs.Samples.{derivative_of_first, derivative_off_module, on_shared, on_varying, over_two_vectors, storing, variable, with_derivatives};
+ghost use Rattle.shader_samples.specs.Samples.{derivative_of_first, derivative_off_module, on_shared, on_varying};
+ghost use Rattle.shader_samples.specs.Samples.{over_two_vectors, storing, variable, with_derivatives};
 
 use crate::parts::{
     at, branch, derivatives_off, emit, function_of, global, module_of, number, resource, store,
@@ -69,7 +70,7 @@ fn over_two_vectors(alloc: Global, function: Function) -> Result<Module, AllocEr
 ///
 /// # Errors
 ///
-/// Want of memory.
+/// If allocation fails.
 pub fn with_derivatives(alloc: Global, statements: Vec<Statement>) -> Result<Module, AllocError>
     ensures { IfOk result (λ made. made ≡ over_two_vectors (with_derivatives (body_of statements.items))) }
 {
@@ -91,7 +92,7 @@ fn store_derivative(alloc: Global) -> Result<Vec<Statement>, AllocError>
 ///
 /// # Errors
 ///
-/// Want of memory.
+/// If allocation fails.
 pub fn derivative_uniform(alloc: Global) -> Result<Module, AllocError>
     ensures { IfOk result (λ made. made ≡ over_two_vectors (with_derivatives on_shared)) }
 {
@@ -115,7 +116,7 @@ fn on_what_differs(alloc: Global) -> Result<Vec<Statement>, AllocError>
 ///
 /// # Errors
 ///
-/// Want of memory.
+/// If allocation fails.
 pub fn derivative(alloc: Global) -> Result<Module, AllocError>
     ensures { IfOk result (λ made. made ≡ over_two_vectors (with_derivatives on_varying)) }
 {
@@ -126,7 +127,7 @@ pub fn derivative(alloc: Global) -> Result<Module, AllocError>
 ///
 /// # Errors
 ///
-/// Want of memory.
+/// If allocation fails.
 pub fn derivative_off(alloc: Global) -> Result<Module, AllocError>
     ensures { IfOk result (λ made. made ≡ derivative_off_module) }
 {

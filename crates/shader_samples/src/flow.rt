@@ -38,7 +38,7 @@ fn load() -> Expression
 ///
 /// # Errors
 ///
-/// Want of memory.
+/// If allocation fails.
 pub fn with_matrix(alloc: Global, statements: Vec<Statement>) -> Result<Function, AllocError>
     ensures { IfOk result (λ made. made ≡ with_matrix (body_of statements.items)) }
 {
@@ -58,7 +58,7 @@ pub fn with_matrix(alloc: Global, statements: Vec<Statement>) -> Result<Function
 ///
 /// # Errors
 ///
-/// Want of memory.
+/// If allocation fails.
 pub fn over_a_float(alloc: Global, functions: Vec<Function>) -> Result<Module, AllocError>
     requires { length functions.items ≤ most_items }
     ensures { IfOk result (λ made. made ≡ over_a_float functions.items) }
@@ -72,7 +72,12 @@ pub fn over_a_float(alloc: Global, functions: Vec<Function>) -> Result<Module, A
 
 /// `case 0: { if b { return; } }`
 fn first_case(alloc: Global, fall_through: bool) -> Result<SwitchCase, AllocError>
-    ensures { IfOk result (λ made. made ≡ record { value = I32 (pos 0); body = just (If 0 (just (Leaf (Return None))) End); fall_through = fall_through }) }
+    ensures { IfOk result (λ made. made ≡ record {
+      value = I32 (pos 0);
+      body = just (If 0 (just (Leaf (Return None))) End);
+      fall_through =
+          fall_through;
+    }) }
 {
     let exit = vec![in alloc; Statement::Return { value: None }]?;
     let statements = vec![in alloc; branch(0, exit, Vec::new(alloc))]?;
@@ -111,7 +116,7 @@ fn switching(alloc: Global, fall_through: bool) -> Result<Function, AllocError>
 ///
 /// # Errors
 ///
-/// Want of memory.
+/// If allocation fails.
 pub fn exit(alloc: Global) -> Result<Module, AllocError>
     ensures { IfOk result (λ made. made ≡ exit_module true) }
 {
@@ -123,7 +128,7 @@ pub fn exit(alloc: Global) -> Result<Module, AllocError>
 ///
 /// # Errors
 ///
-/// Want of memory.
+/// If allocation fails.
 pub fn no_fall(alloc: Global) -> Result<Module, AllocError>
     ensures { IfOk result (λ made. made ≡ exit_module false) }
 {
@@ -135,7 +140,7 @@ pub fn no_fall(alloc: Global) -> Result<Module, AllocError>
 ///
 /// # Errors
 ///
-/// Want of memory.
+/// If allocation fails.
 pub fn exit_off(alloc: Global) -> Result<Module, AllocError>
     ensures { IfOk result (λ made. made ≡ exit_off_module) }
 {

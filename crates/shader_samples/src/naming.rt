@@ -13,7 +13,8 @@ use std::alloc::{AllocError, Global};
 
 /// `let counter = &g;`, and then these statements, in which `g` is expression 0 and `1u` expression 1.
 fn naming(alloc: Global, statements: Vec<Statement>) -> Result<Function, AllocError>
-    ensures { IfOk result (λ made. made ≡ function_with [] None (GlobalVariable 0 ∷ number 1 ∷ []) counter_named (body_of statements.items)) }
+    ensures { IfOk result (λ made. made ≡ function_with [] None (GlobalVariable 0 ∷ number 1 ∷ []) counter_named
+        (body_of statements.items)) }
 {
     let expressions = vec![in alloc; global(0), number(1)]?;
     let mut function = function_of(alloc, expressions, statements)?;
@@ -34,7 +35,8 @@ fn naming_alone(alloc: Global) -> Result<Function, AllocError>
 
 /// `f(); g = 1u;`
 fn calling(alloc: Global) -> Result<Function, AllocError>
-    ensures { IfOk result (λ made. made ≡ function_with [] None (GlobalVariable 0 ∷ number 1 ∷ []) [] (both (Leaf (Call 0 [] None)) (Leaf (Store 0 1)))) }
+    ensures { IfOk result (λ made. made ≡ function_with [] None (GlobalVariable 0 ∷ number 1 ∷ []) []
+        (both (Leaf (Call 0 [] None)) (Leaf (Store 0 1)))) }
 {
     let statements = vec![in alloc; call(0, Vec::new(alloc)), store(0, 1)]?;
     let expressions = vec![in alloc; global(0), number(1)]?;
@@ -60,7 +62,7 @@ fn over_a_counter(alloc: Global, functions: Vec<Function>) -> Result<Module, All
 ///
 /// # Errors
 ///
-/// Want of memory.
+/// If allocation fails.
 pub fn named(alloc: Global) -> Result<Module, AllocError>
     ensures { IfOk result (λ made. made ≡ named_module) }
 {
@@ -77,7 +79,7 @@ pub fn named(alloc: Global) -> Result<Module, AllocError>
 ///
 /// # Errors
 ///
-/// Want of memory.
+/// If allocation fails.
 pub fn stored(alloc: Global) -> Result<Module, AllocError>
     ensures { IfOk result (λ made. made ≡ stored_module) }
 {

@@ -20,7 +20,7 @@ use std::alloc::{AllocError, Global};
 ///
 /// # Errors
 ///
-/// Want of memory.
+/// If allocation fails.
 pub fn arena_of<T: Drop, M>(alloc: Global, items: Vec<T>) -> Result<Arena<T, M>, AllocError>
     requires { length items.items ≤ most_items }
     ensures { IfOk result (λ arena. arena ≡ items.items) }
@@ -36,7 +36,7 @@ pub fn arena_of<T: Drop, M>(alloc: Global, items: Vec<T>) -> Result<Arena<T, M>,
 ///
 /// # Errors
 ///
-/// Want of memory.
+/// If allocation fails.
 pub fn types_of(
     alloc: Global,
     inners: Vec<TypeInner>,
@@ -55,7 +55,7 @@ pub fn types_of(
 ///
 /// # Errors
 ///
-/// Want of memory.
+/// If allocation fails.
 pub fn module_of(
     alloc: Global,
     types: Vec<TypeInner>,
@@ -78,7 +78,7 @@ pub fn module_of(
 ///
 /// # Errors
 ///
-/// Want of memory.
+/// If allocation fails.
 pub fn function_of(
     alloc: Global,
     expressions: Vec<Expression>,
@@ -211,7 +211,7 @@ pub fn case(value: SwitchValue, statements: Vec<Statement>, fall_through: bool) 
 ///
 /// # Errors
 ///
-/// Want of memory.
+/// If allocation fails.
 pub fn derivatives_off(
     alloc: Global,
 ) -> Result<Arena<DiagnosticFilterNode, mark::DiagnosticFilterNode>, AllocError>

@@ -9,22 +9,32 @@ use std::alloc::{AllocError, Global};
 /// A sample module. The function of the same name in this crate says what is in it.
 #[derive(Clone, Copy, Debug, PartialEq, Eq)]
 pub enum Sample {
+    /// A global that one function names and its caller writes.
     Named,
+    /// A global that one function names and writes.
     Stored,
+    /// An image and a sampler that come together along two calls.
     Sampling,
+    /// A case that is fallen into after some invocations have returned.
     Exit,
+    /// `Exit` without the fall-through.
     NoFall,
+    /// `Exit`, where a filter lets the fault pass.
     ExitOff,
+    /// An expression that is an operand five times.
     Counts,
+    /// A derivative where all invocations are led alike.
     DerivativeUniform,
+    /// A derivative where invocations may differ.
     Derivative,
+    /// `Derivative`, where a filter lets the fault pass.
     DerivativeOff,
 }
 
 impl Sample {
     ghost use Rattle.std.specs.Prelude.{◌≡◌, IfOk};
     ghost use Rattle.shader_samples.specs.Names.{sample_named, name_text};
-    ghost use Rattle.shader_samples.specs.Samples.{module_of};
+    ghost use Rattle.shader_samples.specs.Samples.{sample_module};
 
     /// All samples.
     pub const ALL: [Sample; 10] = [
@@ -72,9 +82,9 @@ impl Sample {
     ///
     /// # Errors
     ///
-    /// Want of memory.
+    /// If allocation fails.
     pub fn build(self, alloc: Global) -> Result<Module, AllocError>
-        ensures { IfOk result (λ made. made ≡ module_of self) }
+        ensures { IfOk result (λ made. made ≡ sample_module self) }
     {
         match self {
             Sample::Named => named(alloc),

@@ -4,7 +4,8 @@ use Rattle.std.specs.Option.{option_map, option_or}
 use Rattle.std.specs.List.{list_any}
 use Rattle.std.proofs.Math.Bool.{or_assoc}
 use Rattle.std.proofs.lemmas.List.Folds.{list_any-append}
-use Rattle.shader_chains.specs.Program.{Simple, Emit, Return, Kill, Call, Step, Leaf, Nested, If, Switch, Loop, Body, End, Then, Cases, NoCase, Case, statements, statements_within, case_statements}
+use Rattle.shader_chains.specs.Program.{Simple, Emit, Return, Kill, Call, Step, Leaf, Nested, If, Switch, Loop, Body}
+use Rattle.shader_chains.specs.Program.{End, Then, Cases, NoCase, Case, statements, statements_within, case_statements}
 use Rattle.shader_chains.specs.Sweep.{simple_exits, step_exits, block_exits, cases_exit, found, found_within, found_in_cases}
 use Rattle.shader_arena.specs.Places.{places_between}
 use Rattle.shader_sweeps.specs.declared.facts.Fact.{Fact}
@@ -13,7 +14,8 @@ use Rattle.shader_info.specs.declared.error.UniformityDisruptor.{UniformityDisru
 use Rattle.shader_info.specs.declared.error.UniformityDisruptor.TheVariants as cause
 use Rattle.shader_sweeps.specs.declared.flow.Exits.{Exits}
 use Rattle.shader_steps.proofs.FoundWords.{any_needy, calls_killing, emits_needy, is_kill}
-use Rattle.shader_sweeps.specs.Ends.{either, exit_of, behind, entered, is_needy, killing, leaf_ends, leaf_fault, on_branch, step_ends, block_ends, cases_end, needy_or, first_needy, misplaced, step_fault, block_fault, cases_fault}
+use Rattle.shader_sweeps.specs.Ends.{either, exit_of, behind, entered, is_needy, killing, leaf_ends, leaf_fault, on_branch, step_ends}
+use Rattle.shader_sweeps.specs.Ends.{block_ends, cases_end, needy_or, first_needy, misplaced, step_fault, block_fault, cases_fault}
 
 or_none : (a : Bool) → (a || false) ≡ a
 or_none true = refl
@@ -113,7 +115,8 @@ module _ (origin : ℕ → Option ℕ) (V : ℕ → Bool) (same : (e : ℕ) → 
 
   entered_is : (x : Body) (fall : Bool) (o here : Option UniformityDisruptor) → Covers o here →
       leaves (block_ends origin K here x) ≡ block_exits V K (is_some here) x →
-      is_some (entered o here fall (block_ends origin K here x)) ≡ (is_some o || (fall && (is_some here || block_exits V K (is_some here) x)))
+      is_some (entered o here fall (block_ends origin K here x))
+      ≡ (is_some o || (fall && (is_some here || block_exits V K (is_some here) x)))
   entered_is x fall o here le is =
       entered_some o here fall (block_ends origin K here x) le ∙ ap (λ v. is_some o || (fall && (is_some here || v))) is
 
@@ -129,7 +132,8 @@ module _ (origin : ℕ → Option ℕ) (V : ℕ → Bool) (same : (e : ℕ) → 
     block_is (Then s b) o =
         let here = step_ends origin K o s in
         leaves_either here (block_ends origin K (behind o here) b)
-        ∙ or_two (step_is s o) (block_is b (behind o here) ∙ ap (λ v. block_exits V K v b) (behind_some o here ∙ ap (λ v. is_some o || v) (step_is s o)))
+        ∙ or_two (step_is s o) (block_is b (behind o here) ∙ ap (λ v. block_exits V K v b) (behind_some o here
+        ∙ ap (λ v. is_some o || v) (step_is s o)))
 
     pub step_is : (s : Step) (o : Option UniformityDisruptor) → leaves (step_ends origin K o s) ≡ step_exits V K (is_some o) s
     step_is (Leaf simple) o = leaf_is simple o
@@ -144,7 +148,8 @@ module _ (origin : ℕ → Option ℕ) (V : ℕ → Bool) (same : (e : ℕ) → 
     step_is (Loop x y k) o =
         let left = block_ends origin K o x in
         leaves_either left (block_ends origin K (behind o left) y)
-        ∙ or_two (block_is x o) (block_is y (behind o left) ∙ ap (λ v. block_exits V K v y) (behind_some o left ∙ ap (λ v. is_some o || v) (block_is x o)))
+        ∙ or_two (block_is x o) (block_is y (behind o left) ∙ ap (λ v. block_exits V K v y) (behind_some o left
+        ∙ ap (λ v. is_some o || v) (block_is x o)))
 
     cases_are : (cs : Cases) (o here : Option UniformityDisruptor) → Covers o here →
         leaves (cases_end origin K o here cs) ≡ cases_exit V K (is_some o) (is_some here) cs
@@ -155,14 +160,17 @@ module _ (origin : ℕ → Option ℕ) (V : ℕ → Bool) (same : (e : ℕ) → 
         ∙ or_two (block_is x here) (cases_are cs o (entered o here fall one) (entered_covers o here fall one le)
         ∙ ap (λ v. cases_exit V K (is_some o) v cs) (entered_is x fall o here le (block_is x here)))
 
-  pub flag_behind : (s : Step) (o : Option UniformityDisruptor) → is_some (behind o (step_ends origin K o s)) ≡ (is_some o || step_exits V K (is_some o) s)
+  pub flag_behind : (s : Step) (o : Option UniformityDisruptor) →
+      is_some (behind o (step_ends origin K o s)) ≡ (is_some o || step_exits V K (is_some o) s)
   flag_behind s o = behind_some o (step_ends origin K o s) ∙ ap (λ v. is_some o || v) (step_is s o)
 
-  pub flag_continuing : (x : Body) (o : Option UniformityDisruptor) → is_some (behind o (block_ends origin K o x)) ≡ (is_some o || block_exits V K (is_some o) x)
+  pub flag_continuing : (x : Body) (o : Option UniformityDisruptor) →
+      is_some (behind o (block_ends origin K o x)) ≡ (is_some o || block_exits V K (is_some o) x)
   flag_continuing x o = behind_some o (block_ends origin K o x) ∙ ap (λ v. is_some o || v) (block_is x o)
 
   pub flag_entered : (x : Body) (fall : Bool) (o here : Option UniformityDisruptor) → Covers o here →
-      is_some (entered o here fall (block_ends origin K here x)) ≡ (is_some o || (fall && (is_some here || block_exits V K (is_some here) x)))
+      is_some (entered o here fall (block_ends origin K here x))
+      ≡ (is_some o || (fall && (is_some here || block_exits V K (is_some here) x)))
   flag_entered x fall o here le = entered_is x fall o here le (block_is x here)
 
   -- what kills: a disrupted Kill, or a call
@@ -184,12 +192,14 @@ module _ (origin : ℕ → Option ℕ) (V : ℕ → Bool) (same : (e : ℕ) → 
     block_kills (Then s b) o =
         let d = is_some o in
         or_two (step_kills s o) (block_kills b (behind o (step_ends origin K o s)) ∙ ap (λ v. F v b || C (statements b)) (flag_behind s o))
-        ∙ (six (d && is_kill s) (found_within V K is_kill d s) (calls_killing infos s) (C (statements_within s)) (F (d || step_exits V K d s) b) (C (statements b))
+        ∙ (six (d && is_kill s) (found_within V K is_kill d s) (calls_killing infos s) (C (statements_within s))
+        (F (d || step_exits V K d s) b) (C (statements b))
         ∙ ap (λ v. ((d && is_kill s) || (found_within V K is_kill d s || F (d || step_exits V K d s) b)) || (calls_killing infos s || v))
         (sym (list_any-append (calls_killing infos) (statements_within s) (statements b))))
 
     step_kills : (s : Step) (o : Option UniformityDisruptor) →
-        (step_ends origin K o s).kills ≡ (((is_some o && is_kill s) || found_within V K is_kill (is_some o) s) || (calls_killing infos s || C (statements_within s)))
+        (step_ends origin K o s).kills ≡ (((is_some o && is_kill s) || found_within V K is_kill (is_some o) s)
+        || (calls_killing infos s || C (statements_within s)))
     step_kills (Leaf simple) o = leaf_kills simple o
     step_kills (Nested x) o = block_kills x o ∙ part_flag (is_some o) (F (is_some o) x) (C (statements x))
     step_kills (If c x y) o =
@@ -202,7 +212,8 @@ module _ (origin : ℕ → Option ℕ) (V : ℕ → Bool) (same : (e : ℕ) → 
     step_kills (Loop x y k) o =
         let d = is_some o in
         let e = d || block_exits V K d x in
-        or_two (block_kills x o) (block_kills y (behind o (block_ends origin K o x)) ∙ ap (λ v. F v y || C (statements y)) (flag_continuing x o))
+        or_two (block_kills x o) (block_kills y (behind o (block_ends origin K o x))
+        ∙ ap (λ v. F v y || C (statements y)) (flag_continuing x o))
         ∙ (four (F d x) (C (statements x)) (F e y) (C (statements y))
         ∙ (ap (λ v. (F d x || F e y) || v) (sym (list_any-append (calls_killing infos) (statements x) (statements y)))
         ∙ part_flag d (F d x || F e y) (C (statements x ++ statements y))))
@@ -241,9 +252,11 @@ module _ (origin : ℕ → Option ℕ) (V : ℕ → Bool) (same : (e : ℕ) → 
     abbrev N : Bool → Body → Bool
     N = found V K (emits_needy E)
 
-    leaf_first : (simple : Simple) (o : Option UniformityDisruptor) → is_some (leaf_fault E o simple) ≡ ((is_some o && emits_needy E (Leaf simple)) || false)
+    leaf_first : (simple : Simple) (o : Option UniformityDisruptor) →
+        is_some (leaf_fault E o simple) ≡ ((is_some o && emits_needy E (Leaf simple)) || false)
     leaf_first (Emit start finish) o =
-        emit_some o (first_needy E (places_between start finish)) ∙ ap (λ v. (is_some o && v) || false) (first_some (places_between start finish))
+        emit_some o (first_needy E (places_between start finish))
+        ∙ ap (λ v. (is_some o && v) || false) (first_some (places_between start finish))
     leaf_first s o = no_leaf (is_some o)
 
     mutual
@@ -262,7 +275,8 @@ module _ (origin : ℕ → Option ℕ) (V : ℕ → Bool) (same : (e : ℕ) → 
       step_first (If c x y) o =
           let d = is_some o || V c in
           first_some_of (block_fault origin K E (on_branch origin o c) x) (block_fault origin K E (on_branch origin o c) y)
-          ∙ (or_two (block_first x (on_branch origin o c) ∙ ap (λ v. N v x) (branch_some o c)) (block_first y (on_branch origin o c) ∙ ap (λ v. N v y) (branch_some o c))
+          ∙ (or_two (block_first x (on_branch origin o c) ∙ ap (λ v. N v x) (branch_some o c)) (block_first y (on_branch origin o c)
+          ∙ ap (λ v. N v y) (branch_some o c))
           ∙ in_part (is_some o) (N d x || N d y))
       step_first (Loop x y k) o =
           let d = is_some o in
@@ -273,7 +287,8 @@ module _ (origin : ℕ → Option ℕ) (V : ℕ → Bool) (same : (e : ℕ) → 
       step_first (Switch e cs) o =
           let d = is_some o || V e in
           cases_first cs (on_branch origin o e) (on_branch origin o e) (or_same (is_some (on_branch origin o e)))
-          ∙ (ap (λ v. found_in_cases V K (emits_needy E) v v cs) (branch_some o e) ∙ in_part (is_some o) (found_in_cases V K (emits_needy E) d d cs))
+          ∙ (ap (λ v. found_in_cases V K (emits_needy E) v v cs) (branch_some o e)
+          ∙ in_part (is_some o) (found_in_cases V K (emits_needy E) d d cs))
 
       cases_first : (cs : Cases) (o here : Option UniformityDisruptor) → Covers o here →
           is_some (cases_fault origin K E o here cs) ≡ found_in_cases V K (emits_needy E) (is_some o) (is_some here) cs

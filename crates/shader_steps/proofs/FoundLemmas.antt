@@ -1,12 +1,14 @@
 -- What is found of one function meets its step equations.
-use Rattle.std.proofs.Common.{◌≡◌, refl, ◌↔◌, sym, subst, ℕ, Bool, false, ◌||◌, List, Option, Some, None, IsTrue, is_some, slice_get, length, unwrap_or}
+use Rattle.std.proofs.Common.{◌≡◌, refl, ◌↔◌, sym, subst, ℕ, Bool, false, ◌||◌, List, Option}
+use Rattle.std.proofs.Common.{Some, None, IsTrue, is_some, slice_get, length, unwrap_or}
 use Rattle.std.specs.List.{list_any}
 use Rattle.std.specs.Option.{option_and_then, option_map}
 use Rattle.shader_chains.specs.Program.{statements}
 use Rattle.shader_chains.specs.Steps.{StepKill}
 use Rattle.shader_chains.specs.Sweep.{found}
 use Rattle.shader_steps.specs.Found.{facts_found, kill_found, needs_found, own_uses, result_found, tallied, uses_found}
-use Rattle.shader_steps.specs.OfTheStep.{ExpressionNeedsAreOfTheStep, KillsAreOfTheStep, NeedsAreOfTheStep, OriginsAreOfTheStep, PairsAreOfTheStep, ResultsAreOfTheStep, UsesAreOfTheStep}
+use Rattle.shader_steps.specs.OfTheStep.{ExpressionNeedsAreOfTheStep, KillsAreOfTheStep, NeedsAreOfTheStep, OriginsAreOfTheStep}
+use Rattle.shader_steps.specs.OfTheStep.{PairsAreOfTheStep, ResultsAreOfTheStep, UsesAreOfTheStep}
 use Rattle.shader_steps.proofs.EndsLemmas.{block_kills}
 use Rattle.shader_steps.proofs.FoundWords.{calls_killing, is_kill, varies}
 use Rattle.shader_steps.proofs.StepKills.{step_kills}
@@ -24,7 +26,8 @@ pub origins_of_the_step : OriginsAreOfTheStep
 origins_of_the_step m infos f below = step_origins m infos f (facts_found m infos f) refl below
 
 pub results_of_the_step : ResultsAreOfTheStep
-results_of_the_step m infos f below = step_result m infos f (facts_found m infos f) refl below (statements f.body) (result_found m infos f) refl refl
+results_of_the_step m infos f below = step_result m infos f (facts_found m infos f) refl below (statements f.body)
+    (result_found m infos f) refl refl
 
 pub expression_needs_of_the_step : ExpressionNeedsAreOfTheStep
 expression_needs_of_the_step m infos f = step_expression_needs m infos f (facts_found m infos f) refl
@@ -58,7 +61,10 @@ uses_of_the_step m infos f below within fit uses with_calls =
     let own_long = own_uses_long f facts (length m.global_variables) (tallied m infos f) refl in
     let own_are = own_uses_are f facts (length m.global_variables) (tallied m infos f) refl in
     let ends = uses_found m infos f uses in (
-      step_uses m infos f facts refl below within fit (statements f.body) refl own uses ends own_long own_are with_calls.long with_calls.each refl,
-      ends_fit m infos f facts refl below within fit (statements f.body) refl own uses ends own_long own_are with_calls.long with_calls.each refl,
-      ends_small m infos f facts refl below within fit (statements f.body) refl own uses ends own_long own_are with_calls.long with_calls.each refl,
+      step_uses m infos f facts refl below within fit (statements f.body) refl own uses ends own_long own_are with_calls.long
+          with_calls.each refl,
+      ends_fit m infos f facts refl below within fit (statements f.body) refl own uses ends own_long own_are with_calls.long
+          with_calls.each refl,
+      ends_small m infos f facts refl below within fit (statements f.body) refl own uses ends own_long own_are with_calls.long
+          with_calls.each refl,
     )

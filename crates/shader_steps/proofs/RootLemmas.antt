@@ -1,5 +1,6 @@
 -- The global recorded of an expression is its root.
-use Rattle.std.proofs.Common.{◌≡◌, refl, sym, ap, subst, ◌∙◌, ℕ, zero, suc, ◌<◌, List, [], ◌∷◌, Bool, true, false, Option, Some, None, slice_get, length, arith, get_or, nat_lt}
+use Rattle.std.proofs.Common.{◌≡◌, refl, sym, ap, subst, ◌∙◌, ℕ, zero, suc, ◌<◌, List, [], ◌∷◌, Bool, true}
+use Rattle.std.proofs.Common.{false, Option, Some, None, slice_get, length, arith, get_or, nat_lt}
 use borrow.Author.Tests.{ltb-true, ltb-false}
 use Rattle.std.specs.List.{Contains, enumerate_from}
 use Rattle.std.specs.Option.{option_and_then}
@@ -25,7 +26,8 @@ module _ (m : Module) (infos : List FunctionInfo) (f : Function) (all : List Fac
   root_long = ap length is ∙ swept_long m infos f f.expressions
 
   -- the base of an access is earlier
-  own_is : (e : ℕ) (x : Expression) → Stands f e x → (prior : List Fact) → ((o : ℕ) → o < e → slice_get prior o ≡ slice_get all o) → own_root prior x ≡ own_root all x
+  own_is : (e : ℕ) (x : Expression) → Stands f e x → (prior : List Fact) → ((o : ℕ) → o < e → slice_get prior o ≡ slice_get all o) →
+      own_root prior x ≡ own_root all x
   own_is e (form.Access base index) s prior same =
       ap (option_and_then ag) (same base (below e (form.Access base index) _ s (here ((base, Part)) ((index, Read) ∷ []))))
   own_is e (form.AccessIndex base index) s prior same =
@@ -44,15 +46,18 @@ module _ (m : Module) (infos : List FunctionInfo) (f : Function) (all : List Fac
   to_root : (n e g : ℕ) → e < n → root_at all e ≡ Some g → Root f.expressions e g
   to_root zero e g lt h = absurd (omega arith)
   to_root (suc n) e g lt h = at (nat_lt e (length f.expressions)) refl (λ d r earlier. to_root n d g (omega arith) r) where
-    by_form : (x : Expression) → Stands f e x → own_root all x ≡ Some g → ((d : ℕ) → root_at all d ≡ Some g → d < e → Root f.expressions d g) → Root f.expressions e g
-    by_form (form.GlobalVariable d) s r back = let P : ℕ → Type 0 = λ v. Root f.expressions e v in let same : d ≡ g = cc in subst P same (occurs.Root.global s)
+    by_form : (x : Expression) → Stands f e x → own_root all x ≡ Some g →
+        ((d : ℕ) → root_at all d ≡ Some g → d < e → Root f.expressions d g) → Root f.expressions e g
+    by_form (form.GlobalVariable d) s r back = let P : ℕ → Type 0 = λ v. Root f.expressions e v in let same : d ≡ g = cc in
+        subst P same (occurs.Root.global s)
     by_form (form.Access base index) s r back =
         occurs.Root.access s (back base r (below e (form.Access base index) _ s (here ((base, Part)) ((index, Read) ∷ []))))
     by_form (form.AccessIndex base index) s r back =
         occurs.Root.access_index s (back base r (below e (form.AccessIndex base index) _ s (here ((base, Part)) [])))
     by_form x s r back = absurd (cc)
 
-    at : (b : Bool) → nat_lt e (length f.expressions) ≡ b → ((d : ℕ) → root_at all d ≡ Some g → d < e → Root f.expressions d g) → Root f.expressions e g
+    at : (b : Bool) → nat_lt e (length f.expressions) ≡ b → ((d : ℕ) → root_at all d ≡ Some g → d < e → Root f.expressions d g) →
+        Root f.expressions e g
     at true test back =
         let x = get_or f.expressions e form.RayQueryProceedResult in
         let s : Stands f e x = slice_get-get_or f.expressions e form.RayQueryProceedResult (omega (arith, ltb-true, test)) in
@@ -67,4 +72,5 @@ module _ (m : Module) (infos : List FunctionInfo) (f : Function) (all : List Fac
   pub root_from : (e g : ℕ) → Root f.expressions e g → root_at all e ≡ Some g
   root_from e g (occurs.Root.global s) = root_is e (form.GlobalVariable g) s
   root_from e g (occurs.Root.access {base = base} {index = index} s r) = root_is e (form.Access base index) s ∙ root_from base g r
-  root_from e g (occurs.Root.access_index {base = base} {index = index} s r) = root_is e (form.AccessIndex base index) s ∙ root_from base g r
+  root_from e g (occurs.Root.access_index {base = base} {index = index} s r) =
+      root_is e (form.AccessIndex base index) s ∙ root_from base g r

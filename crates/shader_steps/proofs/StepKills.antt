@@ -1,5 +1,6 @@
 -- What the walk through the blocks finds of kills meets their step equation.
-use Rattle.std.proofs.Common.{◌≡◌, refl, sym, ap, subst, ◌∙◌, ℕ, inl, inr, ◌↔◌, List, [], ◌∷◌, Bool, true, false, ◌||◌, IsTrue, Option, Some, None, map, slice_get, unwrap_or, is_some}
+use Rattle.std.proofs.Common.{◌≡◌, refl, sym, ap, subst, ◌∙◌, ℕ, inl, inr, ◌↔◌, List, [], ◌∷◌, Bool, true}
+use Rattle.std.proofs.Common.{false, ◌||◌, IsTrue, Option, Some, None, map, slice_get, unwrap_or, is_some}
 use Rattle.std.specs.List.{Contains, list_any}
 use Rattle.std.specs.Option.{option_map}
 use Rattle.std.proofs.lemmas.Bool.{or_cases}
@@ -46,11 +47,13 @@ of_any {X} p (z ∷ zs) x h k = elim (cases z zs x h) [
 -- an expression that varies has a recorded origin
 pub varied_to : (infos : List Fact) (e : ℕ) → IsTrue (varies infos e) → (h : ℕ) × (slice_get (map nu infos) e ≡ Some (Some h))
 varied_to infos e h = at (slice_get infos e) h refl where
-  some : (i : Fact) (o : Option ℕ) → IsTrue (is_some o) → i.origin ≡ o → slice_get infos e ≡ Some i → (h : ℕ) × (slice_get (map nu infos) e ≡ Some (Some h))
+  some : (i : Fact) (o : Option ℕ) → IsTrue (is_some o) → i.origin ≡ o → slice_get infos e ≡ Some i →
+      (h : ℕ) × (slice_get (map nu infos) e ≡ Some (Some h))
   some i None t k g = absurd (cc)
   some i (Some h) t k g = (h, slice_get-map nu infos e ∙ (ap (option_map nu) g ∙ ap (λ (v : Option ℕ). Some v) k))
 
-  at : (o : Option Fact) → IsTrue (unwrap_or (option_map (λ i. is_some i.origin) o) false) → slice_get infos e ≡ o → (h : ℕ) × (slice_get (map nu infos) e ≡ Some (Some h))
+  at : (o : Option Fact) → IsTrue (unwrap_or (option_map (λ i. is_some i.origin) o) false) → slice_get infos e ≡ o →
+      (h : ℕ) × (slice_get (map nu infos) e ≡ Some (Some h))
   at None t k = absurd (cc)
   at (Some i) t k = some i i.origin t refl k
 
@@ -66,7 +69,8 @@ of_varied infos e h g = at (slice_get infos e) (sym (slice_get-map nu infos e) �
 -- a function that kills has an info that says so
 pub killing_to : (infos : List FunctionInfo) (c : ℕ) → IsTrue (killing infos c) → RecordsKills (infos_of infos) c
 killing_to infos c h = at (slice_get infos c) h refl where
-  at : (o : Option FunctionInfo) → IsTrue (unwrap_or (option_map (λ i. i.may_kill) o) false) → slice_get infos c ≡ o → RecordsKills (infos_of infos) c
+  at : (o : Option FunctionInfo) → IsTrue (unwrap_or (option_map (λ i. i.may_kill) o) false) → slice_get infos c ≡ o →
+      RecordsKills (infos_of infos) c
   at None t k = absurd (cc)
   at (Some i) t k = (info_of i, held_of infos c i k, t)
 
@@ -81,7 +85,8 @@ is_kill_to : (s : Step) → IsTrue (is_kill s) → s ≡ Leaf Kill
 is_kill_to (Leaf Kill) h = refl
 is_kill_to s h = absurd (cc)
 
-module _ (infos : List FunctionInfo) (f : Function) (infos_here : List Fact) (info : Info) (same : map nu infos_here ≡ info.non_uniform) where
+module _ (infos : List FunctionInfo) (f : Function) (infos_here : List Fact) (info : Info)
+    (same : map nu infos_here ≡ info.non_uniform) where
   abbrev V : ℕ → Bool
   V = varies infos_here
 
@@ -90,7 +95,9 @@ module _ (infos : List FunctionInfo) (f : Function) (infos_here : List Fact) (in
 
   own_to : (s : Step) (b : Body) (p : At f.body (Then s b)) → s ≡ Leaf Kill → Disrupted (λ e. IsTrue (V e)) (λ c. IsTrue (K c)) f.body _ p →
       StepKill (infos_of infos) f info
-  own_to (Leaf Kill) b p e d = step.StepKill.own p (more_disrupted _ _ _ _ f.body (λ e t. let r = varied_to infos_here e t in let P : List (Option ℕ) → Type 0 = λ v. slice_get v e ≡ Some (Some r.0) in (r.0, subst P same r.1)) (λ c _ _ _ _ t. killing_to infos c t) _ p d)
+  own_to (Leaf Kill) b p e d = step.StepKill.own p (more_disrupted _ _ _ _ f.body (λ e t. let r = varied_to infos_here e t in
+      let P : List (Option ℕ) → Type 0 = λ v. slice_get v e ≡ Some (Some r.0) in
+      (r.0, subst P same r.1)) (λ c _ _ _ _ t. killing_to infos c t) _ p d)
   own_to s b p e d = absurd (cc)
 
   call_to : (s : Step) → Contains (statements f.body) s → IsTrue (calls_killing infos s) → StepKill (infos_of infos) f info
@@ -105,7 +112,8 @@ module _ (infos : List FunctionInfo) (f : Function) (infos_here : List Fact) (in
     | inr call ↦ let at = any_to (calls_killing infos) (statements f.body) call in call_to at.0 at.1 at.2
   ]
 
-  kill_from : StepKill (infos_of infos) f info → IsTrue (found V K is_kill false f.body || list_any (calls_killing infos) (statements f.body))
+  kill_from : StepKill (infos_of infos) f info → IsTrue (found V K is_kill false f.body
+      || list_any (calls_killing infos) (statements f.body))
   kill_from (step.StepKill.own {b = b} p d) =
       or_left (found V K is_kill false f.body) (list_any (calls_killing infos) (statements f.body))
       ((sweep_finds V K is_kill f.body).1 (
@@ -113,11 +121,13 @@ module _ (infos : List FunctionInfo) (f : Function) (infos_here : List Fact) (in
         b,
         p,
         refl,
-        more_disrupted _ _ _ _ f.body (λ e t. let P : List (Option ℕ) → Type 0 = λ v. slice_get v e ≡ Some (Some t.0) in of_varied infos_here e t.0 (subst P (sym same) t.1)) (λ c _ _ _ _ t. of_killing infos c t) _ p d,
+        more_disrupted _ _ _ _ f.body (λ e t. let P : List (Option ℕ) → Type 0 = λ v. slice_get v e ≡ Some (Some t.0) in
+            of_varied infos_here e t.0 (subst P (sym same) t.1)) (λ c _ _ _ _ t. of_killing infos c t) _ p d,
       ))
   kill_from (step.StepKill.callee {arguments = arguments} {i = i} call t) =
       or_right (found V K is_kill false f.body) (list_any (calls_killing infos) (statements f.body))
-      (of_any (calls_killing infos) (statements f.body) (Leaf (Call call.callee arguments call.result)) call.holds (of_killing infos call.callee (i, call.held, t)))
+      (of_any (calls_killing infos) (statements f.body) (Leaf (Call call.callee arguments call.result)) call.holds
+      (of_killing infos call.callee (i, call.held, t)))
 
   pub step_kills : (all : List Step) (own called : Bool) → all ≡ statements f.body → own ≡ (false || found V K is_kill false f.body) →
       called ≡ list_any (calls_killing infos) all → IsTrue (own || called) ↔ StepKill (infos_of infos) f info

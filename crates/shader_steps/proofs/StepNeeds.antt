@@ -1,5 +1,6 @@
 -- What is found of needs meets their step equations.
-use Rattle.std.proofs.Common.{◌≡◌, refl, sym, ap, subst, ◌∙◌, ℕ, ◌<◌, ◌≤◌, ◌⊎◌, inl, inr, ◌↔◌, List, [], Bool, true, false, IsTrue, Option, Some, None, map, slice_get, slice_index, length, fold, bit_and, bit_or, unwrap_or, arith, get_or, nat_lt, ◌^◌}
+use Rattle.std.proofs.Common.{◌≡◌, refl, sym, ap, subst, ◌∙◌, ℕ, ◌<◌, ◌≤◌, ◌⊎◌, inl, inr, ◌↔◌, List, [], Bool, true, false, IsTrue, Option}
+use Rattle.std.proofs.Common.{Some, None, map, slice_get, slice_index, length, fold, bit_and, bit_or, unwrap_or, arith, get_or, nat_lt, ◌^◌}
 use borrow.Author.Tests.{ltb-true, ltb-false}
 use Rattle.std.specs.List.{Contains, enumerate_from}
 use Rattle.std.specs.Int.{IsBitSet}
@@ -11,8 +12,10 @@ use Rattle.shader_ir.specs.declared.expression.Expression.TheVariants as form
 use Rattle.shader_ir.specs.declared.expression.SampleLevel.{SampleLevel}
 use Rattle.shader_ir.specs.declared.expression.SampleLevel.TheVariants as level
 use Rattle.shader_chains.specs.Infos.{Info}
-use Rattle.shader_chains.specs.Needs.{Need, WorkGroupBarrier, Derivative, ImplicitLevel, CooperativeOperation, bit_of_need, expression_asks, statement_asks, simple_asks, is_implicit}
-use Rattle.shader_chains.specs.Program.{Function, Module, Expression, Simple, Step, Leaf, Emit, ControlBarrier, MemoryBarrier, WorkGroupUniformLoad, CooperativeStore, Call, Stands, statements}
+use Rattle.shader_chains.specs.Needs.{Need, WorkGroupBarrier, Derivative, ImplicitLevel, CooperativeOperation}
+use Rattle.shader_chains.specs.Needs.{bit_of_need, expression_asks, statement_asks, simple_asks, is_implicit}
+use Rattle.shader_chains.specs.Program.{Function, Module, Expression, Simple, Step, Leaf, Emit, ControlBarrier, MemoryBarrier}
+use Rattle.shader_chains.specs.Program.{WorkGroupUniformLoad, CooperativeStore, Call, Stands, statements}
 use Rattle.shader_chains.specs.Steps.{StepExpressionNeed, StepNeed}
 use Rattle.shader_chains.specs.Steps as step
 use Rattle.shader_info.specs.declared.info.FunctionInfo.{FunctionInfo}
@@ -46,17 +49,21 @@ of_masked v n h = λ none. h (sym (same_bit v n) ∙ none)
 
 -- the needs of a called function
 module _ (infos : List FunctionInfo) (c : ℕ) (n : Need) where
-  needs_to : IsBitSet (result_needs infos c) (bit_of_need n) → (i : Info) × (slice_get (infos_of infos) c ≡ Some i) × IsBitSet i.needs (bit_of_need n)
+  needs_to : IsBitSet (result_needs infos c) (bit_of_need n) →
+      (i : Info) × (slice_get (infos_of infos) c ≡ Some i) × IsBitSet i.needs (bit_of_need n)
   needs_to h = at (slice_get infos c) h refl where
-    at : (o : Option FunctionInfo) → IsBitSet (unwrap_or (option_map (λ (i : FunctionInfo). bit_and i.uniformity.requirements.0 15) o) 0) (bit_of_need n) → slice_get infos c ≡ o →
+    at : (o : Option FunctionInfo) → IsBitSet (unwrap_or (option_map (λ (i : FunctionInfo). bit_and i.uniformity.requirements.0 15) o) 0)
+        (bit_of_need n) → slice_get infos c ≡ o →
         (i : Info) × (slice_get (infos_of infos) c ≡ Some i) × IsBitSet i.needs (bit_of_need n)
     at None t e = absurd (no_bit (bit_of_need n) t)
     at (Some i) t e = (info_of i, held_of infos c i e, masked_to i.uniformity.requirements.0 n t)
 
-  of_needs : (i : Info) → slice_get (infos_of infos) c ≡ Some i → IsBitSet i.needs (bit_of_need n) → IsBitSet (result_needs infos c) (bit_of_need n)
+  of_needs : (i : Info) → slice_get (infos_of infos) c ≡ Some i → IsBitSet i.needs (bit_of_need n) →
+      IsBitSet (result_needs infos c) (bit_of_need n)
   of_needs i e t =
       let at = of_held infos c i e in
-      let P : Option FunctionInfo → Type 0 = λ v. IsBitSet (unwrap_or (option_map (λ (i : FunctionInfo). bit_and i.uniformity.requirements.0 15) v) 0) (bit_of_need n) in
+      let P : Option FunctionInfo → Type 0 = λ v. IsBitSet (unwrap_or
+      (option_map (λ (i : FunctionInfo). bit_and i.uniformity.requirements.0 15) v) 0) (bit_of_need n) in
       let Q : Info → Type 0 = λ v. IsBitSet v.needs (bit_of_need n) in
       subst P (sym at.1) (of_masked at.0.uniformity.requirements.0 n (subst Q (sym at.2) t))
 
@@ -96,16 +103,19 @@ barrier_to ImplicitLevel h = absurd (not_bit 1 2 refl h)
 barrier_to CooperativeOperation h = absurd (not_bit 1 3 refl h)
 
 form_to : (x : Expression) (n : Need) → IsBitSet (form_needs x) (bit_of_need n) → IsTrue (expression_asks x n)
-form_to (form.ImageSample i s g c a o l d k) n h =
+form_to (form.ImageSample i s g k c a o l d) n h =
     let r = level_to l n h in
-    let P : Need → Type 0 = λ v. IsTrue (expression_asks (form.ImageSample i s g c a o l d k) v) in subst P (sym r.0) r.1
-form_to (form.Derivative a c e) n h = let P : Need → Type 0 = λ v. IsTrue (expression_asks (form.Derivative a c e) v) in subst P (sym (derivative_to n h)) refl
-form_to (form.CooperativeLoad a b r t) n h = let P : Need → Type 0 = λ v. IsTrue (expression_asks (form.CooperativeLoad a b r t) v) in subst P (sym (cooperative_to n h)) refl
-form_to (form.CooperativeMultiplyAdd a b c) n h = let P : Need → Type 0 = λ v. IsTrue (expression_asks (form.CooperativeMultiplyAdd a b c) v) in subst P (sym (cooperative_to n h)) refl
+    let P : Need → Type 0 = λ v. IsTrue (expression_asks (form.ImageSample i s g k c a o l d) v) in subst P (sym r.0) r.1
+form_to (form.Derivative a c e) n h = let P : Need → Type 0 = λ v. IsTrue (expression_asks (form.Derivative a c e) v) in
+    subst P (sym (derivative_to n h)) refl
+form_to (form.CooperativeLoad a b r t) n h = let P : Need → Type 0 = λ v. IsTrue (expression_asks (form.CooperativeLoad a b r t) v) in
+    subst P (sym (cooperative_to n h)) refl
+form_to (form.CooperativeMultiplyAdd a b c) n h = let P : Need → Type 0 =
+    λ v. IsTrue (expression_asks (form.CooperativeMultiplyAdd a b c) v) in subst P (sym (cooperative_to n h)) refl
 form_to x n h = absurd (no_bit (bit_of_need n) h)
 
 of_form : (x : Expression) (n : Need) → IsTrue (expression_asks x n) → IsBitSet (form_needs x) (bit_of_need n)
-of_form (form.ImageSample i s g c a o l d k) ImplicitLevel h = of_level l h
+of_form (form.ImageSample i s g k c a o l d) ImplicitLevel h = of_level l h
 of_form (form.Derivative a c e) Derivative h = of_bit 2 1 refl
 of_form (form.CooperativeLoad a b r t) CooperativeOperation h = of_bit 8 3 refl
 of_form (form.CooperativeMultiplyAdd a b c) CooperativeOperation h = of_bit 8 3 refl
@@ -117,15 +127,18 @@ callee_form (form.CallResult d) c h = cc
 callee_form x c h = absurd (cc)
 
 module _ (infos : List FunctionInfo) (f : Function) (n : Need) where
-  own_to : (e : ℕ) (x : Expression) → Stands f e x → IsBitSet (own_needs infos x) (bit_of_need n) → StepExpressionNeed (infos_of infos) f n e
+  own_to : (e : ℕ) (x : Expression) → Stands f e x → IsBitSet (own_needs infos x) (bit_of_need n) →
+      StepExpressionNeed (infos_of infos) f n e
   own_to e x s h = at (callee_of x) refl h where
-    at : (o : Option ℕ) → callee_of x ≡ o → IsBitSet (called_needs infos o (form_needs x)) (bit_of_need n) → StepExpressionNeed (infos_of infos) f n e
+    at : (o : Option ℕ) → callee_of x ≡ o → IsBitSet (called_needs infos o (form_needs x)) (bit_of_need n) →
+        StepExpressionNeed (infos_of infos) f n e
     at (Some c) is t =
         let P : Expression → Type 0 = λ v. Stands f e v in
         let r = needs_to infos c n t in step.StepExpressionNeed.callee (subst P (callee_form x c is) s) r.1 r.2
     at None is t = step.StepExpressionNeed.own s (form_to x n t)
 
-  of_own : (e : ℕ) (x : Expression) → Stands f e x → StepExpressionNeed (infos_of infos) f n e → IsBitSet (own_needs infos x) (bit_of_need n)
+  of_own : (e : ℕ) (x : Expression) → Stands f e x → StepExpressionNeed (infos_of infos) f n e →
+      IsBitSet (own_needs infos x) (bit_of_need n)
   of_own e x s (step.StepExpressionNeed.own {x = y} t asks) = at y (same_expression f e y x t s) asks where
     plain : (y : Expression) → IsTrue (expression_asks y n) → IsBitSet (own_needs infos y) (bit_of_need n)
     plain (form.CallResult c) asks = absurd (cc)
@@ -140,7 +153,8 @@ module _ (infos : List FunctionInfo) (f : Function) (n : Need) where
 abbrev pub rq : Fact → ℕ
 rq fact = fact.requirements.0
 
-module _ (m : Module) (infos : List FunctionInfo) (f : Function) (all : List Fact) (is : all ≡ swept m infos f [] (enumerate_from 0 f.expressions)) where
+module _ (m : Module) (infos : List FunctionInfo) (f : Function) (all : List Fact)
+    (is : all ≡ swept m infos f [] (enumerate_from 0 f.expressions)) where
   needs_are : (e : ℕ) (x : Expression) → Stands f e x → (i : Fact) × (slice_get all e ≡ Some i) × (rq i ≡ own_needs infos x)
   needs_are e x s =
       let b = stands_between m infos f f.expressions e x s in
@@ -183,7 +197,8 @@ module _ (m : Module) (infos : List FunctionInfo) (f : Function) (all : List Fac
   one_gains : (v k e : ℕ) → IsBitSet v k ⊎ IsBitSet (needs_at all e) k → IsBitSet (bit_or v (needs_at all e)) k
   one_gains v k e h = or_of v (needs_at all e) k h
 
-  emitted_to : (n : Need) (start finish e : ℕ) → Contains (statements f.body) (Leaf (Emit start finish)) → start ≤ e → e < finish → IsBitSet (needs_at all e) (bit_of_need n) →
+  emitted_to : (n : Need) (start finish e : ℕ) → Contains (statements f.body) (Leaf (Emit start finish)) → start ≤ e → e < finish →
+      IsBitSet (needs_at all e) (bit_of_need n) →
       StepNeed (infos_of infos) f n
   emitted_to n start finish e h from to t = at (nat_lt e (length f.expressions)) refl where
     at : (b : Bool) → nat_lt e (length f.expressions) ≡ b → StepNeed (infos_of infos) f n
@@ -199,18 +214,23 @@ module _ (m : Module) (infos : List FunctionInfo) (f : Function) (all : List Fac
 
   asks_to : (n : Need) (s : Step) → Contains (statements f.body) s → Asks s (bit_of_need n) → StepNeed (infos_of infos) f n
   asks_to n (Leaf (Emit start finish)) h t =
-      elim (joined_to (λ v e. bit_or v (needs_at all e)) (λ e k. IsBitSet (needs_at all e) k) one_adds one_gains 0 (bit_of_need n) (places_between start finish) t) [
+      elim (joined_to (λ v e. bit_or v (needs_at all e)) (λ e k. IsBitSet (needs_at all e) k) one_adds one_gains 0 (bit_of_need n)
+      (places_between start finish) t) [
         | inl none ↦ absurd (no_bit (bit_of_need n) none)
         | inr one ↦ let r = range_to start finish one.0 one.1 in emitted_to n start finish one.0 h r.0 r.1 one.2
       ]
   asks_to n (Leaf (ControlBarrier b)) h t =
-      let P : Need → Type 0 = λ v. IsTrue (statement_asks (Leaf (ControlBarrier b)) v) in step.StepNeed.statement h (subst P (sym (barrier_to n t)) refl)
+      let P : Need → Type 0 = λ v. IsTrue (statement_asks (Leaf (ControlBarrier b)) v) in
+      step.StepNeed.statement h (subst P (sym (barrier_to n t)) refl)
   asks_to n (Leaf (MemoryBarrier b)) h t =
-      let P : Need → Type 0 = λ v. IsTrue (statement_asks (Leaf (MemoryBarrier b)) v) in step.StepNeed.statement h (subst P (sym (barrier_to n t)) refl)
+      let P : Need → Type 0 = λ v. IsTrue (statement_asks (Leaf (MemoryBarrier b)) v) in
+      step.StepNeed.statement h (subst P (sym (barrier_to n t)) refl)
   asks_to n (Leaf (WorkGroupUniformLoad p r)) h t =
-      let P : Need → Type 0 = λ v. IsTrue (statement_asks (Leaf (WorkGroupUniformLoad p r)) v) in step.StepNeed.statement h (subst P (sym (barrier_to n t)) refl)
+      let P : Need → Type 0 = λ v. IsTrue (statement_asks (Leaf (WorkGroupUniformLoad p r)) v) in
+      step.StepNeed.statement h (subst P (sym (barrier_to n t)) refl)
   asks_to n (Leaf (CooperativeStore p r)) h t =
-      let P : Need → Type 0 = λ v. IsTrue (statement_asks (Leaf (CooperativeStore p r)) v) in step.StepNeed.statement h (subst P (sym (cooperative_to n t)) refl)
+      let P : Need → Type 0 = λ v. IsTrue (statement_asks (Leaf (CooperativeStore p r)) v) in
+      step.StepNeed.statement h (subst P (sym (cooperative_to n t)) refl)
   asks_to n (Leaf (Call c arguments result)) h t =
       let r = needs_to infos c n t in step.StepNeed.callee (record { callee = c; result = result; holds = h; held = r.1 }) r.2
   asks_to n s h t = absurd (no_bit (bit_of_need n) t)
@@ -233,7 +253,8 @@ module _ (m : Module) (infos : List FunctionInfo) (f : Function) (all : List Fac
       let P : ℕ → Type 0 = λ v. IsBitSet v (bit_of_need n) in (
         Leaf (Emit emitted.start emitted.finish),
         emitted.holds,
-        joined_of (λ v e. bit_or v (needs_at all e)) (λ e k. IsBitSet (needs_at all e) k) one_adds one_gains 0 (bit_of_need n) (places_between emitted.start emitted.finish) e
+        joined_of (λ v e. bit_or v (needs_at all e)) (λ e k. IsBitSet (needs_at all e) k) one_adds one_gains 0 (bit_of_need n)
+            (places_between emitted.start emitted.finish) e
             (of_range emitted.start emitted.finish e emitted.from emitted.to)
             (subst P (sym (needs_is e x.0 x.1)) (of_own infos f n e x.0 x.1 needs)),
       )

@@ -1,5 +1,7 @@
 -- What is recorded of uses meets their step equation.
-use Rattle.std.proofs.Common.{◌≡◌, ◌≢◌, refl, sym, ap, subst, ◌∙◌, ℕ, zero, suc, ◌<◌, ◌≤◌, ◌^◌, ◌⊎◌, inl, inr, ◌↔◌, List, [], ◌∷◌, ◌++◌, Bool, true, false, IsTrue, Option, Some, None, length, slice_index, slice_get, nat_eq, nat_lt, bit_and, bit_or, fold, map, arith, unwrap_or, replicate, take, drop}
+use Rattle.std.proofs.Common.{◌≡◌, ◌≢◌, refl, sym, ap, subst, ◌∙◌, ℕ, zero, suc, ◌<◌, ◌≤◌, ◌^◌, ◌⊎◌, inl, inr, ◌↔◌, List}
+use Rattle.std.proofs.Common.{[], ◌∷◌, ◌++◌, Bool, true, false, IsTrue, Option, Some, None, length, slice_index, slice_get}
+use Rattle.std.proofs.Common.{nat_eq, nat_lt, bit_and, bit_or, fold, map, arith, unwrap_or, replicate, take, drop}
 use Rattle.std.proofs.Math.Seq.{take-append_seam}
 use borrow.Author.Tests.{ltb-true, ltb-false}
 use Rattle.std.specs.Int.{IsBitSet}
@@ -31,7 +33,8 @@ use Rattle.shader_sweeps.proofs.HeldInfoLemmas.{held_of, of_held}
 use Rattle.shader_steps.proofs.RootLemmas.{root_to, root_from}
 use Rattle.shader_sweeps.proofs.CountLemmas.{if_true, if_false}
 use Rattle.shader_chains.proofs.JoinLemmas.{no_bit, not_bit, of_bit, or_to, or_of, joined_to, joined_old, joined_of}
-use Rattle.shader_steps.proofs.UsesLemmas.{eq_true, eq_false, put_one, put_at, puts_are, puts_long, name_at, names_are, names_long, used_named, named_cases, Named}
+use Rattle.shader_steps.proofs.UsesLemmas.{eq_true, eq_false, put_one, put_at, puts_are, puts_long, name_at}
+use Rattle.shader_steps.proofs.UsesLemmas.{names_are, names_long, used_named, named_cases, Named}
 
 -- the bits of a label are its uses
 bits_to : (l : Label) (u : Use) → IsBitSet (bits l) (bit_of u) → IsTrue (puts l u)
@@ -118,15 +121,21 @@ module _ (infos : List FunctionInfo) (c g : ℕ) where
   abbrev Recorded : Option FunctionInfo → ℕ
   Recorded o = bits_at (unwrap_or (option_map (λ (i : FunctionInfo). i.global_uses) o) []) g
 
-  uses_to : (u : Use) → IsBitSet (called_uses infos c g) (bit_of u) → (i : Info) × (slice_get (infos_of infos) c ≡ Some i) × IsBitSet (slice_index i.global_uses g) (bit_of u)
+  uses_to : (u : Use) → IsBitSet (called_uses infos c g) (bit_of u) →
+      (i : Info) × (slice_get (infos_of infos) c ≡ Some i) × IsBitSet (slice_index i.global_uses g) (bit_of u)
   uses_to u h = at (slice_get infos c) h refl where
     at : (o : Option FunctionInfo) → IsBitSet (Recorded o) (bit_of u) → slice_get infos c ≡ o →
         (i : Info) × (slice_get (infos_of infos) c ≡ Some i) × IsBitSet (slice_index i.global_uses g) (bit_of u)
     at None t e = absurd (no_bit (bit_of u) t)
-    at (Some i) t e =
-        (info_of i, held_of infos c i e, λ none. t (ap (λ v. bit_and v (2 ^ bit_of u)) (bits_are i.global_uses g) ∙ (same_bit (slice_index (info_of i).global_uses g) u ∙ none)))
+    at (Some i) t e = (
+      info_of i,
+      held_of infos c i e,
+      λ none. t (ap (λ v. bit_and v (2 ^ bit_of u)) (bits_are i.global_uses g)
+          ∙ (same_bit (slice_index (info_of i).global_uses g) u ∙ none)),
+    )
 
-  of_uses : (u : Use) (i : Info) → slice_get (infos_of infos) c ≡ Some i → IsBitSet (slice_index i.global_uses g) (bit_of u) → IsBitSet (called_uses infos c g) (bit_of u)
+  of_uses : (u : Use) (i : Info) → slice_get (infos_of infos) c ≡ Some i → IsBitSet (slice_index i.global_uses g) (bit_of u) →
+      IsBitSet (called_uses infos c g) (bit_of u)
   of_uses u i e t =
       let at = of_held infos c i e in
       let P : Option FunctionInfo → Type 0 = λ v. IsBitSet (Recorded v) (bit_of u) in
@@ -139,7 +148,8 @@ module _ (infos : List FunctionInfo) (c g : ℕ) where
   uses_small = omega (
     arith,
     bits_are (unwrap_or (option_map (λ (i : FunctionInfo). i.global_uses) (slice_get infos c)) []) g,
-    and_le_r (slice_index (map (λ (at : GlobalUse). at.0) (unwrap_or (option_map (λ (i : FunctionInfo). i.global_uses) (slice_get infos c)) [])) g) 15,
+    and_le_r (slice_index (map (λ (at : GlobalUse). at.0) (unwrap_or
+        (option_map (λ (i : FunctionInfo). i.global_uses) (slice_get infos c)) [])) g) 15,
   )
 
 module _ (m : Module) (infos : List FunctionInfo) (f : Function) (all : List Fact)
@@ -168,7 +178,8 @@ module _ (m : Module) (infos : List FunctionInfo) (f : Function) (all : List Fac
   one_gains (Some h) n k l t = elim (cases_eq h g) [
     | inl same ↦
         let P : ℕ → Type 0 = λ v. IsBitSet v k in
-        subst P (sym (if_true (nat_eq h g) (bit_or n l) n (eq_true h g same))) (or_of n l k (elim t [ inl old ↦ inl old | inr new ↦ inr new.1 ]))
+        subst P (sym (if_true (nat_eq h g) (bit_or n l) n (eq_true h g same)))
+        (or_of n l k (elim t [ inl old ↦ inl old | inr new ↦ inr new.1 ]))
     | inr apart ↦
         let P : ℕ → Type 0 = λ v. IsBitSet v k in
         subst P (sym (if_false (nat_eq h g) (bit_or n l) n (eq_false h g apart))) (elim t [
@@ -230,7 +241,8 @@ module _ (m : Module) (infos : List FunctionInfo) (f : Function) (all : List Fac
       (joined_of (put_at all g) Puts_on puts_add puts_gain 0 (bit_of u) (occurrences f) d.occurrence d.occurs
       (root_from m infos f all is below d.occurrence.0 g d.root, of_puts d.occurrence.1 u d.label))
   is_joined u (step.Joined.callee {arguments = arguments} {info = i} call records) =
-      joined_of (joined_by infos g) Calls_use calls_add calls_gain own (bit_of u) (statements f.body) (Leaf (Call call.callee arguments call.result)) call.holds
+      joined_of (joined_by infos g) Calls_use calls_add calls_gain own (bit_of u) (statements f.body)
+      (Leaf (Call call.callee arguments call.result)) call.holds
       (of_uses infos call.callee g u i call.held records)
 
   -- no other bits
@@ -270,7 +282,8 @@ module _ (m : Module) (infos : List FunctionInfo) (f : Function) (all : List Fac
   not_joined e u j = let P : ℕ → Type 0 = λ v. IsBitSet v (bit_of u) in no_bit (bit_of u) (subst P e (is_joined u j))
 
   -- where nothing is joined
-  unused : (u : Use) → after_calls ≡ 0 → at_end ≡ fold (name_at all g) 0 (keys_of f.named_expressions) → (IsBitSet at_end (bit_of u) ↔ StepUse (infos_of infos) f g u)
+  unused : (u : Use) → after_calls ≡ 0 → at_end ≡ fold (name_at all g) 0 (keys_of f.named_expressions) →
+      (IsBitSet at_end (bit_of u) ↔ StepUse (infos_of infos) f g u)
   unused u e ends = elim (named_cases all g (keys_of f.named_expressions)) [
     | inl some ↦ (
       λ h.
@@ -312,8 +325,10 @@ module _ (m : Module) (infos : List FunctionInfo) (f : Function) (all : List Fac
   end_small : at_end < 16
   end_small = elim (cases_eq after_calls 0) [
     | inl none ↦
-        let ends : at_end ≡ fold (name_at all g) 0 (keys_of f.named_expressions) = ap (λ v. fold (name_at all g) v (keys_of f.named_expressions)) none in
-        elim (named_cases all g (keys_of f.named_expressions)) [ inl some ↦ omega (arith, ends, some.1) | inr never ↦ omega (arith, ends, never.1) ]
+        let ends : at_end ≡ fold (name_at all g) 0 (keys_of f.named_expressions) =
+        ap (λ v. fold (name_at all g) v (keys_of f.named_expressions)) none in
+        elim (named_cases all g (keys_of f.named_expressions))
+        [ inl some ↦ omega (arith, ends, some.1) | inr never ↦ omega (arith, ends, never.1) ]
     | inr some ↦ omega (arith, used_named all g after_calls (keys_of f.named_expressions) some, joined_small)
   ]
 
@@ -328,7 +343,8 @@ module _ (m : Module) (infos : List FunctionInfo) (f : Function) (all : List Fac
   past_joined past u (step.Joined.callee {info = i} call records) =
       let at = of_held infos call.callee i call.held in
       let P : Info → Type 0 = λ v. IsBitSet (slice_index v.global_uses g) (bit_of u) in
-      let none = get_or_past (info_of at.0).global_uses g 0 (omega (arith, past, fit call.callee at.0 at.1, length-map at.0.global_uses (λ (v : GlobalUse). v.0))) in
+      let none = get_or_past (info_of at.0).global_uses g 0
+      (omega (arith, past, fit call.callee at.0 at.1, length-map at.0.global_uses (λ (v : GlobalUse). v.0))) in
       let Q : ℕ → Type 0 = λ v. IsBitSet v (bit_of u) in
       no_bit (bit_of u) (subst Q none (subst P (sym at.2) records))
 
@@ -346,7 +362,11 @@ module _ (f : Function) (all : List Fact) (n : ℕ) (tally : Tallied)
   unused_long = let none_yet : ℕ = 0 in length-replicate n none_yet
 
   pub own_uses_long : length tally.1 ≡ n
-  own_uses_long = ap (λ (v : Tallied). length v.1) is ∙ (puts_long all (replicate (length f.expressions) 0, unused_globals, None) (occurrences f) ∙ unused_long)
+  own_uses_long = ap (λ (v : Tallied). length v.1) is ∙ (puts_long all (
+    replicate (length f.expressions) 0,
+    unused_globals,
+    None,
+  ) (occurrences f) ∙ unused_long)
 
   pub own_uses_are : (g : ℕ) → g < n → slice_index tally.1 g ≡ fold (put_at all g) 0 (occurrences f)
   own_uses_are g lt =
@@ -409,7 +429,11 @@ module _ (m : Module) (infos : List FunctionInfo) (f : Function) (all : List Fac
     (below : PointsBackwards f)
     (within : GlobalsWithin m f) (fit : EachFits m infos)
     (ss : List Step) (same : ss ≡ statements f.body) (tally : Tallied)
-    (tally_is : tally ≡ fold (occurred all) (replicate (length f.expressions) 0, replicate (length m.global_variables) 0, None) (occurrences f))
+    (tally_is : tally ≡ fold (occurred all) (
+      replicate (length f.expressions) 0,
+      replicate (length m.global_variables) 0,
+      None,
+    ) (occurrences f))
     (xs lent joined lent_again ends named : List ℕ) (len : ℕ) (xs_is : xs ≡ tally.1) (ok : len ≡ length xs)
     (lent_is : lent ≡ xs) (joined_long : length joined ≡ length lent)
     (joined_are : (g : ℕ) → g < length joined → slice_index joined g ≡ joined_at infos g (slice_index lent g) ss)

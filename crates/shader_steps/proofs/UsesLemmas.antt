@@ -1,5 +1,7 @@
 -- Uses, global by global.
-use Rattle.std.proofs.Common.{◌≡◌, ◌≢◌, refl, sym, ap, subst, ◌∙◌, ℕ, ◌<◌, ◌⊎◌, inl, inr, List, [], ◌∷◌, Bool, true, false, ◌&&◌, if◌then◌else◌, Option, Some, None, length, slice_index, slice_set, nat_eq, nat_lt, bit_or, fold, arith, get_or-set_same, get_or-set_other}
+use Rattle.std.proofs.Common.{◌≡◌, ◌≢◌, refl, sym, ap, subst, ◌∙◌, ℕ, ◌<◌, ◌⊎◌, inl, inr, List, [], ◌∷◌, Bool}
+use Rattle.std.proofs.Common.{true, false, ◌&&◌, if◌then◌else◌, Option, Some, None, length, slice_index, slice_set}
+use Rattle.std.proofs.Common.{nat_eq, nat_lt, bit_or, fold, arith, get_or-set_same, get_or-set_other}
 use Rattle.std.proofs.lemmas.Bool.{cases_eq}
 use Rattle.std.proofs.lemmas.Bool.Decides.{nat_tests}
 use Rattle.std.proofs.Math.ListN.{length-set}
@@ -96,14 +98,16 @@ name_is (Some h) uses g lt = elim (cases_eq h g) [
       let both : (nat_eq g g && nat_eq (slice_index uses g) 0) ≡ false = cc in
       ap (λ v. slice_index v g) (if_false _ (slice_set uses g 4) uses test) ∙ sym (if_false _ 4 (slice_index uses g) both)
 
-  left : (b : Bool) → (nat_lt h (length uses) && nat_eq (slice_index uses h) 0) ≡ b → h ≢ g → slice_index (named_once uses (Some h)) g ≡ slice_index uses g
+  left : (b : Bool) → (nat_lt h (length uses) && nat_eq (slice_index uses h) 0) ≡ b → h ≢ g →
+      slice_index (named_once uses (Some h)) g ≡ slice_index uses g
   left true t apart =
       let ne : g ≢ h = λ e. apart (sym e) in
       let set : slice_index (slice_set uses h 4) g ≡ slice_index uses g = rw get_or-set_other in
       ap (λ v. slice_index v g) (if_true _ (slice_set uses h 4) uses t) ∙ set
   left false t apart = ap (λ v. slice_index v g) (if_false _ (slice_set uses h 4) uses t)
 
-  other : (b : Bool) → (nat_lt h (length uses) && nat_eq (slice_index uses h) 0) ≡ b → h ≢ g → slice_index (named_once uses (Some h)) g ≡ name_one (Some h) g (slice_index uses g)
+  other : (b : Bool) → (nat_lt h (length uses) && nat_eq (slice_index uses h) 0) ≡ b → h ≢ g →
+      slice_index (named_once uses (Some h)) g ≡ name_one (Some h) g (slice_index uses g)
   other b t apart =
       let never : nat_eq h g ≡ false = eq_false h g apart in
       let both : (nat_eq h g && nat_eq (slice_index uses g) 0) ≡ false = cc in
@@ -114,7 +118,8 @@ module _ (infos : List Fact) where
   names_long uses [] = refl
   names_long uses (e ∷ es) = names_long (named_by infos uses e) es ∙ name_long (root_at infos e) uses
 
-  pub names_are : (uses es : List ℕ) (g : ℕ) → g < length uses → slice_index (fold (named_by infos) uses es) g ≡ fold (name_at infos g) (slice_index uses g) es
+  pub names_are : (uses es : List ℕ) (g : ℕ) → g < length uses →
+      slice_index (fold (named_by infos) uses es) g ≡ fold (name_at infos g) (slice_index uses g) es
   names_are uses [] g lt = refl
   names_are uses (e ∷ es) g lt =
       names_are (named_by infos uses e) es g (omega (arith, name_long (root_at infos e) uses))
@@ -150,7 +155,8 @@ module _ (infos : List Fact) where
   abbrev pub Named : ℕ → List ℕ → Type 0
   Named g es = (e : ℕ) × Contains es e × (root_at infos e ≡ Some g)
 
-  pub named_cases : (g : ℕ) (es : List ℕ) → (Named g es × (fold (name_at infos g) 0 es ≡ 4)) ⊎ ((Named g es → ⊥) × (fold (name_at infos g) 0 es ≡ 0))
+  pub named_cases : (g : ℕ) (es : List ℕ) → (Named g es × (fold (name_at infos g) 0 es ≡ 4)) ⊎ ((Named g es → ⊥) ×
+      (fold (name_at infos g) 0 es ≡ 0))
   named_cases g [] = inr ((λ t. nowhere t.0 t.1), refl)
   named_cases g (e ∷ es) = elim (unused_named g (root_at infos e)) [
     | inl one ↦

@@ -1,6 +1,8 @@
 -- What a refusal says: a cause that stands.
 use Rattle.std.specs.Prelude.{◌≡◌, ◌==◌, ℕ, bit_and}
-use Rattle.shader_chains.specs.Faults.{Capability, IndexTextures, IndexStorageTextures, Settings, Disruptor, Source, EarlierReturn, EarlierDiscard, Cause, Untyped, MissingCapability, NoPlace, BindingArrayElement, NonUniformControlFlow, CountFull}
+use Rattle.shader_chains.specs.Faults.{Capability, IndexTextures, IndexStorageTextures, Settings, Disruptor}
+use Rattle.shader_chains.specs.Faults.{Source, EarlierReturn, EarlierDiscard, Cause, Untyped, MissingCapability}
+use Rattle.shader_chains.specs.Faults.{NoPlace, BindingArrayElement, NonUniformControlFlow, CountFull}
 use Rattle.shader_info.specs.declared.error.ExpressionError.{ExpressionError}
 use Rattle.shader_info.specs.declared.error.ExpressionError.TheVariants as expression
 use Rattle.shader_info.specs.declared.error.FunctionError.{FunctionError}
@@ -32,7 +34,8 @@ disruptor_of disruptor.Discard = EarlierDiscard
 -- the cause that an expression's refusal names is one of the causes; a capability is named alone
 abbrev pub IsNamedOf : (Cause → Type 0) → ℕ → ExpressionError → Type 0
 IsNamedOf IsCause e (expression.Resolve failure) = IsCause (Untyped e (refusal_of failure))
-IsNamedOf IsCause e (expression.MissingCapabilities wanted) = (capability : Capability) × (wanted.0 ≡ number_of capability) × IsCause (MissingCapability e capability)
+IsNamedOf IsCause e (expression.MissingCapabilities wanted) =
+    (capability : Capability) × (wanted.0 ≡ number_of capability) × IsCause (MissingCapability e capability)
 IsNamedOf IsCause e expression.ExpectedGlobalOrArgument = IsCause (NoPlace e)
 IsNamedOf IsCause e expression.BindingArrayElement = IsCause (BindingArrayElement e)
 

@@ -8,7 +8,8 @@ use Rattle.shader_chains.specs.Program.{Function, Module, statements}
 use Rattle.shader_chains.specs.Steps.{StepExpressionNeed, StepKill, StepNeed, StepOrigin, StepPair, StepResult, StepUse}
 use Rattle.shader_info.specs.declared.info.FunctionInfo.{FunctionInfo}
 use Rattle.shader_steps.specs.Conditions.{EachFits, GlobalsWithin}
-use Rattle.shader_steps.specs.Found.{expression_needs_found, kill_found, needs_found, origins_found, own_uses, pairs_found, result_found, uses_found}
+use Rattle.shader_steps.specs.Found.{expression_needs_found, kill_found, needs_found, origins_found}
+use Rattle.shader_steps.specs.Found.{own_uses, pairs_found, result_found, uses_found}
 use Rattle.shader_sweeps.specs.InfoOf.{PointsBackwards, infos_of}
 use Rattle.shader_sweeps.specs.Joined.{joined_at}
 use Rattle.shader_sweeps.specs.Paired.{SameMembers}

@@ -1,5 +1,6 @@
 //! Laws: what the walks over one function find is what its step equation asks. Each is the contract of a function that does nothing.
-ghost use Rattle.shader_steps.specs.OfTheStep.{ExpressionNeedsAreOfTheStep, KillsAreOfTheStep, NeedsAreOfTheStep, OriginsAreOfTheStep, PairsAreOfTheStep, ResultsAreOfTheStep, UsesAreOfTheStep};
+ghost use Rattle.shader_steps.specs.OfTheStep.{ExpressionNeedsAreOfTheStep, KillsAreOfTheStep, NeedsAreOfTheStep, OriginsAreOfTheStep};
+ghost use Rattle.shader_steps.specs.OfTheStep.{PairsAreOfTheStep, ResultsAreOfTheStep, UsesAreOfTheStep};
 
 /// The origin found of each expression.
 pub fn origins_are_of_the_step()

@@ -1,5 +1,7 @@
 -- What is counted is how often an expression is named.
-use Rattle.std.proofs.Common.{◌≡◌, ◌≢◌, refl, sym, ap, subst, ◌∙◌, ℕ, ◌+◌, ◌-◌, ◌^◌, ◌<◌, ◌≤◌, ◌⊎◌, inl, inr, List, [], ◌∷◌, ◌++◌, Bool, true, false, if◌then◌else◌, IfSome, Option, Some, None, length, slice_index, slice_set, slice_get, nat_lt, fold, arith, get_or-set_same, get_or-set_other, rules}
+use Rattle.std.proofs.Common.{◌≡◌, ◌≢◌, refl, sym, ap, subst, ◌∙◌, ℕ, ◌+◌, ◌-◌, ◌^◌, ◌<◌, ◌≤◌, ◌⊎◌, inl, inr, List, []}
+use Rattle.std.proofs.Common.{◌∷◌, ◌++◌, Bool, true, false, if◌then◌else◌, IfSome, Option, Some, None, length, slice_index}
+use Rattle.std.proofs.Common.{slice_set, slice_get, nat_lt, fold, arith, get_or-set_same, get_or-set_other, rules}
 use Rattle.std.proofs.lemmas.Bool.{cases_eq}
 use Rattle.std.proofs.lemmas.List.{get_or_past, get_or-replicate, length-replicate}
 use Rattle.std.proofs.lemmas.Option.{slice_get-get_or}
@@ -58,7 +60,8 @@ raised_long : (counts : List ℕ) (i : ℕ) → length (raised counts i) ≡ len
 raised_long counts i = at (is_full counts i) refl where
   at : (b : Bool) → is_full counts i ≡ b → length (raised counts i) ≡ length counts
   at true h = ap length (if_true (is_full counts i) counts (slice_set counts i (slice_index counts i + 1)) h)
-  at false h = ap length (if_false (is_full counts i) counts (slice_set counts i (slice_index counts i + 1)) h) ∙ length-set counts i (slice_index counts i + 1)
+  at false h = ap length (if_false (is_full counts i) counts (slice_set counts i (slice_index counts i + 1)) h)
+      ∙ length-set counts i (slice_index counts i + 1)
 
 module _ (facts : List Fact) where
   -- no step changes how many counts there are
@@ -72,7 +75,8 @@ module _ (facts : List Fact) where
   counted t (o ∷ os) e lt h =
       at (is_full t.0 o.0) refl (counted (occurred facts t o) os e (omega (arith, raised_long t.0 o.0)) h) where
         at : (b : Bool) → is_full t.0 o.0 ≡ b →
-            ((occurred facts t o).2 ≡ None) × (slice_index (fold (occurred facts) t (o ∷ os)).0 e ≡ slice_index (occurred facts t o).0 e + times e os) →
+            ((occurred facts t o).2 ≡ None) × (slice_index (fold (occurred facts) t (o ∷ os)).0 e ≡ slice_index (occurred facts t o).0 e
+            + times e os) →
             (t.2 ≡ None) × (slice_index (fold (occurred facts) t (o ∷ os)).0 e ≡ slice_index t.0 e + times e (o ∷ os))
         at true f r =
             let s : (if is_full t.0 o.0 then Some o.0 else t.2) ≡ Some o.0 = if_true (is_full t.0 o.0) (Some o.0) t.2 f in
@@ -106,7 +110,9 @@ module _ (facts : List Fact) where
         let k = ap (λ v. slice_index v e) c in inr (omega (arith, r, k, bumped_le t.0 o.0 e))
 
 module _ (facts : List Fact) (f : Function) (n : ℕ) (all : List Step) (same : all ≡ statements f.body) (tally : Tallied)
-    (is : tally ≡ fold (occurred facts) (fold (occurred facts) (fold (occurred facts) (replicate (length f.expressions) 0, replicate n 0, None) (flat_map expression_operands f.expressions)) (flat_map local_operands f.local_variables)) (flat_map statement_operands all)) where
+    (is : tally ≡ fold (occurred facts) (fold (occurred facts)
+    (fold (occurred facts) (replicate (length f.expressions) 0, replicate n 0, None) (flat_map expression_operands f.expressions))
+    (flat_map local_operands f.local_variables)) (flat_map statement_operands all)) where
   abbrev zeros : Tallied
   zeros = (replicate (length f.expressions) 0, replicate n 0, None)
 
@@ -125,7 +131,8 @@ module _ (facts : List Fact) (f : Function) (n : ℕ) (all : List Step) (same : 
     at true h = get_or-replicate (length f.expressions) e 0 0 (omega (arith, ltb-true, h))
     at false h =
         let none_yet : ℕ = 0 in
-        get_or_past (replicate (length f.expressions) none_yet) e 0 (omega (arith, ltb-false, h, length-replicate (length f.expressions) none_yet))
+        get_or_past (replicate (length f.expressions) none_yet) e 0
+        (omega (arith, ltb-false, h, length-replicate (length f.expressions) none_yet))
 
   pub long : length tally.0 ≡ length f.expressions
   long =
@@ -135,7 +142,8 @@ module _ (facts : List Fact) (f : Function) (n : ℕ) (all : List Step) (same : 
   counts_of : tally.2 ≡ None → (e : ℕ) → e < length f.expressions → slice_index tally.0 e ≡ count_of f e
   counts_of none e lt =
       let none_yet : ℕ = 0 in
-      let long : length (replicate (length f.expressions) none_yet) ≡ length f.expressions = length-replicate (length f.expressions) none_yet in
+      let long : length (replicate (length f.expressions) none_yet) ≡ length f.expressions =
+      length-replicate (length f.expressions) none_yet in
       let r = counted facts zeros (occurrences f) e (omega (arith, long)) (sym (ap (λ (v : Tallied). v.2) whole) ∙ none) in
       let k = ap (λ (v : Tallied). slice_index v.0 e) whole in
       omega (arith, r.1, k, zero_at e)

@@ -1,5 +1,6 @@
 -- The facts of expressions, one after the other.
-use Rattle.std.proofs.Common.{◌≡◌, refl, sym, subst, ◌∙◌, ℕ, zero, suc, ◌+◌, ◌<◌, List, [], ◌∷◌, ◌++◌, Some, slice_get, length, arith, append_assoc, length-append}
+use Rattle.std.proofs.Common.{◌≡◌, refl, sym, subst, ◌∙◌, ℕ, zero, suc, ◌+◌, ◌<◌, List, [], ◌∷◌}
+use Rattle.std.proofs.Common.{◌++◌, Some, slice_get, length, arith, append_assoc, length-append}
 use Rattle.std.specs.List.{enumerate_from}
 use Rattle.std.proofs.lemmas.List.{append-nil}
 use Rattle.shader_chains.specs.Program.{Expression, Function, Module}
@@ -49,16 +50,22 @@ module _ (m : Module) (infos : List FunctionInfo) (f : Function) where
         is = subst Q here (subst P same (r.1 ∙ append_assoc before (entry m infos f before n y ∷ []) r.0));
       }
   between before n long (y ∷ ys) (suc k) x e i at =
-      between (before ++ entry m infos f before n y ∷ []) (n + 1) (omega (arith, length-append before (entry m infos f before n y ∷ []))) ys k x e i (omega arith)
+      between (before ++ entry m infos f before n y ∷ []) (n + 1) (omega (arith, length-append before (entry m infos f before n y ∷ []))) ys
+      k x e i (omega arith)
 
   pub stands_between : (xs : List Expression) (e : ℕ) (x : Expression) → slice_get xs e ≡ Some x →
       Between (swept m infos f [] (enumerate_from 0 xs)) e x
   stands_between xs e x h = between [] 0 refl xs e x h e (omega arith)
 
-  long_from : (before : List Fact) (n : ℕ) (xs : List Expression) → length (swept m infos f before (enumerate_from n xs)) ≡ length before + length xs
+  long_from : (before : List Fact) (n : ℕ) (xs : List Expression) →
+      length (swept m infos f before (enumerate_from n xs)) ≡ length before + length xs
   long_from before n [] = omega arith
   long_from before n (x ∷ xs) =
-      omega (arith, long_from (before ++ entry m infos f before n x ∷ []) (n + 1) xs, length-append before (entry m infos f before n x ∷ []))
+      omega (
+        arith,
+        long_from (before ++ entry m infos f before n x ∷ []) (n + 1) xs,
+        length-append before (entry m infos f before n x ∷ []),
+      )
 
   pub swept_long : (xs : List Expression) → length (swept m infos f [] (enumerate_from 0 xs)) ≡ length xs
   swept_long xs = omega (arith, long_from [] 0 xs)

@@ -7,12 +7,15 @@ use Rattle.shader_info.specs.declared.info.FunctionInfo.{FunctionInfo}
 use Rattle.shader_sweeps.specs.Facts.{result_at}
 use Rattle.shader_sweeps.specs.InfoOf.{info_of, infos_of}
 
-pub held_of : (infos : List FunctionInfo) (c : ℕ) (info : FunctionInfo) → slice_get infos c ≡ Some info → slice_get (infos_of infos) c ≡ Some (info_of info)
+pub held_of : (infos : List FunctionInfo) (c : ℕ) (info : FunctionInfo) → slice_get infos c ≡ Some info →
+    slice_get (infos_of infos) c ≡ Some (info_of info)
 held_of infos c info e = slice_get-map info_of infos c ∙ ap (option_map info_of) e
 
-pub of_held : (infos : List FunctionInfo) (c : ℕ) (i : Info) → slice_get (infos_of infos) c ≡ Some i → (info : FunctionInfo) × (slice_get infos c ≡ Some info) × (info_of info ≡ i)
+pub of_held : (infos : List FunctionInfo) (c : ℕ) (i : Info) → slice_get (infos_of infos) c ≡ Some i →
+    (info : FunctionInfo) × (slice_get infos c ≡ Some info) × (info_of info ≡ i)
 of_held infos c i e = at (slice_get infos c) (sym (slice_get-map info_of infos c) ∙ e) refl where
-  at : (o : Option FunctionInfo) → option_map info_of o ≡ Some i → slice_get infos c ≡ o → (info : FunctionInfo) × (slice_get infos c ≡ Some info) × (info_of info ≡ i)
+  at : (o : Option FunctionInfo) → option_map info_of o ≡ Some i → slice_get infos c ≡ o →
+      (info : FunctionInfo) × (slice_get infos c ≡ Some info) × (info_of info ≡ i)
   at None h k = absurd (cc)
   at (Some info) h k = (info, k, cc)
 
@@ -20,7 +23,8 @@ of_held infos c i e = at (slice_get infos c) (sym (slice_get-map info_of infos c
 module _ (infos : List FunctionInfo) (c h : ℕ) where
   pub result_to : result_at infos c ≡ Some h → (i : Info) × (slice_get (infos_of infos) c ≡ Some i) × (i.non_uniform_result ≡ Some h)
   result_to k = at (slice_get infos c) k refl where
-    at : (o : Option FunctionInfo) → option_and_then (λ (i : FunctionInfo). i.uniformity.non_uniform_result) o ≡ Some h → slice_get infos c ≡ o →
+    at : (o : Option FunctionInfo) → option_and_then (λ (i : FunctionInfo). i.uniformity.non_uniform_result) o ≡ Some h →
+        slice_get infos c ≡ o →
         (i : Info) × (slice_get (infos_of infos) c ≡ Some i) × (i.non_uniform_result ≡ Some h)
     at None t g = absurd (cc)
     at (Some i) t g = (info_of i, held_of infos c i g, t)

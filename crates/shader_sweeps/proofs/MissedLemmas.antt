@@ -13,7 +13,8 @@ or_none (Some h) = refl
 or_none None = refl
 
 -- a pair of globals has both places
-known_placed : (f : Function) (arguments : List ℕ) (o : Option ℕ) (ks : List SamplingKey) → fold (pair_missed f arguments) o (map key_pair ks) ≡ o
+known_placed : (f : Function) (arguments : List ℕ) (o : Option ℕ) (ks : List SamplingKey) →
+    fold (pair_missed f arguments) o (map key_pair ks) ≡ o
 known_placed f arguments o [] = refl
 known_placed f arguments o (k ∷ ks) =
     let at : option_or (option_or o None) None ≡ o = or_none (option_or o None) ∙ or_none o in

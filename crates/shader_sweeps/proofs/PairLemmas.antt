@@ -1,5 +1,6 @@
 -- Sets of pairs.
-use Rattle.std.proofs.Common.{rules, ◌≡◌, sym, subst, ℕ, inl, inr, List, [], ◌∷◌, ◌++◌, Bool, true, false, map, not, Option, None, slice_get, unwrap_or}
+use Rattle.std.proofs.Common.{rules, ◌≡◌, sym, subst, ℕ, inl, inr, List, [], ◌∷◌, ◌++◌, Bool}
+use Rattle.std.proofs.Common.{true, false, map, not, Option, None, slice_get, unwrap_or}
 use Rattle.std.specs.List.{Contains, list_any}
 use Rattle.std.specs.Bool.{MatchBool}
 use Rattle.std.specs.List.Sorted.{IsPermutation}
@@ -10,7 +11,8 @@ use Rattle.shader_info.specs.contracts.info.SamplingKeyPartialEq.TheImpl as key
 use Rattle.shader_info.specs.contracts.info.SamplingPartialEq.TheImpl as sampling
 use Rattle.shader_info.specs.declared.info.Sampling.{Sampling}
 use Rattle.shader_info.specs.declared.info.SamplingKey.{SamplingKey}
-use Rattle.shader_sweeps.specs.Paired.{HasArgument, HaveArguments, SameMembers, pairs_in, place_view, key_pair, sampling_pair, called, passed_all, info_pairs}
+use Rattle.shader_sweeps.specs.Paired.{HasArgument, HaveArguments, SameMembers, pairs_in, place_view}
+use Rattle.shader_sweeps.specs.Paired.{key_pair, sampling_pair, called, passed_all, info_pairs}
 use Rattle.shader_info.specs.declared.info.FunctionInfo.{FunctionInfo}
 use Rattle.shader_chains.specs.Program.{Function, Step, Leaf, Call}
 use Rattle.std.specs.Option.{option_map}
@@ -33,7 +35,11 @@ module _ {X : Type 0} where
   same_trans xs ys zs p q = record { to = λ x h. q.to x (p.to x h); from = λ x h. p.from x (q.from x h) }
 
   pub same_perm : (xs ys : List X) → IsPermutation xs ys → SameMembers xs ys
-  same_perm xs ys p = record { to = λ x h. Contains-permutation xs ys x p h; from = λ x h. Contains-permutation ys xs x (IsPermutation-sym xs ys p) h }
+  same_perm xs ys p = record {
+    to = λ x h. Contains-permutation xs ys x p h;
+    from =
+        λ x h. Contains-permutation ys xs x (IsPermutation-sym xs ys p) h;
+  }
 
   join_to : (xs xs' ys ys' : List X) → SameMembers xs xs' → SameMembers ys ys' → (x : X) → Contains (xs ++ ys) x → Contains (xs' ++ ys') x
   join_to xs xs' ys ys' p q x h = elim (Contains-append_cases xs ys x h) [
@@ -45,7 +51,11 @@ module _ {X : Type 0} where
   same_sym xs ys p = record { to = p.from; from = p.to }
 
   pub same_join : (xs xs' ys ys' : List X) → SameMembers xs xs' → SameMembers ys ys' → SameMembers (xs ++ ys) (xs' ++ ys')
-  same_join xs xs' ys ys' p q = record { to = join_to xs xs' ys ys' p q; from = join_to xs' xs ys' ys (same_sym xs xs' p) (same_sym ys ys' q) }
+  same_join xs xs' ys ys' p q = record {
+    to = join_to xs xs' ys ys' p q;
+    from =
+        join_to xs' xs ys' ys (same_sym xs xs' p) (same_sym ys ys' q);
+  }
 
   -- what a step adds comes from what was left
   pub more : (a b s s' all : List X) → SameMembers s' (a ++ s) → SameMembers ((a ++ b) ++ s) all → SameMembers (b ++ s') all
@@ -118,18 +128,22 @@ puts_known k known known' open_pairs added p e =
 
 -- a new pair with an argument
 pub puts_open : (k : Sampling) (known : List SamplingKey) (open_pairs open_pairs' : List Sampling) (added : Bool) →
-    MatchBool added (IsPermutation (k ∷ open_pairs) open_pairs') (open_pairs' ≡ open_pairs) → added ≡ not (list_any (sampling.ghosts.eq k) open_pairs) →
+    MatchBool added (IsPermutation (k ∷ open_pairs) open_pairs') (open_pairs' ≡ open_pairs) →
+    added ≡ not (list_any (sampling.ghosts.eq k) open_pairs) →
     SameMembers (pairs_in known open_pairs') (sampling_pair k ∷ pairs_in known open_pairs)
 puts_open k known open_pairs open_pairs' added p e =
-    same_trans (pairs_in known open_pairs') (map key_pair known ++ sampling_pair k ∷ map sampling_pair open_pairs) (sampling_pair k ∷ pairs_in known open_pairs)
+    same_trans (pairs_in known open_pairs') (map key_pair known ++ sampling_pair k ∷ map sampling_pair open_pairs)
+    (sampling_pair k ∷ pairs_in known open_pairs)
     (same_join (map key_pair known) (map key_pair known) (map sampling_pair open_pairs') (map sampling_pair (k ∷ open_pairs))
-    (same_refl (map key_pair known)) (same_map sampling_pair open_pairs' (k ∷ open_pairs) (puts sampling_same k open_pairs open_pairs' added p e)))
+    (same_refl (map key_pair known)) (same_map sampling_pair open_pairs' (k ∷ open_pairs)
+    (puts sampling_same k open_pairs open_pairs' added p e)))
     (same_perm (map key_pair known ++ sampling_pair k ∷ map sampling_pair open_pairs) (sampling_pair k ∷ pairs_in known open_pairs)
     (IsPermutation-middle (map key_pair known) (sampling_pair k) (map sampling_pair open_pairs)))
 
 -- and each has one
 pub stays_open : (k : Sampling) (open_pairs open_pairs' : List Sampling) (added : Bool) →
-    MatchBool added (IsPermutation (k ∷ open_pairs) open_pairs') (open_pairs' ≡ open_pairs) → added ≡ not (list_any (sampling.ghosts.eq k) open_pairs) →
+    MatchBool added (IsPermutation (k ∷ open_pairs) open_pairs') (open_pairs' ≡ open_pairs) →
+    added ≡ not (list_any (sampling.ghosts.eq k) open_pairs) →
     HasArgument (place_view k.image) (place_view k.sampler) → HaveArguments open_pairs → HaveArguments open_pairs'
 stays_open k open_pairs open_pairs' added p e has before = record {
   each = λ pair h. elim (cases k open_pairs pair ((puts sampling_same k open_pairs open_pairs' added p e).to pair h)) [
@@ -144,7 +158,8 @@ none_open = record { each = λ pair h. absurd (nowhere pair h) }
 pub ruleset gains = (more, more_one, both, same_refl, items_of-enumerate_from, flat_map-append)
 
 -- a call of a function without an info brings nothing
-pub calls_none : (infos : List FunctionInfo) (f : Function) (s : Step) (c : ℕ) (arguments : List ℕ) (result : Option ℕ) (ps : List (Place × Place)) →
+pub calls_none : (infos : List FunctionInfo) (f : Function) (s : Step) (c : ℕ) (arguments : List ℕ) (result : Option ℕ)
+    (ps : List (Place × Place)) →
     s ≡ Leaf (Call c arguments result) → slice_get infos c ≡ None → SameMembers ps (called infos f s ++ ps)
 calls_none infos f s c arguments result ps e none =
     let P : Step → Type 0 = λ v. SameMembers ps (called infos f v ++ ps) in

@@ -1,5 +1,6 @@
 -- What is found of origins meets their step equation.
-use Rattle.std.proofs.Common.{◌≡◌, refl, sym, ap, subst, ◌∙◌, ℕ, ◌<◌, ◌⊎◌, inl, inr, List, [], ◌∷◌, Bool, true, false, if◌then◌else◌, Option, Some, None, map, slice_get, length, arith, get_or}
+use Rattle.std.proofs.Common.{◌≡◌, refl, sym, ap, subst, ◌∙◌, ℕ, ◌<◌, ◌⊎◌, inl, inr, List, [], ◌∷◌, Bool, true}
+use Rattle.std.proofs.Common.{false, if◌then◌else◌, Option, Some, None, map, slice_get, length, arith, get_or}
 use Rattle.std.specs.List.{Contains, enumerate_from}
 use Rattle.std.specs.Option.{option_map, option_and_then, option_or}
 use Rattle.std.proofs.lemmas.Option.{slice_get-map, slice_get_within, slice_get-get_or}
@@ -35,9 +36,11 @@ OfOperand prior os h = (o : ℕ × Label) × Contains os o × (origin_at prior o
 pub first_is : (prior : List Fact) (os : List (ℕ × Label)) → Picks (OfOperand prior os) (first_origin prior os)
 first_is prior [] = λ h k. nowhere k.0 k.1
 first_is prior (o ∷ os) = at (origin_at prior o.0) (first_is prior os) refl where
-  at : (v : Option ℕ) → Picks (OfOperand prior os) (first_origin prior os) → origin_at prior o.0 ≡ v → Picks (OfOperand prior (o ∷ os)) (option_or v (first_origin prior os))
+  at : (v : Option ℕ) → Picks (OfOperand prior os) (first_origin prior os) → origin_at prior o.0 ≡ v →
+      Picks (OfOperand prior (o ∷ os)) (option_or v (first_origin prior os))
   at (Some h) rest k = (o, here o os, k)
-  at None rest k = Picks-same (OfOperand prior os) (OfOperand prior (o ∷ os)) (first_origin prior os) (λ h t. (t.0, there o os t.0 t.1, t.2))
+  at None rest k = Picks-same (OfOperand prior os) (OfOperand prior (o ∷ os)) (first_origin prior os)
+      (λ h t. (t.0, there o os t.0 t.1, t.2))
       (λ h t. elim (cases o os t.0 t.1) [
         | inl is ↦ let P : ℕ × Label → Type 0 = λ v. origin_at prior v.0 ≡ None in let none = subst P is k in let some = t.2 in absurd (cc)
         | inr later ↦ (h, (t.0, later, t.2))
@@ -95,7 +98,8 @@ module _ (m : Module) (infos : List FunctionInfo) (f : Function) (e : ℕ) (reco
   led : (x : Expression) → Stands f e x → is_source m f x ≡ false → ((o : ℕ × Label) → Contains (expression_operands x) o → o.0 < e) →
       Picks Step (option_or (callee_origin infos (callee_of x)) (first_origin prior (expression_operands x)))
   led x s none below = Picks-same (Found x) Step _ to from
-      (or_picks (OfCallee infos x) (OfOperand prior (expression_operands x)) _ _ (callee_picks infos x) (first_is prior (expression_operands x))) where
+      (or_picks (OfCallee infos x) (OfOperand prior (expression_operands x)) _ _ (callee_picks infos x)
+      (first_is prior (expression_operands x))) where
         to : (h : ℕ) → Found x h → Step h
         to h (inl called) =
             let P : Expression → Type 0 = λ v. Stands f e v in
@@ -115,20 +119,25 @@ module _ (m : Module) (infos : List FunctionInfo) (f : Function) (e : ℕ) (reco
             let P : Expression → Type 0 = λ v. callee_of v ≡ Some c in
             (h, inl (c, subst P (same_expression f e (form.CallResult c) x t s) refl, of_result infos c h i g r))
 
-  picks : (x : Expression) → Stands f e x → ((o : ℕ × Label) → Contains (expression_operands x) o → o.0 < e) → Picks Step (own_origin m infos f prior e x)
+  picks : (x : Expression) → Stands f e x → ((o : ℕ × Label) → Contains (expression_operands x) o → o.0 < e) →
+      Picks Step (own_origin m infos f prior e x)
   picks x s below =
-      if_picks Step (is_source m f x) (Some e) _ (λ is. itself (record { expression = x; stands = s; source = is })) (λ none. led x s none below)
+      if_picks Step (is_source m f x) (Some e) _ (λ is. itself (record { expression = x; stands = s; source = is }))
+      (λ none. led x s none below)
 
-module _ (m : Module) (infos : List FunctionInfo) (f : Function) (all : List Fact) (is : all ≡ swept m infos f [] (enumerate_from 0 f.expressions)) where
+module _ (m : Module) (infos : List FunctionInfo) (f : Function) (all : List Fact)
+    (is : all ≡ swept m infos f [] (enumerate_from 0 f.expressions)) where
   pub facts_long : length all ≡ length f.expressions
   facts_long = ap length is ∙ swept_long m infos f f.expressions
 
   pub origins_long : length (map nu all) ≡ length f.expressions
   origins_long = length-map all nu ∙ facts_long
 
-  pub step_origins : PointsBackwards f → (e : ℕ) (o : Option ℕ) → slice_get (map nu all) e ≡ Some o → Picks (StepOrigin m (infos_of infos) f e) o
+  pub step_origins : PointsBackwards f → (e : ℕ) (o : Option ℕ) → slice_get (map nu all) e ≡ Some o →
+      Picks (StepOrigin m (infos_of infos) f e) o
   step_origins below = operands_give_origins m (infos_of infos) f (map nu all) origins_long below each where
-    at : (e : ℕ) (r : Option ℕ) (x : Expression) → Stands f e x → slice_get (map nu all) e ≡ Some r → Picks (StepOperand m (infos_of infos) f (map nu all) e) r
+    at : (e : ℕ) (r : Option ℕ) (x : Expression) → Stands f e x → slice_get (map nu all) e ≡ Some r →
+        Picks (StepOperand m (infos_of infos) f (map nu all) e) r
     at e r x s g =
         let b = stands_between m infos f f.expressions e x s in
         let one = entry m infos f b.prior e x in

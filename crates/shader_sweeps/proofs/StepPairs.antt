@@ -37,24 +37,29 @@ of_both a b image sampler e d =
     subst P (sym e) (subst Q (sym d) (here (image, sampler) []))
 
 module _ (infos : List FunctionInfo) (f : Function) (image sampler : Place) where
-  placed_to : (e : ℕ) (x : Expression) → Stands f e x → (o : Option (ℕ × ℕ)) → sampled x ≡ o → Contains (placed f o) (image, sampler) → StepPair (infos_of infos) f image sampler
+  placed_to : (e : ℕ) (x : Expression) → Stands f e x → (o : Option (ℕ × ℕ)) → sampled x ≡ o → Contains (placed f o) (image, sampler) →
+      StepPair (infos_of infos) f image sampler
   placed_to e x s None is k = absurd (nowhere (image, sampler) k)
   placed_to e x s (Some operands) is k =
       let two = both (place f operands.0) (place f operands.1) image sampler k in
       step.StepPair.own e (ap (option_and_then sampled) s ∙ is) two.0 two.1
 
-  sampled_to : (x : Expression) → Contains f.expressions x → Contains (sampled_pair f x) (image, sampler) → StepPair (infos_of infos) f image sampler
+  sampled_to : (x : Expression) → Contains f.expressions x → Contains (sampled_pair f x) (image, sampler) →
+      StepPair (infos_of infos) f image sampler
   sampled_to x h k = let at = place_of f.expressions x h in placed_to at.0 x at.1 (sampled x) refl k
 
-  info_to : (c : ℕ) (arguments : List ℕ) (result : Option ℕ) (o : Option FunctionInfo) → Contains (statements f.body) (Leaf (Call c arguments result)) → slice_get infos c ≡ o →
-      Contains (passed_all f arguments (unwrap_or (option_map info_pairs o) [])) (image, sampler) → StepPair (infos_of infos) f image sampler
+  info_to : (c : ℕ) (arguments : List ℕ) (result : Option ℕ) (o : Option FunctionInfo) →
+      Contains (statements f.body) (Leaf (Call c arguments result)) → slice_get infos c ≡ o →
+      Contains (passed_all f arguments (unwrap_or (option_map info_pairs o) [])) (image, sampler) →
+      StepPair (infos_of infos) f image sampler
   info_to c arguments result None h e k = absurd (nowhere (image, sampler) k)
   info_to c arguments result (Some info) h e k =
       let at = in_flat (passed f arguments) (info_pairs info) (image, sampler) k in
       let d = both (in_caller f arguments at.0.0) (in_caller f arguments at.0.1) image sampler at.2 in
       step.StepPair.callee (record { callee = c; result = result; holds = h; held = held_of infos c info e }) at.1 d.0 d.1
 
-  called_to : (s : Step) → Contains (statements f.body) s → Contains (called infos f s) (image, sampler) → StepPair (infos_of infos) f image sampler
+  called_to : (s : Step) → Contains (statements f.body) s → Contains (called infos f s) (image, sampler) →
+      StepPair (infos_of infos) f image sampler
   called_to (Leaf (Call c arguments result)) h k = info_to c arguments result (slice_get infos c) h refl k
   called_to s h k = absurd (nowhere (image, sampler) k)
 
@@ -62,15 +67,17 @@ module _ (infos : List FunctionInfo) (f : Function) (image sampler : Place) wher
   collected = flat_map (called infos f) (statements f.body) ++ (flat_map (sampled_pair f) f.expressions ++ [])
 
   collected_to : Contains collected (image, sampler) → StepPair (infos_of infos) f image sampler
-  collected_to h = elim (Contains-append_cases (flat_map (called infos f) (statements f.body)) (flat_map (sampled_pair f) f.expressions ++ []) (image, sampler) h) [
-    | inl by_call ↦ let at = in_flat (called infos f) (statements f.body) (image, sampler) by_call in called_to at.0 at.1 at.2
-    | inr own ↦ elim (Contains-append_cases (flat_map (sampled_pair f) f.expressions) [] (image, sampler) own) [
-      | inl one ↦ let at = in_flat (sampled_pair f) f.expressions (image, sampler) one in sampled_to at.0 at.1 at.2
-      | inr none ↦ absurd (nowhere (image, sampler) none)
-    ]
-  ]
+  collected_to h = elim (Contains-append_cases (flat_map (called infos f) (statements f.body))
+      (flat_map (sampled_pair f) f.expressions ++ []) (image, sampler) h) [
+        | inl by_call ↦ let at = in_flat (called infos f) (statements f.body) (image, sampler) by_call in called_to at.0 at.1 at.2
+        | inr own ↦ elim (Contains-append_cases (flat_map (sampled_pair f) f.expressions) [] (image, sampler) own) [
+          | inl one ↦ let at = in_flat (sampled_pair f) f.expressions (image, sampler) one in sampled_to at.0 at.1 at.2
+          | inr none ↦ absurd (nowhere (image, sampler) none)
+        ]
+      ]
 
-  own_from : (e i s : ℕ) (o : Option Expression) → slice_get f.expressions e ≡ o → option_and_then sampled o ≡ Some (i, s) → place f i ≡ Some image → place f s ≡ Some sampler →
+  own_from : (e i s : ℕ) (o : Option Expression) → slice_get f.expressions e ≡ o → option_and_then sampled o ≡ Some (i, s) →
+      place f i ≡ Some image → place f s ≡ Some sampler →
       Contains (flat_map (sampled_pair f) f.expressions) (image, sampler)
   own_from e i s None is told a b = absurd (cc)
   own_from e i s (Some x) is told a b =
@@ -86,14 +93,16 @@ module _ (infos : List FunctionInfo) (f : Function) (image sampler : Place) wher
   collected_from (step.StepPair.callee {arguments = arguments} {info = i} {p = p} {q = q} call h a b) =
       let at = of_held infos call.callee i call.held in
       let P : Info → Type 0 = λ v. Contains v.pairs (p, q) in
-      let Q : Option FunctionInfo → Type 0 = λ v. Contains (passed_all f arguments (unwrap_or (option_map info_pairs v) [])) (image, sampler) in
+      let Q : Option FunctionInfo → Type 0 = λ v. Contains (passed_all f arguments (unwrap_or (option_map info_pairs v) []))
+      (image, sampler) in
       Contains-append_left (flat_map (called infos f) (statements f.body)) (flat_map (sampled_pair f) f.expressions ++ []) (image, sampler)
       (of_flat (called infos f) (statements f.body) (Leaf (Call call.callee arguments call.result)) (image, sampler) call.holds
       (subst Q (sym at.1) (of_flat (passed f arguments) (info_pairs at.0) (p, q) (image, sampler) (subst P (sym at.2) h)
       (of_both (in_caller f arguments p) (in_caller f arguments q) image sampler a b))))
 
   pub step_pairs : (ps : List (Place × Place)) (all : List Step) → all ≡ statements f.body →
-      SameMembers ps (flat_map (called infos f) all ++ (flat_map (sampled_pair f) f.expressions ++ [])) → Contains ps (image, sampler) ↔ StepPair (infos_of infos) f image sampler
+      SameMembers ps (flat_map (called infos f) all ++ (flat_map (sampled_pair f) f.expressions ++ [])) →
+      Contains ps (image, sampler) ↔ StepPair (infos_of infos) f image sampler
   step_pairs ps all e same =
       let P : List Step → Type 0 = λ v. SameMembers ps (flat_map (called infos f) v ++ (flat_map (sampled_pair f) f.expressions ++ [])) in
       let known = subst P e same in

@@ -1,5 +1,6 @@
 -- What is found of a function's result meets its step equation.
-use Rattle.std.proofs.Common.{◌≡◌, refl, sym, ap, subst, ◌∙◌, ℕ, ◌<◌, inl, inr, List, [], Option, Some, None, map, slice_get, length, fold, arith, get_or}
+use Rattle.std.proofs.Common.{◌≡◌, refl, sym, ap, subst, ◌∙◌, ℕ, ◌<◌, inl, inr, List, [], Option}
+use Rattle.std.proofs.Common.{Some, None, map, slice_get, length, fold, arith, get_or}
 use Rattle.std.specs.List.{Contains, enumerate_from}
 use Rattle.std.specs.Option.{option_map, option_and_then}
 use Rattle.std.proofs.lemmas.Option.{slice_get-map, slice_get_within, slice_get-get_or}
@@ -8,7 +9,8 @@ use Rattle.shader_ir.specs.declared.proc.operands.Label.TheVariants as label
 use Rattle.shader_chains.specs.Infos.{Picks}
 use Rattle.shader_chains.specs.Origins.{Leads, IsSource, Gives}
 use Rattle.shader_chains.specs.Origins as source
-use Rattle.shader_chains.specs.Program.{Function, Module, Expression, Label, Step, Leaf, Return, CooperativeStore, Call, Stands, statements, statement_operands}
+use Rattle.shader_chains.specs.Program.{Function, Module, Expression, Label, Step, Leaf, Return, CooperativeStore}
+use Rattle.shader_chains.specs.Program.{Call, Stands, statements, statement_operands}
 use Rattle.shader_chains.specs.Steps.{StepOrigin, StepResult}
 use Rattle.shader_chains.specs.Steps as step
 use Rattle.shader_chains.proofs.OriginsLemmas.{Picks-same, Picks-some}
@@ -26,7 +28,8 @@ picks_itself : (o : Option ℕ) → Picks (λ h. o ≡ Some h) o
 picks_itself (Some h) = refl
 picks_itself None = λ h e. absurd (cc)
 
-module _ (m : Module) (infos : List FunctionInfo) (f : Function) (all : List Fact) (is : all ≡ swept m infos f [] (enumerate_from 0 f.expressions))
+module _ (m : Module) (infos : List FunctionInfo) (f : Function) (all : List Fact)
+    (is : all ≡ swept m infos f [] (enumerate_from 0 f.expressions))
     (below : PointsBackwards f) where
   abbrev Origin : ℕ → ℕ → Type 0
   Origin e h = StepOrigin m (infos_of infos) f e h
@@ -35,7 +38,8 @@ module _ (m : Module) (infos : List FunctionInfo) (f : Function) (all : List Fac
   origin_to e h t = at (slice_get all e) refl t where
     at : (o : Option Fact) → slice_get all e ≡ o → option_and_then nu o ≡ Some h → Origin e h
     at None here' told = absurd (cc)
-    at (Some i) here' told = step_origins m infos f all is below e (Some h) (slice_get-map nu all e ∙ (ap (option_map nu) here' ∙ ap (λ (v : Option ℕ). Some v) told))
+    at (Some i) here' told = step_origins m infos f all is below e (Some h) (slice_get-map nu all e
+        ∙ (ap (option_map nu) here' ∙ ap (λ (v : Option ℕ). Some v) told))
 
   stands_of : (e h : ℕ) → Leads f e h → (IsSource m f h → (x : Expression) × Stands f e x)
   stands_of e h source.Leads.itself is_source = (is_source.expression, is_source.stands)

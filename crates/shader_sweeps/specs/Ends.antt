@@ -2,7 +2,8 @@
 use Rattle.std.specs.Prelude.{ℕ, Bool, true, false, ◌||◌, not, nat_eq, List, [], ◌∷◌, Option, Some, None, is_some, slice_get, unwrap_or}
 use Rattle.std.specs.Option.{option_map, option_or}
 use Rattle.shader_arena.specs.Places.{places_between}
-use Rattle.shader_ir.specs.Body.{Body, End, Then, Step, Leaf, Nested, If, Switch, Loop, Cases, NoCase, Case, Simple, Emit, Return, Kill, Call}
+use Rattle.shader_ir.specs.Body.{Body, End, Then, Step, Leaf, Nested, If, Switch, Loop}
+use Rattle.shader_ir.specs.Body.{Cases, NoCase, Case, Simple, Emit, Return, Kill, Call}
 use Rattle.shader_info.specs.declared.error.UniformityDisruptor.{UniformityDisruptor}
 use Rattle.shader_info.specs.declared.error.UniformityDisruptor.TheVariants as cause
 use Rattle.shader_info.specs.declared.info.FunctionInfo.{FunctionInfo}

@@ -63,7 +63,7 @@ level_needs (level.Bias expression) = 4
 level_needs _ = 0
 
 abbrev pub form_needs : Expression → ℕ
-form_needs (form.ImageSample image sampler gather coordinate array_index offset level depth_ref clamp_to_edge) = level_needs level
+form_needs (form.ImageSample image sampler gather clamp_to_edge coordinate array_index offset level depth_ref) = level_needs level
 form_needs (form.Derivative axis ctrl expr) = 2
 form_needs (form.CooperativeLoad columns rows role tile) = 8
 form_needs (form.CooperativeMultiplyAdd a b c) = 8

@@ -1,5 +1,6 @@
 -- What the infos of called functions add, and the globals that are only named.
-use Rattle.std.specs.Prelude.{ℕ, ◌&&◌, List, [], Option, Some, None, slice_get, slice_index, bit_and, bit_or, if◌then◌else◌, nat_eq, nat_lt, length, slice_set, unwrap_or, fold}
+use Rattle.std.specs.Prelude.{ℕ, ◌&&◌, List, [], Option, Some, None, slice_get, slice_index, bit_and, bit_or}
+use Rattle.std.specs.Prelude.{if◌then◌else◌, nat_eq, nat_lt, length, slice_set, unwrap_or, fold}
 use Rattle.std.specs.Option.{option_map, option_or}
 use Rattle.shader_arena.specs.Places.{places_between}
 use Rattle.shader_ir.specs.Body.{Emit, Return, ControlBarrier, MemoryBarrier, WorkGroupUniformLoad, Call, CooperativeStore, Step, Leaf}

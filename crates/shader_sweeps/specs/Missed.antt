@@ -19,7 +19,8 @@ passed_for arguments (InArgument i) = slice_get arguments i
 
 -- the first without a place, after those before
 abbrev pub operands_missed : Function → Option ℕ → ℕ → Option (ℕ × ℕ) → Option ℕ
-operands_missed f o e (Some operands) = option_or (option_or o (missed_of (place f operands.0) (Some e))) (missed_of (place f operands.1) (Some e))
+operands_missed f o e (Some operands) = option_or (option_or o (missed_of (place f operands.0) (Some e)))
+    (missed_of (place f operands.1) (Some e))
 operands_missed f o e None = o
 
 abbrev pub sample_missed : Function → Option ℕ → ℕ × Expression → Option ℕ

@@ -1,5 +1,6 @@
 -- Counts and uses after some occurrences of operands.
-use Rattle.std.specs.Prelude.{ℕ, ◌+◌, ◌-◌, ◌^◌, Bool, List, Option, Some, None, length, slice_index, slice_set, bit_or, if◌then◌else◌, nat_lt, ◌&&◌, nat_eq}
+use Rattle.std.specs.Prelude.{ℕ, ◌+◌, ◌-◌, ◌^◌, Bool, List, Option, Some, None, length, slice_index}
+use Rattle.std.specs.Prelude.{slice_set, bit_or, if◌then◌else◌, nat_lt, ◌&&◌, nat_eq}
 use Rattle.shader_ir.specs.declared.proc.operands.Label.{Label}
 use Rattle.shader_ir.specs.declared.proc.operands.Label.TheVariants.{Part, Read, Write, ReadWrite, Query, Atomic}
 use Rattle.shader_sweeps.specs.declared.facts.Fact.{Fact}

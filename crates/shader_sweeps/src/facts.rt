@@ -3,7 +3,8 @@
 ghost use Rattle.std.specs.Prelude.{◌≡◌, [], slice_get, IfOk};
 ghost use Rattle.std.specs.List.{enumerate_from};
 ghost use Rattle.shader_chains.specs.Origins.{argument_varies, binding_varies, built_in_varies, global_varies, is_source, space_varies};
-ghost use Rattle.shader_sweeps.specs.Facts.{callee_of, callee_origin, first_origin, form_needs, level_needs, needs_at, origin_at, own_needs, own_origin, own_root, result_at, result_needs, root_at, swept};
+ghost use Rattle.shader_sweeps.specs.Facts.{callee_of, callee_origin, first_origin, form_needs, level_needs, needs_at, origin_at};
+ghost use Rattle.shader_sweeps.specs.Facts.{own_needs, own_origin, own_root, result_at, result_needs, root_at, swept};
 
 use bitflags::Flags;
 use shader_arena::{Arena, Handle};
@@ -274,7 +275,8 @@ pub fn facts_of(
     infos: &[FunctionInfo],
     function: &Function,
 ) -> Result<Vec<Fact>, AllocError>
-    ensures { IfOk result (λ facts. facts.items ≡ swept «module».now infos.now function.now [] (enumerate_from 0 function.now.expressions)) }
+    ensures { IfOk result (λ facts. facts.items ≡ swept «module».now infos.now function.now []
+        (enumerate_from 0 function.now.expressions)) }
 {
     let mut facts = Vec::with_capacity(alloc, function.expressions.len())?;
     for (handle, expression) in function.expressions.iter() {

@@ -3,7 +3,8 @@ ghost use Rattle.std.specs.Prelude.{◌≡◌, Some, None};
 ghost use Rattle.std.specs.Option.{option_or};
 ghost use Rattle.shader_arena.specs.Places.{places_between};
 ghost use Rattle.shader_ir.specs.BodyOf.{cases_of, step_of};
-ghost use Rattle.shader_sweeps.specs.Ends.{behind, block_ends, block_fault, cases_end, cases_fault, either, exit_cause, first_needy, is_needy, killing, misplaced, on_branch, own_ends, own_fault, step_ends, step_fault};
+ghost use Rattle.shader_sweeps.specs.Ends.{behind, block_ends, block_fault, cases_end, cases_fault, either, exit_cause, first_needy};
+ghost use Rattle.shader_sweeps.specs.Ends.{is_needy, killing, misplaced, on_branch, own_ends, own_fault, step_ends, step_fault};
 ghost use Rattle.shader_sweeps.specs.Facts.{origin_at};
 
 use crate::facts::{Fact, origin_of, requirements_of};
@@ -161,7 +162,8 @@ pub fn sweep_block(
     block: &Block,
 ) -> Exits
     ensures exits { result ≡ block_ends (origin_at facts.now) (killing infos.now) disruptor.now block.now }
-    ensures first { seen.new.first ≡ option_or seen.old.first (block_fault (origin_at facts.now) (killing infos.now) facts.now disruptor.now block.now) }
+    ensures first { seen.new.first ≡ option_or seen.old.first
+        (block_fault (origin_at facts.now) (killing infos.now) facts.now disruptor.now block.now) }
 {
     let mut exits = STAYS;
     let mut flow = *disruptor;
@@ -183,7 +185,8 @@ fn sweep_statement(
     statement: &Statement,
 ) -> Exits
     ensures exits { result ≡ step_ends (origin_at facts.now) (killing infos.now) disruptor.now (step_of statement.now) }
-    ensures first { seen.new.first ≡ option_or seen.old.first (step_fault (origin_at facts.now) (killing infos.now) facts.now disruptor.now (step_of statement.now)) }
+    ensures first { seen.new.first ≡ option_or seen.old.first
+        (step_fault (origin_at facts.now) (killing infos.now) facts.now disruptor.now (step_of statement.now)) }
 {
     match statement {
         Statement::Block(block) => sweep_block(infos, facts, seen, disruptor, block),
@@ -226,7 +229,8 @@ fn sweep_cases(
     cases: &[SwitchCase],
 ) -> Exits
     ensures exits { result ≡ cases_end (origin_at facts.now) (killing infos.now) branch.now branch.now (cases_of cases.now) }
-    ensures first { seen.new.first ≡ option_or seen.old.first (cases_fault (origin_at facts.now) (killing infos.now) facts.now branch.now branch.now (cases_of cases.now)) }
+    ensures first { seen.new.first ≡ option_or seen.old.first
+        (cases_fault (origin_at facts.now) (killing infos.now) facts.now branch.now branch.now (cases_of cases.now)) }
 {
     let mut entered = *branch;
     let mut exits = STAYS;

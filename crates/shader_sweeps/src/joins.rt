@@ -3,7 +3,8 @@ ghost use Rattle.std.specs.Prelude.{◌≡◌, ℕ, ◌<◌, IfOk, None, length,
 ghost use Rattle.shader_arena.specs.Places.{places_between};
 ghost use Rattle.shader_ir.specs.BodyOf.{step_of};
 ghost use Rattle.shader_sweeps.specs.Gathered.{listed};
-ghost use Rattle.shader_sweeps.specs.Joined.{asked_by, asked_in, bits_at, given, given_by, joined_at, named_by, named_once, recorded_uses, statement_needs};
+ghost use Rattle.shader_sweeps.specs.Joined.{asked_by, asked_in, bits_at, given, given_by, joined_at};
+ghost use Rattle.shader_sweeps.specs.Joined.{named_by, named_once, recorded_uses, statement_needs};
 
 use crate::facts::{Fact, first_origin, function_requirements, requirements_of, root_of};
 use bitflags::Flags;

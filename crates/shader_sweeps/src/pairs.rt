@@ -90,7 +90,19 @@ fn in_caller(
 }
 
 impl Pairs {
-    ghost use Rattle.shader_sweeps.specs.Paired.{HasArgument, HaveArguments, pairs_of, key_pair, sampling_pair, SameMembers, pair_of, passed_all, info_pairs, called, sampled_pair};
+    ghost use Rattle.shader_sweeps.specs.Paired.{
+      HasArgument,
+      HaveArguments,
+      pairs_of,
+      key_pair,
+      sampling_pair,
+      SameMembers,
+      pair_of,
+      passed_all,
+      info_pairs,
+      called,
+      sampled_pair,
+    };
 
     /// Keeps the first expression that has no place.
     fn miss(&mut self, expression: Option<Handle<mark::Expression>>)
@@ -159,8 +171,11 @@ impl Pairs {
         image_expression: Option<Handle<mark::Expression>>,
         sampler_expression: Option<Handle<mark::Expression>>,
     ) -> Result<(), AllocError>
-        ensures members { OnOk result (SameMembers (pairs_of self.new) (pair_of (option_map place_view image) (option_map place_view sampler) ++ pairs_of self.old)) }
-        ensures unplaced { OnOk result (self.new.unplaced ≡ option_or (option_or self.old.unplaced (missed_of (option_map place_view image) image_expression)) (missed_of (option_map place_view sampler) sampler_expression)) }
+        ensures members { OnOk result (SameMembers (pairs_of self.new)
+            (pair_of (option_map place_view image) (option_map place_view sampler) ++ pairs_of self.old)) }
+        ensures unplaced { OnOk result (self.new.unplaced ≡ option_or
+            (option_or self.old.unplaced (missed_of (option_map place_view image) image_expression))
+            (missed_of (option_map place_view sampler) sampler_expression)) }
         ensures with_arguments { OnOk result (HaveArguments self.old.sampling.keys → HaveArguments self.new.sampling.keys) }
     {
         match image {
@@ -187,8 +202,10 @@ impl Pairs {
         arguments: &[Handle<mark::Expression>],
         open_pairs: &HashSet<Sampling>,
     ) -> Result<(), AllocError>
-        ensures members { OnOk result (SameMembers (pairs_of self.new) (passed_all function.now arguments.now (map sampling_pair open_pairs.now.keys) ++ pairs_of self.old)) }
-        ensures unplaced { OnOk result (self.new.unplaced ≡ fold (pair_missed function.now arguments.now) self.old.unplaced (map sampling_pair open_pairs.now.keys)) }
+        ensures members { OnOk result (SameMembers (pairs_of self.new)
+            (passed_all function.now arguments.now (map sampling_pair open_pairs.now.keys) ++ pairs_of self.old)) }
+        ensures unplaced { OnOk result (self.new.unplaced ≡ fold (pair_missed function.now arguments.now) self.old.unplaced
+            (map sampling_pair open_pairs.now.keys)) }
         ensures with_arguments { OnOk result (HaveArguments self.old.sampling.keys → HaveArguments self.new.sampling.keys) }
     {
         for pair in open_pairs.iter() {
@@ -209,7 +226,8 @@ impl Pairs {
         arguments: &[Handle<mark::Expression>],
         known: &HashSet<SamplingKey>,
     ) -> Result<(), AllocError>
-        ensures members { OnOk result (SameMembers (pairs_of self.new) (passed_all function.now arguments.now (map key_pair known.now.keys) ++ pairs_of self.old)) }
+        ensures members { OnOk result (SameMembers (pairs_of self.new)
+            (passed_all function.now arguments.now (map key_pair known.now.keys) ++ pairs_of self.old)) }
         ensures unplaced { OnOk result (self.new.unplaced ≡ self.old.unplaced) }
         ensures with_arguments { OnOk result (HaveArguments self.old.sampling.keys → HaveArguments self.new.sampling.keys) }
     {
@@ -229,8 +247,10 @@ impl Pairs {
         arguments: &[Handle<mark::Expression>],
         info: &FunctionInfo,
     ) -> Result<(), AllocError>
-        ensures members { OnOk result (SameMembers (pairs_of self.new) (passed_all function.now arguments.now (info_pairs info.now) ++ pairs_of self.old)) }
-        ensures unplaced { OnOk result (self.new.unplaced ≡ fold (pair_missed function.now arguments.now) self.old.unplaced (info_pairs info.now)) }
+        ensures members { OnOk result (SameMembers (pairs_of self.new)
+            (passed_all function.now arguments.now (info_pairs info.now) ++ pairs_of self.old)) }
+        ensures unplaced { OnOk result (self.new.unplaced ≡ fold (pair_missed function.now arguments.now) self.old.unplaced
+            (info_pairs info.now)) }
         ensures with_arguments { OnOk result (HaveArguments self.old.sampling.keys → HaveArguments self.new.sampling.keys) }
     {
         self.pass_known(function, arguments, &info.sampling_set)?;
@@ -245,7 +265,8 @@ impl Pairs {
         function: &Function,
         statement: &Statement,
     ) -> Result<(), AllocError>
-        ensures members { OnOk result (SameMembers (pairs_of self.new) (called infos.now function.now (step_of statement.now) ++ pairs_of self.old)) }
+        ensures members { OnOk result (SameMembers (pairs_of self.new)
+            (called infos.now function.now (step_of statement.now) ++ pairs_of self.old)) }
         ensures unplaced { OnOk result (self.new.unplaced ≡ call_missed infos.now function.now self.old.unplaced (step_of statement.now)) }
         ensures with_arguments { OnOk result (HaveArguments self.old.sampling.keys → HaveArguments self.new.sampling.keys) }
     {
@@ -271,7 +292,8 @@ impl Pairs {
         function: &Function,
         all: &[&Statement],
     ) -> Result<(), AllocError>
-        ensures members { OnOk result (SameMembers (pairs_of self.new) (flat_map (called infos.now function.now) (listed all.now) ++ pairs_of self.old)) }
+        ensures members { OnOk result (SameMembers (pairs_of self.new)
+            (flat_map (called infos.now function.now) (listed all.now) ++ pairs_of self.old)) }
         ensures unplaced { OnOk result (self.new.unplaced ≡ fold (call_missed infos.now function.now) self.old.unplaced (listed all.now)) }
         ensures with_arguments { OnOk result (HaveArguments self.old.sampling.keys → HaveArguments self.new.sampling.keys) }
     {
@@ -303,8 +325,10 @@ impl Pairs {
     /// Adds the pairs that all expressions sample.
     #[tactic(auto, using(crate::proofs::PairLemmas::gains))]
     pub fn sample_all(&mut self, function: &Function) -> Result<(), AllocError>
-        ensures members { OnOk result (SameMembers (pairs_of self.new) (flat_map (sampled_pair function.now) function.now.expressions ++ pairs_of self.old)) }
-        ensures unplaced { OnOk result (self.new.unplaced ≡ fold (sample_missed function.now) self.old.unplaced (enumerate_from 0 function.now.expressions)) }
+        ensures members { OnOk result (SameMembers (pairs_of self.new)
+            (flat_map (sampled_pair function.now) function.now.expressions ++ pairs_of self.old)) }
+        ensures unplaced { OnOk result (self.new.unplaced ≡ fold (sample_missed function.now) self.old.unplaced
+            (enumerate_from 0 function.now.expressions)) }
         ensures with_arguments { OnOk result (HaveArguments self.old.sampling.keys → HaveArguments self.new.sampling.keys) }
     {
         for (handle, expression) in function.expressions.iter() {
@@ -337,8 +361,12 @@ impl Pairs {
         function: &Function,
         all: &[&Statement],
     ) -> Result<Pairs, AllocError>
-        ensures members { IfOk result (λ pairs. SameMembers (pairs_of pairs) (flat_map (called infos.now function.now) (listed all.now) ++ (flat_map (sampled_pair function.now) function.now.expressions ++ []))) }
-        ensures unplaced { IfOk result (λ pairs. pairs.unplaced ≡ fold (call_missed infos.now function.now) (fold (sample_missed function.now) None (enumerate_from 0 function.now.expressions)) (listed all.now)) }
+        ensures members { IfOk result (λ pairs. SameMembers (pairs_of pairs)
+            (flat_map (called infos.now function.now) (listed all.now)
+            ++ (flat_map (sampled_pair function.now) function.now.expressions ++ []))) }
+        ensures unplaced { IfOk result (λ pairs. pairs.unplaced
+            ≡ fold (call_missed infos.now function.now) (fold (sample_missed function.now) None (enumerate_from 0 function.now.expressions))
+            (listed all.now)) }
         ensures with_arguments { IfOk result (λ pairs. HaveArguments pairs.sampling.keys) }
     {
         let mut pairs = Pairs::empty(alloc);

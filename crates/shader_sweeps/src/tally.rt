@@ -126,7 +126,13 @@ impl Tally {
         facts: &[Fact],
         all: &[&Statement],
     ) -> Result<Tally, AllocError>
-        ensures { IfOk result (λ tally. tally ≡ fold (occurred facts.now) (fold (occurred facts.now) (fold (occurred facts.now) (replicate (length function.now.expressions) 0, replicate (length «module».now.global_variables) 0, None) (flat_map expression_operands function.now.expressions)) (flat_map local_operands function.now.local_variables)) (flat_map statement_operands (listed all.now))) }
+        ensures { IfOk result (λ tally. tally ≡ fold (occurred facts.now)
+            (fold (occurred facts.now) (fold (occurred facts.now) (
+              replicate (length function.now.expressions) 0,
+              replicate (length «module».now.global_variables) 0,
+              None,
+            ) (flat_map expression_operands function.now.expressions))
+            (flat_map local_operands function.now.local_variables)) (flat_map statement_operands (listed all.now))) }
     {
         let mut tally = Tally {
             counts: vec![in alloc; 0; function.expressions.len()]?,
@@ -152,9 +158,14 @@ impl Tally {
         all: &[&Statement],
     ) -> Result<Tally, AllocError>
         requires { listed all.now ≡ statements function.now.body }
-        ensures counts { IfOk result (λ tally. tally.2 ≡ None → (e : ℕ) → e < length function.now.expressions → slice_get tally.0 e ≡ Some (count_of function.now e)) }
+        ensures counts { IfOk result (λ tally. tally.2 ≡ None → (e : ℕ) → e < length function.now.expressions →
+            slice_get tally.0 e ≡ Some (count_of function.now e)) }
         ensures full { IfOk result (λ tally. IfSome tally.2 (λ e. 2 ^ 64 ≤ count_of function.now e)) }
-        ensures uses { IfOk result (λ tally. tally ≡ fold (occurred facts.now) (replicate (length function.now.expressions) 0, replicate (length «module».now.global_variables) 0, None) (occurrences function.now)) }
+        ensures uses { IfOk result (λ tally. tally ≡ fold (occurred facts.now) (
+          replicate (length function.now.expressions) 0,
+          replicate (length «module».now.global_variables) 0,
+          None,
+        ) (occurrences function.now)) }
     {
         let tally = Tally::of_occurrences(alloc, module, function, facts, all)?;
         Ok(tally)

@@ -1,5 +1,6 @@
 -- Spelled types in an arena.
-use Rattle.std.proofs.Common.{rules, ◌≡◌, ℕ, zero, suc, ◌+◌, Bool, true, false, cond, List, [], ◌∷◌, ◌++◌, Some, length, refl, ap, subst, arith}
+use Rattle.std.proofs.Common.{rules, ◌≡◌, ℕ, zero, suc, ◌+◌, Bool, true, false, cond, List}
+use Rattle.std.proofs.Common.{[], ◌∷◌, ◌++◌, Some, length, refl, ap, subst, arith}
 use Rattle.std.specs.Prelude.{All, slice_get}
 use Rattle.std.specs.List.{list_any, position_or_len}
 use Rattle.std.proofs.lemmas.Bool.{and_parts}
@@ -19,7 +20,7 @@ use Rattle.shader_text.specs.declared.types.PlainType.TheVariants.{Scalar, Vecto
 use Rattle.shader_text.specs.declared.types.SpelledType.{SpelledType}
 use Rattle.shader_text.specs.declared.types.SpelledType.TheVariants.{Plain, Array}
 use Rattle.shader_text.specs.Placements.{AreFlat, IsPlaced, KeepsTypes, unnamed}
-use Rattle.shader_text.specs.Types.{inner_of}
+use Rattle.shader_text.specs.Types.{plain_inner}
 
 -- ---- an unnamed plain type equals itself alone
 
@@ -29,7 +30,7 @@ same_scalar x y h = search rules
 same_size : (x y : VectorSize) → size.ghosts.eq x y ≡ true → x ≡ y
 same_size x y h = search rules
 
-same_plain : (p : PlainType) (y : TypeInner) → inner.ghosts.eq (inner_of p) y ≡ true → y ≡ inner_of p
+same_plain : (p : PlainType) (y : TypeInner) → inner.ghosts.eq (plain_inner p) y ≡ true → y ≡ plain_inner p
 same_plain (Scalar t) y h = search rules
 same_plain (Vector n t) y h = search rules
 same_plain (Matrix c r t) (inners.Matrix c' r' t') h =
@@ -40,9 +41,9 @@ same_plain (Matrix c r t) (inners.Matrix c' r' t') h =
     let z = same_scalar t t' q.1 in cc
 same_plain (Matrix c r t) y h = search rules
 
-pub same_type : (p : PlainType) (y : «Type») → type.ghosts.eq (unnamed (inner_of p)) y ≡ true → y ≡ unnamed (inner_of p)
+pub same_type : (p : PlainType) (y : «Type») → type.ghosts.eq (unnamed (plain_inner p)) y ≡ true → y ≡ unnamed (plain_inner p)
 same_type p y h =
-    let both = and_parts _ (inner.ghosts.eq (inner_of p) y.inner) h in
+    let both = and_parts _ (inner.ghosts.eq (plain_inner p) y.inner) h in
     let same = same_plain p y.inner both.1 in
     search rules
 
@@ -65,22 +66,26 @@ inserted_at E k [] same = refl
 inserted_at E k (x ∷ ks) same = at_first E k x ks (E x) refl same (inserted_at E k ks same)
 
 -- the base of an array stands where it was inserted
-pub base_placed : (old new : List «Type») (p : PlainType) (i : TypeInner) (handle : ℕ) → i ≡ inner_of p
+pub base_placed : (old new : List «Type») (p : PlainType) (i : TypeInner) (handle : ℕ) → i ≡ plain_inner p
     → handle ≡ position_or_len (type.ghosts.eq (unnamed i)) old → new ≡ insert_key type.ghosts.eq old (unnamed i)
-    → slice_get new handle ≡ Some (unnamed (inner_of p))
+    → slice_get new handle ≡ Some (unnamed (plain_inner p))
 base_placed old new p i handle is at inserted =
-    rw (inserted, at, is) (inserted_at (type.ghosts.eq (unnamed (inner_of p))) (unnamed (inner_of p)) old (same_type p))
+    rw (inserted, at, is) (inserted_at (type.ghosts.eq (unnamed (plain_inner p))) (unnamed (plain_inner p)) old (same_type p))
 
 -- a placed type stays placed
-pub stays_placed : (old new : List «Type») (spelled : SpelledType) (i : TypeInner) → KeepsTypes old new → IsPlaced old spelled i → IsPlaced new spelled i
+pub stays_placed : (old new : List «Type») (spelled : SpelledType) (i : TypeInner) → KeepsTypes old new → IsPlaced old spelled i →
+    IsPlaced new spelled i
 stays_placed old new (Plain p) i keeps placed = placed
-stays_placed old new (Array base count stride) i keeps placed = (placed.0, keeps.kept placed.0 (unnamed (inner_of base)) placed.1, placed.2)
+stays_placed old new (Array base count stride) i keeps placed =
+    (placed.0, keeps.kept placed.0 (unnamed (plain_inner base)) placed.1, placed.2)
 
 -- ---- flat types
 
-found_flat : (types : List «Type») → All (λ (t : «Type»). type_handles t.inner ≡ []) types → (place : ℕ) (type : «Type») → slice_get types place ≡ Some type → type_handles type.inner ≡ []
+found_flat : (types : List «Type») → All (λ (t : «Type»). type_handles t.inner ≡ []) types → (place : ℕ) (type : «Type») →
+    slice_get types place ≡ Some type → type_handles type.inner ≡ []
 found_flat [] flat place type at = absurd (cc)
-found_flat (t ∷ types) flat zero type at = let same : t ≡ type = cc in subst (λ (u : «Type»). type_handles u.inner ≡ []) same (flat 0 t (omega arith))
+found_flat (t ∷ types) flat zero type at = let same : t ≡ type = cc in
+    subst (λ (u : «Type»). type_handles u.inner ≡ []) same (flat 0 t (omega arith))
 found_flat (t ∷ types) flat (suc place) type at = found_flat types (λ k d within. flat (suc k) d (omega arith)) place type at
 
 -- a type without handles names no type past a place

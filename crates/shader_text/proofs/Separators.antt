@@ -63,7 +63,8 @@ decimal_quiet n small = digits_quiet (decimal n) (digits_decimal (numerals_by_va
 
 -- ---- words between separators
 
-pub onto_piece : (b : Bool) (c : Bool) (x : ℕ) (s : List (List ℕ)) (z : List (List ℕ)) (xs : List ℕ) (more : List (List ℕ)) → (b || c) ≡ false
+pub onto_piece : (b : Bool) (c : Bool) (x : ℕ) (s : List (List ℕ)) (z : List (List ℕ)) (xs : List ℕ) (more : List (List ℕ)) →
+    (b || c) ≡ false
     → (c ≡ false → s ≡ xs ∷ more) → cond b z (onto_first x s) ≡ (x ∷ xs) ∷ more
 onto_piece true c x s z xs more none later = cc
 onto_piece false c x s z xs more none later = ap (onto_first x) (later none)
@@ -78,7 +79,8 @@ split_front separator (x ∷ xs) rest none itself =
 
 split_last : (separator : ℕ) (xs : List ℕ) → list_any (λ b. eqb b separator) xs ≡ false → slice_split (λ b. eqb b separator) xs ≡ xs ∷ []
 split_last separator [] none = refl
-split_last separator (x ∷ xs) none = onto_piece (eqb x separator) (list_any (λ b. eqb b separator) xs) x _ _ xs [] none (split_last separator xs)
+split_last separator (x ∷ xs) none = onto_piece (eqb x separator) (list_any (λ b. eqb b separator) xs) x _ _ xs [] none
+    (split_last separator xs)
 
 -- no word has the separator
 abbrev pub AreSolid : ℕ → List (List ℕ) → Type 0
@@ -86,7 +88,8 @@ AreSolid separator [] = Unit {0}
 AreSolid separator (word ∷ words) = (list_any (λ b. eqb b separator) word ≡ false) × AreSolid separator words
 
 -- words that were joined are cut again
-pub split_joined : (separator : ℕ) (word : List ℕ) (words : List (List ℕ)) → eqb separator separator ≡ true → AreSolid separator (word ∷ words)
+pub split_joined : (separator : ℕ) (word : List ℕ) (words : List (List ℕ)) → eqb separator separator ≡ true →
+    AreSolid separator (word ∷ words)
     → slice_split (λ b. eqb b separator) (join_with_byte separator (word ∷ words)) ≡ word ∷ words
 split_joined separator word [] itself solid = split_last separator word solid.0
 split_joined separator word (next ∷ words) itself solid =

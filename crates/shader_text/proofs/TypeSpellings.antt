@@ -1,5 +1,6 @@
 -- Words and the types that they spell, in both directions.
-use Rattle.std.proofs.Common.{◌≡◌, ℕ, ◌+◌, ◌-◌, ◌<◌, ◌≤◌, ◌^◌, Bool, true, false, cond, eqb, ltb, Option, Some, None, List, [], ◌∷◌, ◌++◌, length, take, drop, refl, sym, subst, ap, ◌∙◌, append_assoc, arith, length-append, not, ◌||◌}
+use Rattle.std.proofs.Common.{◌≡◌, ℕ, ◌+◌, ◌-◌, ◌<◌, ◌≤◌, ◌^◌, Bool, true, false, cond, eqb, ltb, Option, Some, None, List, [], ◌∷◌}
+use Rattle.std.proofs.Common.{◌++◌, length, take, drop, refl, sym, subst, ap, ◌∙◌, append_assoc, arith, length-append, not, ◌||◌}
 use Rattle.std.specs.Prelude.{codes}
 use Rattle.std.specs.Fmt.{decimal}
 use Rattle.std.specs.List.{position, position_or_len, list_any, slice_split, join_with_byte}
@@ -17,7 +18,8 @@ use Rattle.shader_ir.specs.declared.scalar.Scalar as s
 use Rattle.shader_ir.specs.declared.scalar.VectorSize.TheVariants.{Bi, Tri, Quad}
 use Rattle.shader_ir.specs.declared.scalar.VectorSize.{VectorSize}
 use Rattle.shader_text.specs.declared.scalars.ScalarName.{ScalarName}
-use Rattle.shader_text.specs.declared.scalars.ScalarName.TheVariants.{I16, I32, I64, U16, U32, U64, F16, F32, F64, AbstractInt, AbstractFloat}
+use Rattle.shader_text.specs.declared.scalars.ScalarName.TheVariants.{I16, I32, I64, U16, U32, U64, F16, F32}
+use Rattle.shader_text.specs.declared.scalars.ScalarName.TheVariants.{F64, AbstractInt, AbstractFloat}
 use Rattle.shader_text.specs.declared.scalars.ScalarName.TheVariants as names
 use Rattle.shader_text.specs.declared.shape.Shape.{Shape}
 use Rattle.shader_text.specs.declared.shape.Shape.TheVariants as shapes
@@ -27,9 +29,10 @@ use Rattle.shader_text.specs.declared.types.SpelledType.{SpelledType}
 use Rattle.shader_text.specs.declared.types.SpelledType.TheVariants.{Plain, Array}
 use Rattle.shader_text.specs.Cuts.{after_prefix, before_suffix, generic_parts}
 use Rattle.shader_text.specs.Laws.{TypesAreDistinct, TypesAreSpelled}
-use Rattle.shader_text.specs.Numbers.{number_of, count_of, positive}
-use Rattle.shader_text.specs.Scalars.{scalar_text, scalar_of, name_text, name_of, named_scalar, all_names, IsNamed}
-use Rattle.shader_text.specs.Types.{shape_text, shape_of, all_shapes, shape_type, plain_text, plain_of, plain_from, type_text, type_of, type_from, array_items, array_type, array_from, IsNamedPlain, IsWritable}
+use Rattle.shader_text.specs.Numbers.{number_of_word, count_of_word, positive}
+use Rattle.shader_text.specs.Scalars.{scalar_text, scalar_of_word, scalar_name_text, name_of, named_scalar, all_names, IsNamedScalar}
+use Rattle.shader_text.specs.Types.{shape_text, shape_of_word, all_shapes, shape_type, plain_text, plain_of, plain_from, type_text}
+use Rattle.shader_text.specs.Types.{type_of, type_from, array_items, array_type, array_from, IsNamedPlain, IsWritable}
 use Rattle.shader_text.proofs.Decimals.{number_named, number_is}
 use Rattle.shader_text.proofs.Found.{found_is, mapped}
 use Rattle.shader_text.proofs.Separators.{is_separator, is_break, is_comma, quiet_append, no_break, no_comma, decimal_quiet, split_joined}
@@ -38,7 +41,8 @@ use Rattle.shader_text.proofs.Separators.{is_separator, is_break, is_comma, quie
 
 -- a name's text names it, is its scalar's text, and has no separator
 abbrev NameFacts : ScalarName → Type 0
-NameFacts name = (name_of (name_text name) ≡ Some name) × (scalar_text (named_scalar name) ≡ name_text name) × (list_any is_separator (name_text name) ≡ false)
+NameFacts name = (name_of (scalar_name_text name) ≡ Some name) × (scalar_text (named_scalar name) ≡ scalar_name_text name) ×
+    (list_any is_separator (scalar_name_text name) ≡ false)
 
 sixteen : decimal 16 ≡ codes "16"
 sixteen = decimal-digits_of 16 (omega arith) (omega arith)
@@ -65,17 +69,17 @@ name_facts name = elim name as (λ name. NameFacts name) [
   | AbstractFloat ↦ (refl, refl, refl)
 ]
 
-scalar_named : (t : s.Scalar) → IsNamed t → scalar_of (scalar_text t) ≡ Some t
+scalar_named : (t : s.Scalar) → IsNamedScalar t → scalar_of_word (scalar_text t) ≡ Some t
 scalar_named t named =
     rw (named.1, (name_facts named.0).1, (name_facts named.0).0) refl
 
-scalar_quiet : (t : s.Scalar) → IsNamed t → list_any is_separator (scalar_text t) ≡ false
+scalar_quiet : (t : s.Scalar) → IsNamedScalar t → list_any is_separator (scalar_text t) ≡ false
 scalar_quiet t named = rw (named.1, (name_facts named.0).1) (name_facts named.0).2
 
-scalar_is : (word : List ℕ) (t : s.Scalar) → scalar_of word ≡ Some t → (word ≡ scalar_text t) × IsNamed t
+scalar_is : (word : List ℕ) (t : s.Scalar) → scalar_of_word word ≡ Some t → (word ≡ scalar_text t) × IsNamedScalar t
 scalar_is word t found =
     let m = mapped named_scalar (name_of word) t found in
-    let spelled = found_is name_text all_names word m.0 m.1 in
+    let spelled = found_is scalar_name_text all_names word m.0 m.1 in
     (spelled ∙ sym (name_facts m.0).1 ∙ ap scalar_text m.2, (m.0, sym m.2))
 
 -- ---- shapes
@@ -85,7 +89,8 @@ is_open b = eqb b 60
 
 -- a shape's text names it, and has no bracket and no separator
 abbrev ShapeFacts : Shape → Type 0
-ShapeFacts shape = (shape_of (shape_text shape) ≡ Some shape) × (list_any is_open (shape_text shape) ≡ false) × (list_any is_separator (shape_text shape) ≡ false)
+ShapeFacts shape = (shape_of_word (shape_text shape) ≡ Some shape) × (list_any is_open (shape_text shape) ≡ false) ×
+    (list_any is_separator (shape_text shape) ≡ false)
 
 pub size_cases : (P : VectorSize → Type 0) → P Bi → P Tri → P Quad → (n : VectorSize) → P n
 size_cases P two three four n = elim n as P [ Bi ↦ two | Tri ↦ three | Quad ↦ four ]
@@ -127,9 +132,15 @@ ended argument =
     let at : length (argument ++ 62 ∷ []) - 1 ≡ length argument = omega (arith, length-append argument (62 ∷ [])) in
     rw (at, drop-append_seam argument (62 ∷ []), take-append_seam argument (62 ∷ [])) refl
 
-generic_named : (name argument : List ℕ) → list_any is_open name ≡ false → generic_parts (generic_text name argument) ≡ Some (name, argument)
+generic_named : (name argument : List ℕ) → list_any is_open name ≡ false →
+    generic_parts (generic_text name argument) ≡ Some (name, argument)
 generic_named name argument none =
-    rw (open_at name (argument ++ 62 ∷ []) none, drop-append-add name (60 ∷ (argument ++ 62 ∷ [])) 1, ended argument, take-append_seam name (60 ∷ (argument ++ 62 ∷ []))) refl
+    rw (
+      open_at name (argument ++ 62 ∷ []) none,
+      drop-append-add name (60 ∷ (argument ++ 62 ∷ [])) 1,
+      ended argument,
+      take-append_seam name (60 ∷ (argument ++ 62 ∷ [])),
+    ) refl
 
 -- what stands before an end, with the end
 before_is : (end bytes front : List ℕ) → before_suffix end bytes ≡ Some front → bytes ≡ front ++ end
@@ -144,7 +155,8 @@ after_is : (front bytes rest : List ℕ) → after_prefix front bytes ≡ Some r
 after_is front bytes rest e =
     let h = cond_some (bytes_eq (take (length front) bytes) front) (drop (length front) bytes) rest e in
     let head = (bytes_eq-Decides (take (length front) bytes) front).0 h.0 in
-    sym (take-append-drop (length front) bytes) ∙ ap (λ (xs : List ℕ). xs ++ drop (length front) bytes) head ∙ ap (λ (xs : List ℕ). front ++ xs) h.1
+    sym (take-append-drop (length front) bytes) ∙ ap (λ (xs : List ℕ). xs ++ drop (length front) bytes) head
+    ∙ ap (λ (xs : List ℕ). front ++ xs) h.1
 
 generic_is : (word name argument : List ℕ) → generic_parts word ≡ Some (name, argument) → word ≡ generic_text name argument
 generic_is word name argument e =
@@ -169,21 +181,22 @@ generic_is word name argument e =
 
 -- ---- plain types
 
-shape_type-named : (shape : Shape) (t : s.Scalar) → IsNamed t → IsNamedPlain (shape_type shape t)
+shape_type-named : (shape : Shape) (t : s.Scalar) → IsNamedScalar t → IsNamedPlain (shape_type shape t)
 shape_type-named (shapes.Vector n) t named = named
 shape_type-named (shapes.Matrix c r) t named = named
 
-plain_is_by : (word : List ℕ) (p : PlainType) (parts : Option (List ℕ × List ℕ)) → generic_parts word ≡ parts → plain_from word parts ≡ Some p
+plain_is_by : (word : List ℕ) (p : PlainType) (parts : Option (List ℕ × List ℕ)) → generic_parts word ≡ parts →
+    plain_from word parts ≡ Some p
     → (word ≡ plain_text p) × IsNamedPlain p
 plain_is_by word p None cut e =
-    let m = mapped Scalar (scalar_of word) p e in
+    let m = mapped Scalar (scalar_of_word word) p e in
     let h = scalar_is word m.0 m.1 in
     rw (← m.2) h
 plain_is_by word p (Some parts) cut e =
     option_and_then_some {P = (word ≡ plain_text p) × IsNamedPlain p}
-    (λ t. option_map (λ shape. shape_type shape t) (shape_of parts.0)) (scalar_of parts.1) p e
+    (λ t. option_map (λ shape. shape_type shape t) (shape_of_word parts.0)) (scalar_of_word parts.1) p e
     (λ t found inner.
-    let m = mapped (λ (shape : Shape). shape_type shape t) (shape_of parts.0) p inner in
+    let m = mapped (λ (shape : Shape). shape_type shape t) (shape_of_word parts.0) p inner in
     let name = found_is shape_text all_shapes parts.0 m.0 m.1 in
     let argument = scalar_is parts.1 t found in
     let spelled : word ≡ plain_text (shape_type m.0 t) =
@@ -196,8 +209,8 @@ plain_is_by word p (Some parts) cut e =
 pub plain_is : (word : List ℕ) (p : PlainType) → plain_of word ≡ Some p → (word ≡ plain_text p) × IsNamedPlain p
 plain_is word p = plain_is_by word p (generic_parts word) refl
 
-name_plain : (name : ScalarName) → plain_of (name_text name) ≡ Some (Scalar (named_scalar name))
-name_plain name = elim name as (λ name. plain_of (name_text name) ≡ Some (Scalar (named_scalar name))) [
+name_plain : (name : ScalarName) → plain_of (scalar_name_text name) ≡ Some (Scalar (named_scalar name))
+name_plain name = elim name as (λ name. plain_of (scalar_name_text name) ≡ Some (Scalar (named_scalar name))) [
   | I16 ↦ refl
   | I32 ↦ refl
   | I64 ↦ refl
@@ -212,7 +225,8 @@ name_plain name = elim name as (λ name. plain_of (name_text name) ≡ Some (Sca
   | AbstractFloat ↦ refl
 ]
 
-generic_plain : (shape : Shape) (t : s.Scalar) → IsNamed t → plain_of (generic_text (shape_text shape) (scalar_text t)) ≡ Some (shape_type shape t)
+generic_plain : (shape : Shape) (t : s.Scalar) → IsNamedScalar t →
+    plain_of (generic_text (shape_text shape) (scalar_text t)) ≡ Some (shape_type shape t)
 generic_plain shape t named =
     rw (generic_named (shape_text shape) (scalar_text t) (shape_facts shape).1, scalar_named t named, (shape_facts shape).0) refl
 
@@ -221,7 +235,8 @@ plain_named (Scalar t) named = rw (named.1, (name_facts named.0).1) (name_plain 
 plain_named (Vector n t) named = ap plain_of (sym (shape_type-text (shapes.Vector n) t)) ∙ generic_plain (shapes.Vector n) t named
 plain_named (Matrix c r t) named = ap plain_of (sym (shape_type-text (shapes.Matrix c r) t)) ∙ generic_plain (shapes.Matrix c r) t named
 
-shaped_quiet : (shape : Shape) (t : s.Scalar) → IsNamed t → list_any is_separator (shape_text shape ++ codes "<" ++ scalar_text t ++ codes ">") ≡ false
+shaped_quiet : (shape : Shape) (t : s.Scalar) → IsNamedScalar t →
+    list_any is_separator (shape_text shape ++ codes "<" ++ scalar_text t ++ codes ">") ≡ false
 shaped_quiet shape t named =
     quiet_append is_separator (shape_text shape ++ codes "<" ++ scalar_text t) (codes ">")
     (quiet_append is_separator (shape_text shape ++ codes "<") (scalar_text t)
@@ -243,8 +258,8 @@ items_text base count stride = join_with_byte 44 (plain_text base ∷ decimal co
 items_named : (items : List ℕ) → array_items (codes "array<" ++ items ++ codes ">") ≡ Some items
 items_named items = ended items
 
-name_no_array : (name : ScalarName) → array_items (name_text name) ≡ None
-name_no_array name = elim name as (λ name. array_items (name_text name) ≡ None) [
+name_no_array : (name : ScalarName) → array_items (scalar_name_text name) ≡ None
+name_no_array name = elim name as (λ name. array_items (scalar_name_text name) ≡ None) [
   | I16 ↦ refl
   | I32 ↦ refl
   | I64 ↦ refl
@@ -267,7 +282,7 @@ plain_no_array (Matrix c r t) named = size_cases (λ c. array_items (plain_text 
     (size_cases (λ r. array_items (plain_text (Matrix Tri r t)) ≡ None) refl refl refl r)
     (size_cases (λ r. array_items (plain_text (Matrix Quad r t)) ≡ None) refl refl refl r) c
 
-count_named : (n : ℕ) → 1 ≤ n → n < 2 ^ 32 → count_of (decimal n) ≡ Some n
+count_named : (n : ℕ) → 1 ≤ n → n < 2 ^ 32 → count_of_word (decimal n) ≡ Some n
 count_named n some small =
     let positive : eqb n 0 ≡ false = ne_eqb n 0 (λ e. omega (arith, e)) in
     rw (number_named n small, positive) refl
@@ -276,15 +291,16 @@ positive_is : (b : Bool) (n count : ℕ) → b ≡ eqb n 0 → cond b None (Some
 positive_is true n count is e = cc
 positive_is false n count is e = let same = same_Some n count e in (same, omega (arith, same, eqb-false n 0 (sym is)))
 
-count_is : (word : List ℕ) (count : ℕ) → count_of word ≡ Some count → (word ≡ decimal count) × (1 ≤ count) × (count < 2 ^ 32)
+count_is : (word : List ℕ) (count : ℕ) → count_of_word word ≡ Some count → (word ≡ decimal count) × (1 ≤ count) × (count < 2 ^ 32)
 count_is word count e =
-    option_and_then_some {P = (word ≡ decimal count) × (1 ≤ count) × (count < 2 ^ 32)} positive (number_of word) count e
+    option_and_then_some {P = (word ≡ decimal count) × (1 ≤ count) × (count < 2 ^ 32)} positive (number_of_word word) count e
     (λ n found inner.
     let h = number_is word n found in
     let p = positive_is (eqb n 0) n count refl inner in
     (h.0 ∙ ap decimal p.0, p.1, omega (arith, h.1, p.0)))
 
-array_named : (base : PlainType) (count stride : ℕ) → IsWritable (Array base count stride) → type_of (type_text (Array base count stride)) ≡ Some (Array base count stride)
+array_named : (base : PlainType) (count stride : ℕ) → IsWritable (Array base count stride) →
+    type_of (type_text (Array base count stride)) ≡ Some (Array base count stride)
 array_named base count stride writable =
     let cut = split_joined 44 (plain_text base) (decimal count ∷ decimal stride ∷ []) refl (
       no_comma (plain_text base) (plain_quiet base writable.0),
@@ -293,7 +309,13 @@ array_named base count stride writable =
         (no_comma (decimal stride) (decimal_quiet stride (omega (arith, writable.3))), tt),
       ),
     ) in
-    rw (items_named (items_text base count stride), cut, plain_named base writable.0, count_named count writable.1 writable.2, number_named stride writable.3) refl
+    rw (
+      items_named (items_text base count stride),
+      cut,
+      plain_named base writable.0,
+      count_named count writable.1 writable.2,
+      number_named stride writable.3,
+    ) refl
 
 -- words in an array's brackets
 abbrev within : List (List ℕ) → List ℕ
@@ -303,10 +325,12 @@ array_type_is : (base count stride : List ℕ) (t : SpelledType) → array_type 
     → (type_text t ≡ within (base ∷ count ∷ stride ∷ [])) × IsWritable t
 array_type_is base count stride t e =
     let Goal : SpelledType → Type 0 = λ u. (type_text u ≡ within (base ∷ count ∷ stride ∷ [])) × IsWritable u in
-    option_and_then_some {P = Goal t} (λ plain. option_and_then (λ n. option_map (λ bytes. Array plain n bytes) (number_of stride)) (count_of count)) (plain_of base) t e
-    (λ plain found_plain e'. option_and_then_some {P = Goal t} (λ n. option_map (λ bytes. Array plain n bytes) (number_of stride)) (count_of count) t e'
+    option_and_then_some {P = Goal t} (λ plain. option_and_then (λ n. option_map (λ bytes. Array plain n bytes) (number_of_word stride))
+    (count_of_word count)) (plain_of base) t e
+    (λ plain found_plain e'. option_and_then_some {P = Goal t} (λ n. option_map (λ bytes. Array plain n bytes) (number_of_word stride))
+    (count_of_word count) t e'
     (λ n found_count e''.
-    let m = mapped (λ (bytes : ℕ). Array plain n bytes) (number_of stride) t e'' in
+    let m = mapped (λ (bytes : ℕ). Array plain n bytes) (number_of_word stride) t e'' in
     let p = plain_is base plain found_plain in
     let c = count_is count n found_count in
     let b = number_is stride m.0 m.1 in
@@ -326,8 +350,10 @@ array_from_is (a ∷ b ∷ c ∷ d ∷ more) t e = cc
 
 items_are : (word items : List ℕ) → array_items word ≡ Some items → word ≡ codes "array<" ++ items ++ codes ">"
 items_are word items e =
-    option_and_then_some {P = word ≡ codes "array<" ++ items ++ codes ">"} (before_suffix (codes ">")) (after_prefix (codes "array<") word) items e
-    (λ rest behind inner. after_is (codes "array<") word rest behind ∙ ap (λ (xs : List ℕ). codes "array<" ++ xs) (before_is (codes ">") rest items inner))
+    option_and_then_some {P = word ≡ codes "array<" ++ items ++ codes ">"} (before_suffix (codes ">"))
+    (after_prefix (codes "array<") word) items e
+    (λ rest behind inner. after_is (codes "array<") word rest behind
+    ∙ ap (λ (xs : List ℕ). codes "array<" ++ xs) (before_is (codes ">") rest items inner))
 
 -- ---- all types
 
@@ -338,8 +364,11 @@ type_is_by word t None cut e =
     let h = plain_is word m.0 m.1 in
     rw (← m.2) h
 type_is_by word t (Some items) cut e =
-    let h = array_from_is (slice_split is_comma items) t e in
-    (items_are word items cut ∙ ap (λ (xs : List ℕ). codes "array<" ++ xs ++ codes ">") (sym (join_with_byte-slice_split 44 items)) ∙ sym h.0, h.1)
+    let h = array_from_is (slice_split is_comma items) t e in (
+      items_are word items cut ∙ ap (λ (xs : List ℕ). codes "array<" ++ xs ++ codes ">") (sym (join_with_byte-slice_split 44 items))
+          ∙ sym h.0,
+      h.1,
+    )
 
 pub type_is : (word : List ℕ) (t : SpelledType) → type_of word ≡ Some t → (word ≡ type_text t) × IsWritable t
 type_is word t = type_is_by word t (array_items word) refl
@@ -356,8 +385,10 @@ pub type_quiet : (t : SpelledType) → IsWritable t → list_any is_break (type_
 type_quiet (Plain p) named = no_break (plain_text p) (plain_quiet p named)
 type_quiet (Array base count stride) writable =
     array_quiet (items_text base count stride)
-    (quiet_append is_break (plain_text base) (44 ∷ (decimal count ++ 44 ∷ decimal stride)) (no_break (plain_text base) (plain_quiet base writable.0))
-    (quiet_append is_break (decimal count) (44 ∷ decimal stride) (no_break (decimal count) (decimal_quiet count (omega (arith, writable.2))))
+    (quiet_append is_break (plain_text base) (44 ∷ (decimal count ++ 44 ∷ decimal stride))
+    (no_break (plain_text base) (plain_quiet base writable.0))
+    (quiet_append is_break (decimal count) (44 ∷ decimal stride)
+    (no_break (decimal count) (decimal_quiet count (omega (arith, writable.2))))
     (no_break (decimal stride) (decimal_quiet stride (omega (arith, writable.3))))))
 
 pub types_are_spelled : TypesAreSpelled

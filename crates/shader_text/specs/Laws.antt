@@ -4,7 +4,7 @@ use Rattle.std.specs.Fmt.{decimal}
 use Rattle.shader_ir.specs.declared.operators.MathFunction.{MathFunction}
 use Rattle.shader_text.specs.declared.types.SpelledType.{SpelledType}
 use Rattle.shader_text.specs.Builtins.{builtin_of, builtin_text}
-use Rattle.shader_text.specs.Numbers.{number_of}
+use Rattle.shader_text.specs.Numbers.{number_of_word}
 use Rattle.shader_text.specs.Types.{type_text, type_of, IsWritable}
 
 -- a word spells a type exactly where it is the type's text
@@ -26,5 +26,5 @@ BuiltinsAreNamed = (word : List ℕ) (function : MathFunction)
 -- a word is a number of 32 bits exactly where it is the number's decimal
 abbrev pub NumbersAreDecimals : Type 0
 NumbersAreDecimals = (word : List ℕ) (n : ℕ)
-    → (number_of word ≡ Some n → (word ≡ decimal n) × (n < 2 ^ 32))
-    × (word ≡ decimal n → n < 2 ^ 32 → number_of word ≡ Some n)
+    → (number_of_word word ≡ Some n → (word ≡ decimal n) × (n < 2 ^ 32))
+    × (word ≡ decimal n → n < 2 ^ 32 → number_of_word word ≡ Some n)

@@ -6,8 +6,8 @@ use Rattle.std.specs.Str.Parse.{digits_value}
 use Rattle.std.specs.Fmt.{decimal}
 
 -- the number of 32 bits whose decimal the word is
-abbrev pub number_of : List ℕ → Option ℕ
-number_of word =
+abbrev pub number_of_word : List ℕ → Option ℕ
+number_of_word word =
     let number = digits_value 10 word in
     if nat_lt number (2 ^ 32) && bytes_eq (decimal number) word then Some number else None
 
@@ -16,5 +16,5 @@ abbrev pub positive : ℕ → Option ℕ
 positive number = if number == 0 then None else Some number
 
 -- the count of 1 to 4,294,967,295 whose decimal the word is
-abbrev pub count_of : List ℕ → Option ℕ
-count_of word = option_and_then positive (number_of word)
+abbrev pub count_of_word : List ℕ → Option ℕ
+count_of_word word = option_and_then positive (number_of_word word)

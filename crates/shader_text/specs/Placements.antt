@@ -9,7 +9,7 @@ use Rattle.shader_ir.specs.declared.types.TypeInner.TheVariants as inner
 use Rattle.shader_ir.specs.TypeTree.{type_handles}
 use Rattle.shader_text.specs.declared.types.SpelledType.{SpelledType}
 use Rattle.shader_text.specs.declared.types.SpelledType.TheVariants.{Plain, Array}
-use Rattle.shader_text.specs.Types.{inner_of}
+use Rattle.shader_text.specs.Types.{plain_inner}
 
 -- a type with no name
 abbrev pub unnamed : TypeInner → «Type»
@@ -26,22 +26,22 @@ pub record KeepsTypes (old new : List «Type») : Type 0 where
 
 -- the type in the IR is the one spelled, and its base is in the arena
 abbrev pub IsPlaced : List «Type» → SpelledType → TypeInner → Type 0
-IsPlaced types (Plain plain) placed = placed ≡ inner_of plain
+IsPlaced types (Plain plain) placed = placed ≡ plain_inner plain
 IsPlaced types (Array base count stride) placed =
-    (place : ℕ) × (slice_get types place ≡ Some (unnamed (inner_of base))) × (placed ≡ inner.Array place (Constant count) stride)
+    (place : ℕ) × (slice_get types place ≡ Some (unnamed (plain_inner base))) × (placed ≡ inner.Array place (Constant count) stride)
 
 -- memory is asked for the base of an array alone, where the arena doesn't have it
 abbrev pub AsksMemory : List «Type» → SpelledType → Type 0
 AsksMemory types (Plain plain) = ⊥
-AsksMemory types (Array base count stride) = has_equal type.ghosts.eq types (unnamed (inner_of base)) ≡ false
+AsksMemory types (Array base count stride) = has_equal type.ghosts.eq types (unnamed (plain_inner base)) ≡ false
 
 -- ---- a type in an arena of its own
 
 -- the arena holds the base of an array and nothing else
 abbrev pub own_types : SpelledType → List «Type»
 own_types (Plain plain) = []
-own_types (Array base count stride) = unnamed (inner_of base) ∷ []
+own_types (Array base count stride) = unnamed (plain_inner base) ∷ []
 
 abbrev pub own_inner : SpelledType → TypeInner
-own_inner (Plain plain) = inner_of plain
+own_inner (Plain plain) = plain_inner plain
 own_inner (Array base count stride) = inner.Array 0 (Constant count) stride

@@ -8,7 +8,8 @@ use Rattle.shader_ir.specs.declared.scalar.ScalarKind.TheVariants as kinds
 use Rattle.shader_ir.specs.declared.scalar.Scalar.{Scalar}
 use Rattle.shader_ir.specs.Scalars.{scalar}
 use Rattle.shader_text.specs.declared.scalars.ScalarName.{ScalarName}
-use Rattle.shader_text.specs.declared.scalars.ScalarName.TheVariants.{I16, I32, I64, U16, U32, U64, F16, F32, F64, AbstractInt, AbstractFloat}
+use Rattle.shader_text.specs.declared.scalars.ScalarName.TheVariants.{I16, I32, I64, U16, U32, U64, F16, F32}
+use Rattle.shader_text.specs.declared.scalars.ScalarName.TheVariants.{F64, AbstractInt, AbstractFloat}
 use Rattle.shader_text.specs.declared.scalars.ScalarName.TheVariants as names
 
 abbrev pub kind_text : ScalarKind → ℕ → List ℕ
@@ -23,19 +24,19 @@ kind_text kinds.AbstractFloat bits = codes "AbstractFloat"
 abbrev pub scalar_text : Scalar → List ℕ
 scalar_text scalar = kind_text scalar.kind (8 * scalar.width)
 
-abbrev pub name_text : ScalarName → List ℕ
-name_text I16 = codes "i16"
-name_text I32 = codes "i32"
-name_text I64 = codes "i64"
-name_text U16 = codes "u16"
-name_text U32 = codes "u32"
-name_text U64 = codes "u64"
-name_text F16 = codes "f16"
-name_text F32 = codes "f32"
-name_text F64 = codes "f64"
-name_text names.Bool = codes "bool"
-name_text AbstractInt = codes "AbstractInt"
-name_text AbstractFloat = codes "AbstractFloat"
+abbrev pub scalar_name_text : ScalarName → List ℕ
+scalar_name_text I16 = codes "i16"
+scalar_name_text I32 = codes "i32"
+scalar_name_text I64 = codes "i64"
+scalar_name_text U16 = codes "u16"
+scalar_name_text U32 = codes "u32"
+scalar_name_text U64 = codes "u64"
+scalar_name_text F16 = codes "f16"
+scalar_name_text F32 = codes "f32"
+scalar_name_text F64 = codes "f64"
+scalar_name_text names.Bool = codes "bool"
+scalar_name_text AbstractInt = codes "AbstractInt"
+scalar_name_text AbstractFloat = codes "AbstractFloat"
 
 abbrev pub named_scalar : ScalarName → Scalar
 named_scalar I16 = scalar kinds.Sint 2
@@ -55,12 +56,12 @@ abbrev pub all_names : List ScalarName
 all_names = I16 ∷ I32 ∷ I64 ∷ U16 ∷ U32 ∷ U64 ∷ F16 ∷ F32 ∷ F64 ∷ names.Bool ∷ AbstractInt ∷ AbstractFloat ∷ []
 
 abbrev pub name_of : List ℕ → Option ScalarName
-name_of word = find (λ name. bytes_eq (name_text name) word) all_names
+name_of word = find (λ name. bytes_eq (scalar_name_text name) word) all_names
 
 -- the scalar that a word names
-abbrev pub scalar_of : List ℕ → Option Scalar
-scalar_of word = option_map named_scalar (name_of word)
+abbrev pub scalar_of_word : List ℕ → Option Scalar
+scalar_of_word word = option_map named_scalar (name_of word)
 
 -- a word names the scalar
-abbrev pub IsNamed : Scalar → Type 0
-IsNamed scalar = (name : ScalarName) × (scalar ≡ named_scalar name)
+abbrev pub IsNamedScalar : Scalar → Type 0
+IsNamedScalar scalar = (name : ScalarName) × (scalar ≡ named_scalar name)

@@ -17,8 +17,8 @@ use Rattle.shader_text.specs.declared.types.PlainType.TheVariants.{Scalar, Vecto
 use Rattle.shader_text.specs.declared.types.SpelledType.{SpelledType}
 use Rattle.shader_text.specs.declared.types.SpelledType.TheVariants.{Plain, Array}
 use Rattle.shader_text.specs.Cuts.{after_prefix, before_suffix, generic_parts}
-use Rattle.shader_text.specs.Numbers.{number_of, count_of}
-use Rattle.shader_text.specs.Scalars.{scalar_text, scalar_of, IsNamed}
+use Rattle.shader_text.specs.Numbers.{number_of_word, count_of_word}
+use Rattle.shader_text.specs.Scalars.{scalar_text, scalar_of_word, IsNamedScalar}
 
 -- ---- how types are written
 
@@ -41,9 +41,9 @@ type_text (Array base count stride) =
 
 -- a type whose scalar has a name
 abbrev pub IsNamedPlain : PlainType → Type 0
-IsNamedPlain (Scalar scalar) = IsNamed scalar
-IsNamedPlain (Vector size scalar) = IsNamed scalar
-IsNamedPlain (Matrix columns rows scalar) = IsNamed scalar
+IsNamedPlain (Scalar scalar) = IsNamedScalar scalar
+IsNamedPlain (Vector size scalar) = IsNamedScalar scalar
+IsNamedPlain (Matrix columns rows scalar) = IsNamedScalar scalar
 
 -- a type that can be written: its scalar has a name, and its numbers have 32 bits
 abbrev pub IsWritable : SpelledType → Type 0
@@ -58,17 +58,17 @@ all_shapes = shapes.Vector Bi ∷ shapes.Vector Tri ∷ shapes.Vector Quad
     ∷ shapes.Matrix Tri Bi ∷ shapes.Matrix Tri Tri ∷ shapes.Matrix Tri Quad
     ∷ shapes.Matrix Quad Bi ∷ shapes.Matrix Quad Tri ∷ shapes.Matrix Quad Quad ∷ []
 
-abbrev pub shape_of : List ℕ → Option Shape
-shape_of word = find (λ shape. bytes_eq (shape_text shape) word) all_shapes
+abbrev pub shape_of_word : List ℕ → Option Shape
+shape_of_word word = find (λ shape. bytes_eq (shape_text shape) word) all_shapes
 
 abbrev pub shape_type : Shape → s.Scalar → PlainType
 shape_type (shapes.Vector size) scalar = Vector size scalar
 shape_type (shapes.Matrix columns rows) scalar = Matrix columns rows scalar
 
 abbrev pub plain_from : List ℕ → Option (List ℕ × List ℕ) → Option PlainType
-plain_from word None = option_map Scalar (scalar_of word)
+plain_from word None = option_map Scalar (scalar_of_word word)
 plain_from word (Some parts) = option_and_then (λ scalar. option_map (λ shape. shape_type shape scalar)
-    (shape_of parts.0)) (scalar_of parts.1)
+    (shape_of_word parts.0)) (scalar_of_word parts.1)
 
 -- a shape and a scalar in brackets, or else a scalar
 abbrev pub plain_of : List ℕ → Option PlainType
@@ -81,7 +81,7 @@ array_items word = option_and_then (before_suffix (codes ">")) (after_prefix (co
 -- the array that three words spell
 abbrev pub array_type : List ℕ → List ℕ → List ℕ → Option SpelledType
 array_type base count stride = option_and_then (λ plain. option_and_then (λ n. option_map (λ bytes. Array plain n bytes)
-    (number_of stride)) (count_of count)) (plain_of base)
+    (number_of_word stride)) (count_of_word count)) (plain_of base)
 
 abbrev pub array_from : List (List ℕ) → Option SpelledType
 array_from (base ∷ count ∷ stride ∷ []) = array_type base count stride
@@ -96,7 +96,7 @@ type_of word = type_from word (array_items word)
 
 -- ---- what the types are in the IR
 
-abbrev pub inner_of : PlainType → TypeInner
-inner_of (Scalar scalar) = inner.Scalar scalar
-inner_of (Vector size scalar) = inner.Vector size scalar
-inner_of (Matrix columns rows scalar) = inner.Matrix columns rows scalar
+abbrev pub plain_inner : PlainType → TypeInner
+plain_inner (Scalar scalar) = inner.Scalar scalar
+plain_inner (Vector size scalar) = inner.Vector size scalar
+plain_inner (Matrix columns rows scalar) = inner.Matrix columns rows scalar

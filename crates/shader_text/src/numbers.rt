@@ -1,13 +1,13 @@
 //! Numbers in decimal, with no leading zero.
 
 ghost use Rattle.std.specs.Prelude.{◌≡◌};
-ghost use Rattle.shader_text.specs.Numbers.{number_of};
+ghost use Rattle.shader_text.specs.Numbers.{number_of_word};
 
 use std::str;
 
 /// The number of 32 bits whose decimal the word is.
 pub fn number_from_word(word: &[u8]) -> Option<u32>
-    ensures { result ≡ number_of word.now }
+    ensures { result ≡ number_of_word word.now }
 {
     let Ok(text) = str::from_utf8(word) else {
         return None;

@@ -1,7 +1,7 @@
 //! Scalars as words.
 
 ghost use Rattle.std.specs.Prelude.{◌≡◌};
-ghost use Rattle.shader_text.specs.Scalars.{scalar_of};
+ghost use Rattle.shader_text.specs.Scalars.{scalar_of_word};
 
 use shader_ir::{Scalar, ScalarKind};
 use std::fmt;
@@ -9,22 +9,34 @@ use std::fmt;
 /// A word that names a scalar.
 #[derive(Clone, Copy, Debug, PartialEq, Eq)]
 pub enum ScalarName {
+    /// A signed integer of 16 bits.
     I16,
+    /// A signed integer of 32 bits.
     I32,
+    /// A signed integer of 64 bits.
     I64,
+    /// An unsigned integer of 16 bits.
     U16,
+    /// An unsigned integer of 32 bits.
     U32,
+    /// An unsigned integer of 64 bits.
     U64,
+    /// A float of 16 bits.
     F16,
+    /// A float of 32 bits.
     F32,
+    /// A float of 64 bits.
     F64,
+    /// True or false.
     Bool,
+    /// The integer of a constant expression, before it is given a type.
     AbstractInt,
+    /// The float of a constant expression, before it is given a type.
     AbstractFloat,
 }
 
 impl ScalarName {
-    ghost use Rattle.shader_text.specs.Scalars.{name_of, name_text, named_scalar};
+    ghost use Rattle.shader_text.specs.Scalars.{name_of, scalar_name_text, named_scalar};
 
     const ALL: [ScalarName; 12] = [
         ScalarName::I16,
@@ -42,7 +54,7 @@ impl ScalarName {
     ];
 
     fn word(self) -> &'static str
-        ensures { result.now ≡ name_text self }
+        ensures { result.now ≡ scalar_name_text self }
     {
         match self {
             ScalarName::I16 => "i16",
@@ -91,7 +103,7 @@ impl ScalarName {
 
 /// The scalar that the word names.
 pub fn scalar_from_word(word: &[u8]) -> Option<Scalar>
-    ensures { result ≡ scalar_of word.now }
+    ensures { result ≡ scalar_of_word word.now }
 {
     ScalarName::from_word(word).map(ScalarName::scalar)
 }

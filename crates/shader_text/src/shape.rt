@@ -1,7 +1,7 @@
 //! Vectors and matrices before they have a scalar.
 
 ghost use Rattle.std.specs.Prelude.{◌≡◌};
-ghost use Rattle.shader_text.specs.Types.{shape_of};
+ghost use Rattle.shader_text.specs.Types.{shape_of_word};
 
 use shader_ir::VectorSize;
 
@@ -16,7 +16,7 @@ pub enum Shape {
 
 /// The shape that the word names.
 pub fn shape_from_word(word: &[u8]) -> Option<Shape>
-    ensures { result ≡ shape_of word.now }
+    ensures { result ≡ shape_of_word word.now }
 {
     match word {
         b"vec2" => Some(Shape::Vector(VectorSize::Bi)),

@@ -42,7 +42,7 @@ pub enum SpelledType {
 }
 
 impl PlainType {
-    ghost use Rattle.shader_text.specs.Types.{inner_of, plain_of, shape_type};
+    ghost use Rattle.shader_text.specs.Types.{plain_inner, plain_of, shape_type};
 
     /// The type with this shape and scalar.
     fn of(shape: Shape, scalar: Scalar) -> PlainType
@@ -72,7 +72,7 @@ impl PlainType {
 
     /// The type as the IR has it.
     pub fn inner(self) -> TypeInner
-        ensures { result ≡ inner_of self }
+        ensures { result ≡ plain_inner self }
     {
         match self {
             PlainType::Scalar(scalar) => TypeInner::Scalar(scalar),
@@ -92,7 +92,7 @@ impl PlainType {
 
 /// The count of 1 to 4,294,967,295 whose decimal the word is.
 fn count_from_word(word: &[u8]) -> Option<Count>
-    ensures { result ≡ count_of word.now }
+    ensures { result ≡ count_of_word word.now }
 {
     Count::new(number_from_word(word)?)
 }
@@ -104,7 +104,7 @@ fn array_items(word: &[u8]) -> Option<&[u8]>
     before_suffix(after_prefix(word, b"array<")?, b">")
 }
 
-ghost use Rattle.shader_text.specs.Numbers.{count_of};
+ghost use Rattle.shader_text.specs.Numbers.{count_of_word};
 ghost use Rattle.shader_text.specs.Types.{array_items};
 
 impl SpelledType {

@@ -25,7 +25,8 @@ module _ (m : Module) where
   at_site P of_function of_entry (site.Function i) f is = of_function i f is
   at_site P of_function of_entry (site.EntryPoint i) f is = subst P is.2 (of_entry i is.0 is.1)
 
-  pub analyzable : IsWellFormed m → (at : AnalysisPlace) (f : Function) → IsFunctionAt m at f → (infos : List FunctionInfo) → AreHeld m infos → IsAnalyzable m infos f
+  pub analyzable : IsWellFormed m → (at : AnalysisPlace) (f : Function) → IsFunctionAt m at f → (infos : List FunctionInfo) →
+      AreHeld m infos → IsAnalyzable m infos f
   analyzable well at f is infos held =
       let fit = contexts_of_well_formed m well in
       let earlier = point_backwards m well in
@@ -34,9 +35,11 @@ module _ (m : Module) where
         types = well.types;
         context = at_site (FunctionFits m) (λ i g is_g. at_place (FunctionFits m) m.functions i g fit.functions is_g)
             (λ i entry is_entry. at_place (EntryPointFits m) m.entry_points i entry fit.entry_points is_entry) at f is;
-        operands = at_site PointsBackwards (λ i g is_g. earlier.expressions i g is_g) (λ i entry is_entry. earlier.entry_expressions i entry is_entry) at f is;
+        operands = at_site PointsBackwards (λ i g is_g. earlier.expressions i g is_g)
+            (λ i entry is_entry. earlier.entry_expressions i entry is_entry) at f is;
         handles = at_site (FunctionInRange m) (λ i g is_g. within.functions i g is_g)
-            (λ i entry is_entry. at_place (λ (x : EntryPoint). FunctionInRange m x.function) m.entry_points i entry within.entry_points is_entry) at f is;
+            (λ i entry is_entry. at_place (λ (x : EntryPoint). FunctionInRange m x.function) m.entry_points i entry within.entry_points
+            is_entry) at f is;
         filters = well.filters;
         held = held;
       }
@@ -48,7 +51,9 @@ module _ (m : Module) where
       sym is.2 ∙ (ap (λ (entry : EntryPoint). entry.function) (same_Some is.0 other.0 (sym is.1 ∙ other.1)) ∙ other.2)
 
   -- what is told of the infos taken and of the function found is told of those before the place and of the one at it
-  pub told_at : (P : List FunctionInfo → Function → Type 0) (recorded : Recorded) (at : AnalysisPlace) (infos : List FunctionInfo) (f : Function) →
-      infos ≡ infos_before m recorded at → IsFunctionAt m at f → P infos f → (g : Function) → IsFunctionAt m at g → P (infos_before m recorded at) g
+  pub told_at : (P : List FunctionInfo → Function → Type 0) (recorded : Recorded) (at : AnalysisPlace) (infos : List FunctionInfo)
+      (f : Function) →
+      infos ≡ infos_before m recorded at → IsFunctionAt m at f → P infos f → (g : Function) → IsFunctionAt m at g →
+      P (infos_before m recorded at) g
   told_at P recorded at infos f same is_f told g is_g =
       subst (λ x. P (infos_before m recorded at) x) (same_function at f g is_f is_g) (subst (λ v. P v f) same told)

@@ -11,7 +11,8 @@ use Rattle.shader_typing.proofs.PlaceLemmas.{found_at}
 use Rattle.shader_typing.specs.Divergence.{AnalyzedWalksAgree, IsOf, entry_point, function}
 
 -- a list of the same length has an item at the same place
-beside : {X Y : Type 0} (xs : List X) (ys : List Y) (i : ℕ) (x : X) → length ys ≡ length xs → slice_get xs i ≡ Some x → (y : Y) × (slice_get ys i ≡ Some y)
+beside : {X Y : Type 0} (xs : List X) (ys : List Y) (i : ℕ) (x : X) → length ys ≡ length xs → slice_get xs i ≡ Some x →
+    (y : Y) × (slice_get ys i ≡ Some y)
 beside xs ys i x long is = found_at ys i (subst (λ n. i < n) (sym long) (slice_get_within xs i x is))
 
 -- an exact info is recorded of each function and entry point
@@ -30,4 +31,5 @@ analyzed_walks_agree m settings types functions entry_points exact accepted chec
     accepted_walks_agree m settings f held.0 held.1 plain checked governed (λ cause fault. accepted _ cause (in_function is fault))
 analyzed_walks_agree m settings types functions entry_points exact accepted checked _ (entry_point i entry is) plain governed =
     let held = recorded m types functions entry_points exact entry.function (entry_point i entry is) in
-    accepted_walks_agree m settings entry.function held.0 held.1 plain checked governed (λ cause fault. accepted _ cause (in_entry_point is fault))
+    accepted_walks_agree m settings entry.function held.0 held.1 plain checked governed
+    (λ cause fault. accepted _ cause (in_entry_point is fault))

@@ -2,7 +2,8 @@
 use Rattle.std.proofs.Common.{◌≡◌, refl, sym, subst, ℕ, zero, suc, ◌<◌, List, [], ◌∷◌, map, fold, slice_index, bit_or, arith}
 use Rattle.std.proofs.lemmas.Nat.{or_lt}
 use Rattle.shader_arena.specs.Places.{places_between}
-use Rattle.shader_chains.specs.Program.{Function, Module, Step, Leaf, Emit, ControlBarrier, MemoryBarrier, WorkGroupUniformLoad, CooperativeStore, Call, statements}
+use Rattle.shader_chains.specs.Program.{Function, Module, Step, Leaf, Emit, ControlBarrier, MemoryBarrier}
+use Rattle.shader_chains.specs.Program.{WorkGroupUniformLoad, CooperativeStore, Call, statements}
 use Rattle.shader_fault_laws.proofs.Needs.{needs_small, result_small}
 use Rattle.shader_info.specs.declared.info.FunctionInfo.{FunctionInfo}
 use Rattle.shader_steps.specs.Found.{expression_needs_found, facts_found, needs_found}
@@ -27,7 +28,8 @@ module _ (infos : List FunctionInfo) where
 
     joined_few : (ss : List Step) (n : ℕ) → n < 16 → fold (asked_by infos facts) n ss < 16
     joined_few [] n h = h
-    joined_few (s ∷ ss) n h = joined_few ss (bit_or n (statement_needs infos facts s)) (or_lt 4 n (statement_needs infos facts s) h (statement_few s))
+    joined_few (s ∷ ss) n h = joined_few ss (bit_or n (statement_needs infos facts s))
+        (or_lt 4 n (statement_needs infos facts s) h (statement_few s))
 
 needs_are : (facts : List Fact) (e : ℕ) → slice_index (map (λ (fact : Fact). fact.requirements.0) facts) e ≡ needs_at facts e
 needs_are [] e = refl

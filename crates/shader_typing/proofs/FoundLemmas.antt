@@ -1,10 +1,12 @@
 -- One more function or entry point, where the infos of those before it are exact.
-use Rattle.std.proofs.Common.{◌≡◌, refl, sym, ap, subst, ◌∙◌, ℕ, ◌+◌, ◌<◌, List, [], ◌∷◌, ◌++◌, Some, slice_get, length, arith, length-append}
+use Rattle.std.proofs.Common.{◌≡◌, refl, sym, ap, subst, ◌∙◌, ℕ, ◌+◌, ◌<◌, List, [], ◌∷◌}
+use Rattle.std.proofs.Common.{◌++◌, Some, slice_get, length, arith, length-append}
 use Rattle.std.proofs.lemmas.List.{length-map}
 use Rattle.std.proofs.lemmas.Option.{slice_get_within, same_Some}
 use Rattle.shader_chains.specs.Derivable.{AreTypes, IsRefused}
 use Rattle.shader_chains.specs.Exact.{IsExact, IsExactModule}
-use Rattle.shader_chains.specs.Faults.{Cause, ComesBefore, IsAccepted, IsFault, IsFirstFault, ModuleFault, OfEntryPoint, OfFunction, OfGlobalExpression, Settings, Site, StepFault, in_entry_point, in_expression, in_function}
+use Rattle.shader_chains.specs.Faults.{Cause, ComesBefore, IsAccepted, IsFault, IsFirstFault, ModuleFault, OfEntryPoint, OfFunction}
+use Rattle.shader_chains.specs.Faults.{OfGlobalExpression, Settings, Site, StepFault, in_entry_point, in_expression, in_function}
 use Rattle.shader_chains.specs.Infos.{EachNamed, Info, NamesEarlier, Pairwise}
 use Rattle.shader_chains.specs.Program.{Function, Module}
 use Rattle.shader_chains.specs.Steps.{MeetsSteps}
@@ -38,7 +40,8 @@ longer : (held : List FunctionInfo) (info : FunctionInfo) → length (held ++ in
 longer held info = length-append held (info ∷ [])
 
 -- a refusal that names one of some causes names one of more
-pub named_more : (P Q : Cause → Type 0) → ((cause : Cause) → P cause → Q cause) → (failure : FunctionError) → IsNamed P failure → IsNamed Q failure
+pub named_more : (P Q : Cause → Type 0) → ((cause : Cause) → P cause → Q cause) → (failure : FunctionError) → IsNamed P failure →
+    IsNamed Q failure
 named_more P Q more (error.Expression e (expression.Resolve failure)) h = more _ h
 named_more P Q more (error.Expression e (expression.MissingCapabilities wanted)) h = (h.0, h.1, more _ h.2)
 named_more P Q more (error.Expression e expression.ExpectedGlobalOrArgument) h = more _ h
@@ -47,13 +50,15 @@ named_more P Q more (error.NonUniformControlFlow needs e blamed) h = more _ h
 named_more P Q more (error.CountFull e) h = more _ h
 named_more P Q more error.OutOfMemory h = tt
 
-module _ (m : Module) (settings : Settings) (well : IsWellFormed m) (held : List FunctionInfo) (before : FunctionsFound m settings held) (f : Function)
+module _ (m : Module) (settings : Settings) (well : IsWellFormed m) (held : List FunctionInfo) (before : FunctionsFound m settings held)
+    (f : Function)
     (earlier : NamesEarlier (length held) f) where
   count : length (infos_of held) ≡ length held
   count = length-map held info_of
 
   named : EachNamed (IsExact m) m (infos_of held) f
-  named = named_within m (infos_of held) f (λ c mention. let lt = earlier c mention in (omega (arith, lt, count), omega (arith, lt, before.held.there))) before.exact
+  named = named_within m (infos_of held) f (λ c mention. let lt = earlier c mention in
+      (omega (arith, lt, count), omega (arith, lt, before.held.there))) before.exact
 
   -- a fault by the infos is one over all chains
   fault_is : (cause : Cause) → StepFault m (infos_of held) f settings cause → IsFault m f settings cause
@@ -63,41 +68,49 @@ module _ (m : Module) (settings : Settings) (well : IsWellFormed m) (held : List
   no_fault none cause h = let told = (faults_agree m (infos_of held) f settings named).1 cause h in none told.0 told.1
 
 -- no global expression is without a type
-no_untyped : (m : Module) (types : List TypeResolution) → AreTypes (context_of m [] []) m.global_expressions types → (e : ℕ) (refusal : Refusal) →
+no_untyped : (m : Module) (types : List TypeResolution) → AreTypes (context_of m [] []) m.global_expressions types →
+    (e : ℕ) (refusal : Refusal) →
     IsRefused (context_of m [] []) m.global_expressions e refusal → ⊥
 no_untyped m types are e refusal h =
     let lt : e < length types = omega (arith, are.complete, slice_get_within m.global_expressions e h.expression h.stands) in
     let t = found_at types e lt in
     (types_are_unique (context_of m [] []) m.global_expressions e t.0 (are.derived e t.0 t.1)).1 refusal h
 
-module _ (m : Module) (settings : Settings) (well : IsWellFormed m) (types : List TypeResolution) (are : AreTypes (context_of m [] []) m.global_expressions types)
+module _ (m : Module) (settings : Settings) (well : IsWellFormed m) (types : List TypeResolution)
+    (are : AreTypes (context_of m [] []) m.global_expressions types)
     (held : List FunctionInfo) (before : FunctionsFound m settings held) where
   module _ (f : Function) (is_f : slice_get m.functions (length held) ≡ Some f) where
     ordered : NamesEarlier (length held) f
     ordered = (point_backwards m well).functions (length held) f is_f
 
     pub next_function : (info : FunctionInfo) → MeetsSteps m (infos_of held) f (info_of info) →
-        HaveArguments info.sampling.keys → Fits m f info → ((cause : Cause) → StepFault m (infos_of held) f settings cause → ⊥) → FunctionsFound m settings (held ++ info ∷ [])
+        HaveArguments info.sampling.keys → Fits m f info → ((cause : Cause) → StepFault m (infos_of held) f settings cause → ⊥) →
+        FunctionsFound m settings (held ++ info ∷ [])
     next_function info steps apart fits none =
-        let is_next : slice_get m.functions (length (infos_of held)) ≡ Some f = ap (slice_get m.functions) (length-map held info_of) ∙ is_f in
+        let is_next : slice_get m.functions (length (infos_of held)) ≡ Some f =
+        ap (slice_get m.functions) (length-map held info_of) ∙ is_f in
         let done = next_is_exact m (infos_of held) f (info_of info) (point_backwards m well).functions is_next before.exact steps in
         let P : List Info → Type 0 = λ v. Pairwise (IsExact m) m v in
         record {
           held = record {
             there = omega (arith, longer held info, slice_get_within m.functions (length held) f is_f);
             fit = λ c r i is_r is_i. one_more (λ e x. (g : Function) → slice_get m.functions e ≡ Some g → Fits m g x) held info
-                (λ e x is_x g is_g. before.held.fit e g x is_g is_x) (λ g is_g. subst (λ x. Fits m x info) (same_Some f g (sym is_f ∙ is_g)) fits) c i is_i r is_r;
+                (λ e x is_x g is_g. before.held.fit e g x is_g is_x)
+                (λ g is_g. subst (λ x. Fits m x info) (same_Some f g (sym is_f ∙ is_g)) fits) c i is_i r is_r;
           };
           exact = subst P (sym (infos_of-push held info)) done;
           apart = one_more (λ e x. HaveArguments x.sampling.keys) held info before.apart apart;
-          clean = λ i g cause lt is_g. up_to_here (λ e. (g : Function) (cause : Cause) → slice_get m.functions e ≡ Some g → IsFault m g settings cause → ⊥) (length held)
+          clean = λ i g cause lt is_g. up_to_here (λ e. (g : Function) (cause : Cause) → slice_get m.functions e ≡ Some g →
+              IsFault m g settings cause → ⊥) (length held)
               (λ e early g cause is_g. before.clean e g cause early is_g)
-              (λ g cause is_g. subst (λ x. IsFault m x settings cause → ⊥) (same_Some f g (sym is_f ∙ is_g)) (no_fault m settings well held before f ordered none cause))
+              (λ g cause is_g. subst (λ x. IsFault m x settings cause →
+              ⊥) (same_Some f g (sym is_f ∙ is_g)) (no_fault m settings well held before f ordered none cause))
               i (omega (arith, lt, longer held info)) g cause is_g;
         }
 
     -- a fault of the next function is the first
-    pub first_in_function : (cause : Cause) → StepFault m (infos_of held) f settings cause → IsFirstFault m settings (OfFunction (length held)) cause
+    pub first_in_function : (cause : Cause) → StepFault m (infos_of held) f settings cause →
+        IsFirstFault m settings (OfFunction (length held)) cause
     first_in_function cause h = record {
       stands = in_function is_f (fault_is m settings well held before f ordered cause h);
       first = none;
@@ -107,47 +120,58 @@ module _ (m : Module) (settings : Settings) (well : IsWellFormed m) (types : Lis
       none (OfFunction j) told lt (in_function {f = g} is_g fault) = before.clean j g told lt is_g fault
       none (OfEntryPoint j) told lt fault = lt
 
-  module _ (all : length held ≡ length m.functions) (done : List FunctionInfo) (entries : EntryPointsFound m settings done) (entry : EntryPoint)
+  module _ (all : length held ≡ length m.functions) (done : List FunctionInfo) (entries : EntryPointsFound m settings done)
+      (entry : EntryPoint)
       (is_entry : slice_get m.entry_points (length done) ≡ Some entry) where
     names_functions : NamesEarlier (length held) entry.function
     names_functions c mention = omega (arith, all, (point_backwards m well).entry_points (length done) entry is_entry c mention)
 
     pub next_entry_point : (info : FunctionInfo) → MeetsSteps m (infos_of held) entry.function (info_of info) →
-        HaveArguments info.sampling.keys → ((cause : Cause) → StepFault m (infos_of held) entry.function settings cause → ⊥) → EntryPointsFound m settings (done ++ info ∷ [])
+        HaveArguments info.sampling.keys → ((cause : Cause) → StepFault m (infos_of held) entry.function settings cause → ⊥) →
+        EntryPointsFound m settings (done ++ info ∷ [])
     next_entry_point info steps apart none =
         let exact : IsExact m entry.function (info_of info) =
         entry_is_exact m (infos_of held) entry.function (info_of info) (length-map held info_of ∙ all)
         ((point_backwards m well).entry_points (length done) entry is_entry) before.exact steps in
         record {
           there = omega (arith, longer done info, slice_get_within m.entry_points (length done) entry is_entry);
-          exact = λ i other at is_other is_at. one_more (λ e x. (other : EntryPoint) → slice_get m.entry_points e ≡ Some other → IsExact m other.function (info_of x)) done info
+          exact = λ i other at is_other is_at. one_more (λ e x. (other : EntryPoint) → slice_get m.entry_points e ≡ Some other →
+              IsExact m other.function (info_of x)) done info
               (λ e x is_x other is_o. entries.exact e other x is_o is_x)
-              (λ other is_o. subst (λ (x : EntryPoint). IsExact m x.function (info_of info)) (same_Some entry other (sym is_entry ∙ is_o)) exact) i at is_at other is_other;
+              (λ other is_o. subst (λ (x : EntryPoint). IsExact m x.function (info_of info)) (same_Some entry other (sym is_entry ∙ is_o))
+              exact) i at is_at other is_other;
           apart = one_more (λ e x. HaveArguments x.sampling.keys) done info entries.apart apart;
           clean = λ i other cause lt is_other. up_to_here
-              (λ e. (other : EntryPoint) (cause : Cause) → slice_get m.entry_points e ≡ Some other → IsFault m other.function settings cause → ⊥) (length done)
+              (λ e. (other : EntryPoint) (cause : Cause) → slice_get m.entry_points e ≡ Some other →
+              IsFault m other.function settings cause → ⊥) (length done)
               (λ e early other cause is_o. entries.clean e other cause early is_o)
-              (λ other cause is_o. subst (λ (x : EntryPoint). IsFault m x.function settings cause → ⊥) (same_Some entry other (sym is_entry ∙ is_o))
+              (λ other cause is_o. subst (λ (x : EntryPoint). IsFault m x.function settings cause →
+              ⊥) (same_Some entry other (sym is_entry ∙ is_o))
               (no_fault m settings well held before entry.function names_functions none cause))
               i (omega (arith, lt, longer done info)) other cause is_other;
         }
 
-    pub first_in_entry_point : (cause : Cause) → StepFault m (infos_of held) entry.function settings cause → IsFirstFault m settings (OfEntryPoint (length done)) cause
+    pub first_in_entry_point : (cause : Cause) → StepFault m (infos_of held) entry.function settings cause →
+        IsFirstFault m settings (OfEntryPoint (length done)) cause
     first_in_entry_point cause h = record {
       stands = in_entry_point is_entry (fault_is m settings well held before entry.function names_functions cause h);
       first = none;
     } where
       none : (other : Site) (told : Cause) → ComesBefore other (OfEntryPoint (length done)) → ModuleFault m settings other told → ⊥
       none (OfGlobalExpression e) told lt (in_expression {refusal = refusal} r) = no_untyped m types are e refusal r
-      none (OfFunction j) told lt (in_function {f = g} is_g fault) = before.clean j g told (omega (arith, all, slice_get_within m.functions j g is_g)) is_g fault
+      none (OfFunction j) told lt (in_function {f = g} is_g fault) =
+          before.clean j g told (omega (arith, all, slice_get_within m.functions j g is_g)) is_g fault
       none (OfEntryPoint j) told lt (in_entry_point {entry = g} is_g fault) = entries.clean j g told lt is_g fault
 
   -- where all are found, no fault stands
-  module _ (all : length held ≡ length m.functions) (done : List FunctionInfo) (entries : EntryPointsFound m settings done) (last : length done ≡ length m.entry_points) where
+  module _ (all : length held ≡ length m.functions) (done : List FunctionInfo) (entries : EntryPointsFound m settings done)
+      (last : length done ≡ length m.entry_points) where
     pub accepted : IsAccepted m settings
     accepted (OfGlobalExpression e) cause (in_expression {refusal = refusal} r) = no_untyped m types are e refusal r
-    accepted (OfFunction j) cause (in_function {f = g} is_g fault) = before.clean j g cause (omega (arith, all, slice_get_within m.functions j g is_g)) is_g fault
-    accepted (OfEntryPoint j) cause (in_entry_point {entry = g} is_g fault) = entries.clean j g cause (omega (arith, last, slice_get_within m.entry_points j g is_g)) is_g fault
+    accepted (OfFunction j) cause (in_function {f = g} is_g fault) =
+        before.clean j g cause (omega (arith, all, slice_get_within m.functions j g is_g)) is_g fault
+    accepted (OfEntryPoint j) cause (in_entry_point {entry = g} is_g fault) =
+        entries.clean j g cause (omega (arith, last, slice_get_within m.entry_points j g is_g)) is_g fault
 
     pub exact_module : IsExactModule m types (infos_of held) (infos_of done)
     exact_module = record {

@@ -1,5 +1,6 @@
 -- An info of what the walks find meets the step equations, fits its function, and leaves no fault.
-use Rattle.std.proofs.Common.{◌≡◌, ◌↔◌, sym, ap, subst, ◌∙◌, ℕ, ◌<◌, ◌^◌, All, List, Option, Some, IsTrue, Bool, map, slice_get, slice_index, length, arith}
+use Rattle.std.proofs.Common.{◌≡◌, ◌↔◌, sym, ap, subst, ◌∙◌, ℕ, ◌<◌, ◌^◌, All, List, Option}
+use Rattle.std.proofs.Common.{Some, IsTrue, Bool, map, slice_get, slice_index, length, arith}
 use Rattle.std.proofs.lemmas.List.{length-map, get_or-map}
 use Rattle.std.proofs.lemmas.List.Elements.{All-contains}
 use Rattle.std.proofs.lemmas.Option.{slice_get_within, get_or_from_slice_get}
@@ -7,7 +8,8 @@ use Rattle.std.specs.Int.{IsBitSet}
 use Rattle.shader_chains.proofs.EarlierLemmas.{is_item}
 use Rattle.shader_chains.specs.Counts.{count_of}
 use Rattle.shader_chains.specs.Derivable.{AreTypes, function_context}
-use Rattle.shader_chains.specs.Faults.{BindingArrayElement, Cause, CountFull, Disruptor, MissingCapability, NoPlace, NonUniformControlFlow, Settings, StepFault, Untyped}
+use Rattle.shader_chains.specs.Faults.{BindingArrayElement, Cause, CountFull, Disruptor, MissingCapability}
+use Rattle.shader_chains.specs.Faults.{NoPlace, NonUniformControlFlow, Settings, StepFault, Untyped}
 use Rattle.shader_chains.specs.Infos.{Info, Picks}
 use Rattle.shader_chains.specs.Needs.{bit_of_need}
 use Rattle.shader_chains.specs.Program.{Function, Module}
@@ -22,7 +24,8 @@ use Rattle.shader_info.specs.declared.info.FunctionInfo.{FunctionInfo}
 use Rattle.shader_ir.specs.Key.{FitsTypes}
 use Rattle.shader_resolve.specs.Context.{context_of}
 use Rattle.shader_resolve.specs.WellFormed.{ExpressionInRange, FunctionInRange}
-use Rattle.shader_steps.proofs.FoundLemmas.{expression_needs_of_the_step, kills_of_the_step, needs_of_the_step, origins_of_the_step, pairs_of_the_step, results_of_the_step}
+use Rattle.shader_steps.proofs.FoundLemmas.{expression_needs_of_the_step, kills_of_the_step, needs_of_the_step}
+use Rattle.shader_steps.proofs.FoundLemmas.{origins_of_the_step, pairs_of_the_step, results_of_the_step}
 use Rattle.shader_steps.specs.Conditions.{EachFits, GlobalsWithin}
 use Rattle.shader_steps.specs.Found.{expression_needs_found, kill_found, needs_found, origins_found, pairs_found, result_found}
 use Rattle.shader_steps.specs.OfTheStep.{HasUses}
@@ -36,7 +39,8 @@ use Rattle.shader_typing.specs.Analyzable.{AreHeld, IsAnalyzable}
 pub record IsFound (m : Module) (infos : List FunctionInfo) (f : Function) (info : FunctionInfo) : Type 0 where
   pub types : AreTypes (function_context m f) f.expressions (map (λ (e : ExpressionInfo). e.ty) info.expressions)
   pub fit : All (FitsTypes m.types) (map (λ (e : ExpressionInfo). e.ty) info.expressions)
-  pub counts : (e : ℕ) → e < length f.expressions → slice_get (map (λ (e : ExpressionInfo). e.ref_count) info.expressions) e ≡ Some (count_of f e)
+  pub counts : (e : ℕ) → e < length f.expressions → slice_get (map (λ (e : ExpressionInfo). e.ref_count) info.expressions) e
+      ≡ Some (count_of f e)
   pub origins : map (λ (e : ExpressionInfo). e.uniformity.non_uniform_result) info.expressions ≡ origins_found m infos f
   pub expression_needs : map (λ (e : ExpressionInfo). e.uniformity.requirements.0) info.expressions ≡ expression_needs_found m infos f
   pub result : info.uniformity.non_uniform_result ≡ result_found m infos f
@@ -48,7 +52,8 @@ pub record IsFound (m : Module) (infos : List FunctionInfo) (f : Function) (info
 -- the globals that an analysable function names are there, and each info held has a place for each
 pub globals_within : (m : Module) (f : Function) → FunctionInRange m f → GlobalsWithin m f
 globals_within m f within e g stands =
-    (All-contains (ExpressionInRange m (context_of m f.local_variables f.arguments) f.expressions) f.expressions _ within.expressions (is_item f.expressions e _ stands)).names
+    (All-contains (ExpressionInRange m (context_of m f.local_variables f.arguments) f.expressions) f.expressions _ within.expressions
+    (is_item f.expressions e _ stands)).names
 
 pub fit_held : (m : Module) (infos : List FunctionInfo) → AreHeld m infos → FitHeld m infos
 fit_held m infos held = record {
@@ -59,11 +64,14 @@ fit_held m infos held = record {
 pub each_fits : (m : Module) (infos : List FunctionInfo) → AreHeld m infos → EachFits m infos
 each_fits m infos held c info is = let r = (fit_held m infos held).function c info is in (held.fit c r.0 info r.1 is).global_uses
 
-all_of_map : (m : Module) (infos : List ExpressionInfo) → All (FitsTypes m.types) (map (λ (e : ExpressionInfo). e.ty) infos) → All (λ (e : ExpressionInfo). FitsTypes m.types e.ty) infos
+all_of_map : (m : Module) (infos : List ExpressionInfo) → All (FitsTypes m.types) (map (λ (e : ExpressionInfo). e.ty) infos) →
+    All (λ (e : ExpressionInfo). FitsTypes m.types e.ty) infos
 all_of_map m infos all k d lt =
-    subst (FitsTypes m.types) (get_or-map (λ (e : ExpressionInfo). e.ty) infos k d d.ty lt) (all k d.ty (omega (arith, lt, length-map infos (λ (e : ExpressionInfo). e.ty))))
+    subst (FitsTypes m.types) (get_or-map (λ (e : ExpressionInfo). e.ty) infos k d d.ty lt)
+    (all k d.ty (omega (arith, lt, length-map infos (λ (e : ExpressionInfo). e.ty))))
 
-module _ (m : Module) (infos : List FunctionInfo) (f : Function) (on : IsAnalyzable m infos f) (info : FunctionInfo) (is : IsFound m infos f info) where
+module _ (m : Module) (infos : List FunctionInfo) (f : Function) (on : IsAnalyzable m infos f) (info : FunctionInfo)
+    (is : IsFound m infos f info) where
   long : length info.expressions ≡ length f.expressions
   long = sym (length-map info.expressions (λ (e : ExpressionInfo). e.ty)) ∙ is.types.complete
 
@@ -75,7 +83,8 @@ module _ (m : Module) (infos : List FunctionInfo) (f : Function) (on : IsAnalyza
       expression_needs = length-map info.expressions (λ (e : ExpressionInfo). e.uniformity.requirements.0) ∙ long;
       global_uses = is.uses.1;
       few_uses = is.uses.2;
-      few_expression_needs = λ e. let P : List ℕ → Type 0 = λ v. slice_index v e < 16 in subst P (sym is.expression_needs) (few_expression_needs m infos f e);
+      few_expression_needs = λ e. let P : List ℕ → Type 0 = λ v. slice_index v e < 16 in
+          subst P (sym is.expression_needs) (few_expression_needs m infos f e);
       few_needs = let P : ℕ → Type 0 = λ v. v < 16 in subst P (sym is.needs) (few_needs m infos f);
     };
     types = is.types;
@@ -83,19 +92,22 @@ module _ (m : Module) (infos : List FunctionInfo) (f : Function) (on : IsAnalyza
     uses = is.uses.0;
     pairs = pairs_of_the_step infos f (info_pairs info) is.pairs;
     origins = λ e o stands. origins_of_the_step m infos f on.operands e o (ap (λ v. slice_get v e) (sym is.origins) ∙ stands);
-    result = let P : Option ℕ → Type 0 = λ v. Picks (StepResult m (infos_of infos) f) v in subst P (sym is.result) (results_of_the_step m infos f on.operands);
+    result = let P : Option ℕ → Type 0 = λ v. Picks (StepResult m (infos_of infos) f) v in
+        subst P (sym is.result) (results_of_the_step m infos f on.operands);
     kills =
         let P : Bool → Type 0 = λ v. IsTrue v ↔ StepKill (infos_of infos) f (info_of info) in
         subst P (sym is.kills) (kills_of_the_step m infos f (info_of info) (sym is.origins));
     expression_needs = λ n e lt.
         let P : List ℕ → Type 0 = λ v. IsBitSet (slice_index v e) (bit_of_need n) ↔ StepExpressionNeed (infos_of infos) f n e in
         subst P (sym is.expression_needs) (expression_needs_of_the_step m infos f n e lt);
-    needs = λ n. let P : ℕ → Type 0 = λ v. IsBitSet v (bit_of_need n) ↔ StepNeed (infos_of infos) f n in subst P (sym is.needs) (needs_of_the_step m infos f n);
+    needs = λ n. let P : ℕ → Type 0 = λ v. IsBitSet v (bit_of_need n) ↔ StepNeed (infos_of infos) f n in
+        subst P (sym is.needs) (needs_of_the_step m infos f n);
   }
 
   pub fits_function : Fits m f info
   fits_function =
-      let pairs = collected_pairs_fit m infos f (fit_held m infos on.held) (globals_within m f on.handles) (typed_functions_have_arguments m f _ is.types)
+      let pairs = collected_pairs_fit m infos f (fit_held m infos on.held) (globals_within m f on.handles)
+      (typed_functions_have_arguments m f _ is.types)
       info.sampling_set.keys info.sampling.keys is.pairs in
       record {
         global_uses = sym (length-map info.global_uses (λ at. at.0)) ∙ is.uses.1;
@@ -117,7 +129,8 @@ no_fault m infos f settings typed capable element placed undisrupted counted (Un
 no_fault m infos f settings typed capable element placed undisrupted counted (MissingCapability e capability) h = capable e capability h
 no_fault m infos f settings typed capable element placed undisrupted counted (BindingArrayElement e) h = element e h
 no_fault m infos f settings typed capable element placed undisrupted counted (NoPlace e) h = placed e h
-no_fault m infos f settings typed capable element placed undisrupted counted (NonUniformControlFlow needs e blamed) h = undisrupted needs e blamed h
+no_fault m infos f settings typed capable element placed undisrupted counted (NonUniformControlFlow needs e blamed) h =
+    undisrupted needs e blamed h
 no_fault m infos f settings typed capable element placed undisrupted counted (CountFull e) h = counted e h
 
 pub counts_fit : (f : Function) (counts : List ℕ) → ((e : ℕ) → e < length f.expressions → slice_get counts e ≡ Some (count_of f e)) →

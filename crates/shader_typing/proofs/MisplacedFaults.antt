@@ -12,8 +12,10 @@ use Rattle.shader_sweeps.specs.InfoOf.{PointsBackwards, infos_of}
 module _ (m : Module) (infos : List FunctionInfo) (f : Function) (settings : Settings) where
   pub none_misplaced : PointsBackwards f → misplaced_found m infos f ≡ None → (needs e : ℕ) (blamed : Disruptor) →
       StepFault m (infos_of infos) f settings (NonUniformControlFlow needs e blamed) → ⊥
-  none_misplaced below none needs e blamed (misplaced checks governs is) = (misplaced_are_faults m infos f settings below).1 none needs e blamed is
+  none_misplaced below none needs e blamed (misplaced checks governs is) =
+      (misplaced_are_faults m infos f settings below).1 none needs e blamed is
 
-  pub none_checked : (IsTrue settings.checks_flow → Governs m.diagnostic_filters f.diagnostic_filter_leaf severity.Error → ⊥) → (needs e : ℕ) (blamed : Disruptor) →
+  pub none_checked : (IsTrue settings.checks_flow → Governs m.diagnostic_filters f.diagnostic_filter_leaf severity.Error → ⊥) →
+      (needs e : ℕ) (blamed : Disruptor) →
       StepFault m (infos_of infos) f settings (NonUniformControlFlow needs e blamed) → ⊥
   none_checked off needs e blamed (misplaced checks governs is) = off checks governs

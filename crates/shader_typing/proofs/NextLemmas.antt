@@ -17,7 +17,8 @@ use Rattle.shader_resolve.specs.WellFormed.{IsWellFormed}
 use Rattle.shader_steps.specs.Causes.{IsNamed}
 use Rattle.shader_sweeps.specs.InfoOf.{info_of, infos_of}
 use Rattle.shader_sweeps.specs.Paired.{HaveArguments}
-use Rattle.shader_typing.proofs.FoundLemmas.{accepted, exact_module, first_in_entry_point, first_in_function, named_more, next_entry_point, next_function}
+use Rattle.shader_typing.proofs.FoundLemmas.{accepted, exact_module, first_in_entry_point, first_in_function}
+use Rattle.shader_typing.proofs.FoundLemmas.{named_more, next_entry_point, next_function}
 use Rattle.shader_typing.proofs.KeptLemmas.{keeps_all_pairs}
 use Rattle.shader_typing.proofs.PlaceLemmas.{found_at}
 use Rattle.shader_typing.specs.Analyzable.{AreHeld}
@@ -30,8 +31,10 @@ all_of : {X : Type 0} (xs : List X) (n : ℕ) → n ≡ length xs → take n xs 
 all_of xs n is = ap (λ v. take v xs) is ∙ take-length xs
 
 module _ (m : Module) (settings : Settings) (well : IsWellFormed m) (recorded : Recorded)
-    (are : AreTypes (context_of m [] []) m.global_expressions recorded.global_expressions) (before : FunctionsFound m settings recorded.functions) where
-  can_process : (at : AnalysisPlace) (f : Function) → IsFunctionAt m at f → functions_before m at ≡ length recorded.functions → CanProcess m recorded at
+    (are : AreTypes (context_of m [] []) m.global_expressions recorded.global_expressions)
+    (before : FunctionsFound m settings recorded.functions) where
+  can_process : (at : AnalysisPlace) (f : Function) → IsFunctionAt m at f → functions_before m at ≡ length recorded.functions →
+      CanProcess m recorded at
   can_process at f is_f all = record {
     function = (f, is_f);
     before = omega (arith, all);
@@ -39,7 +42,8 @@ module _ (m : Module) (settings : Settings) (well : IsWellFormed m) (recorded : 
   }
 
   -- what is told over the infos before a place is told over those recorded
-  over_all : (P : List FunctionInfo → Type 0) (at : AnalysisPlace) → functions_before m at ≡ length recorded.functions → P (infos_before m recorded at) → P recorded.functions
+  over_all : (P : List FunctionInfo → Type 0) (at : AnalysisPlace) → functions_before m at ≡ length recorded.functions →
+      P (infos_before m recorded at) → P recorded.functions
   over_all P at all told = subst P (all_of recorded.functions (functions_before m at) all) told
 
   module _ (i : ℕ) (next : i ≡ length recorded.functions) (there : i < length m.functions) where
@@ -53,9 +57,11 @@ module _ (m : Module) (settings : Settings) (well : IsWellFormed m) (recorded : 
     can_process_function = can_process (site.Function i) the_function.0 the_function.1 next
 
     pub function_found : (info : FunctionInfo) →
-        ((f : Function) → IsFunctionAt m (site.Function i) f → MeetsSteps m (infos_of (infos_before m recorded (site.Function i))) f (info_of info)) →
+        ((f : Function) → IsFunctionAt m (site.Function i) f →
+        MeetsSteps m (infos_of (infos_before m recorded (site.Function i))) f (info_of info)) →
         HaveArguments info.sampling.keys → ((f : Function) → IsFunctionAt m (site.Function i) f → Fits m f info) →
-        ((f : Function) (cause : Cause) → IsFunctionAt m (site.Function i) f → StepFault m (infos_of (infos_before m recorded (site.Function i))) f settings cause → ⊥) →
+        ((f : Function) (cause : Cause) → IsFunctionAt m (site.Function i) f →
+        StepFault m (infos_of (infos_before m recorded (site.Function i))) f settings cause → ⊥) →
         (functions : List FunctionInfo) → functions ≡ recorded.functions ++ info ∷ [] → FunctionsFound m settings functions
     function_found info steps apart fits clean functions are_now =
         let f = the_function.0 in
@@ -63,19 +69,23 @@ module _ (m : Module) (settings : Settings) (well : IsWellFormed m) (recorded : 
         let now : MeetsSteps m (infos_of recorded.functions) f (info_of info) =
         over_all (λ v. MeetsSteps m (infos_of v) f (info_of info)) (site.Function i) next (steps f is_f) in
         let none : (cause : Cause) → StepFault m (infos_of recorded.functions) f settings cause → ⊥ =
-        over_all (λ v. (cause : Cause) → StepFault m (infos_of v) f settings cause → ⊥) (site.Function i) next (λ cause. clean f cause is_f) in
+        over_all (λ v. (cause : Cause) → StepFault m (infos_of v) f settings cause →
+        ⊥) (site.Function i) next (λ cause. clean f cause is_f) in
         subst (FunctionsFound m settings) (sym are_now)
-        (next_function m settings well recorded.global_expressions are recorded.functions before f is_next info now apart (fits f is_f) none)
+        (next_function m settings well recorded.global_expressions are recorded.functions before f is_next info now apart
+        (fits f is_f) none)
 
     pub function_refused : (failure : FunctionError) →
-        ((f : Function) → IsFunctionAt m (site.Function i) f → IsNamed (StepFault m (infos_of (infos_before m recorded (site.Function i))) f settings) failure) →
+        ((f : Function) → IsFunctionAt m (site.Function i) f →
+        IsNamed (StepFault m (infos_of (infos_before m recorded (site.Function i))) f settings) failure) →
         IsNamed (IsFirstFault m settings (OfFunction i)) failure
     function_refused failure told =
         let f = the_function.0 in
         let fault : IsNamed (StepFault m (infos_of recorded.functions) f settings) failure =
         over_all (λ v. IsNamed (StepFault m (infos_of v) f settings) failure) (site.Function i) next (told f the_function.1) in
         subst (λ v. IsNamed (IsFirstFault m settings (OfFunction v)) failure) (sym next)
-        (named_more (StepFault m (infos_of recorded.functions) f settings) (IsFirstFault m settings (OfFunction (length recorded.functions)))
+        (named_more (StepFault m (infos_of recorded.functions) f settings)
+        (IsFirstFault m settings (OfFunction (length recorded.functions)))
         (first_in_function m settings well recorded.global_expressions are recorded.functions before f is_next) failure fault)
 
   module _ (all : length recorded.functions ≡ length m.functions) (entries : EntryPointsFound m settings recorded.entry_points) (i : ℕ)
@@ -93,29 +103,36 @@ module _ (m : Module) (settings : Settings) (well : IsWellFormed m) (recorded : 
     can_process_entry_point = can_process (site.EntryPoint i) the_entry.0.function at_entry (sym all)
 
     pub entry_point_found : (info : FunctionInfo) →
-        ((f : Function) → IsFunctionAt m (site.EntryPoint i) f → MeetsSteps m (infos_of (infos_before m recorded (site.EntryPoint i))) f (info_of info)) →
+        ((f : Function) → IsFunctionAt m (site.EntryPoint i) f →
+        MeetsSteps m (infos_of (infos_before m recorded (site.EntryPoint i))) f (info_of info)) →
         HaveArguments info.sampling.keys →
-        ((f : Function) (cause : Cause) → IsFunctionAt m (site.EntryPoint i) f → StepFault m (infos_of (infos_before m recorded (site.EntryPoint i))) f settings cause → ⊥) →
+        ((f : Function) (cause : Cause) → IsFunctionAt m (site.EntryPoint i) f →
+        StepFault m (infos_of (infos_before m recorded (site.EntryPoint i))) f settings cause → ⊥) →
         (entry_points : List FunctionInfo) → entry_points ≡ recorded.entry_points ++ info ∷ [] → EntryPointsFound m settings entry_points
     entry_point_found info steps apart clean entry_points are_now =
         let f = the_entry.0.function in
         let now : MeetsSteps m (infos_of recorded.functions) f (info_of info) =
         over_all (λ v. MeetsSteps m (infos_of v) f (info_of info)) (site.EntryPoint i) (sym all) (steps f at_entry) in
         let none : (cause : Cause) → StepFault m (infos_of recorded.functions) f settings cause → ⊥ =
-        over_all (λ v. (cause : Cause) → StepFault m (infos_of v) f settings cause → ⊥) (site.EntryPoint i) (sym all) (λ cause. clean f cause at_entry) in
+        over_all (λ v. (cause : Cause) → StepFault m (infos_of v) f settings cause →
+        ⊥) (site.EntryPoint i) (sym all) (λ cause. clean f cause at_entry) in
         subst (EntryPointsFound m settings) (sym are_now)
-        (next_entry_point m settings well recorded.global_expressions are recorded.functions before all recorded.entry_points entries the_entry.0 is_next_entry info now apart none)
+        (next_entry_point m settings well recorded.global_expressions are recorded.functions before all recorded.entry_points entries
+        the_entry.0 is_next_entry info now apart none)
 
     pub entry_point_refused : (failure : FunctionError) →
-        ((f : Function) → IsFunctionAt m (site.EntryPoint i) f → IsNamed (StepFault m (infos_of (infos_before m recorded (site.EntryPoint i))) f settings) failure) →
+        ((f : Function) → IsFunctionAt m (site.EntryPoint i) f →
+        IsNamed (StepFault m (infos_of (infos_before m recorded (site.EntryPoint i))) f settings) failure) →
         IsNamed (IsFirstFault m settings (OfEntryPoint i)) failure
     entry_point_refused failure told =
         let f = the_entry.0.function in
         let fault : IsNamed (StepFault m (infos_of recorded.functions) f settings) failure =
         over_all (λ v. IsNamed (StepFault m (infos_of v) f settings) failure) (site.EntryPoint i) (sym all) (told f at_entry) in
         subst (λ v. IsNamed (IsFirstFault m settings (OfEntryPoint v)) failure) (sym next)
-        (named_more (StepFault m (infos_of recorded.functions) f settings) (IsFirstFault m settings (OfEntryPoint (length recorded.entry_points)))
-        (first_in_entry_point m settings well recorded.global_expressions are recorded.functions before all recorded.entry_points entries the_entry.0 is_next_entry) failure fault)
+        (named_more (StepFault m (infos_of recorded.functions) f settings)
+        (IsFirstFault m settings (OfEntryPoint (length recorded.entry_points)))
+        (first_in_entry_point m settings well recorded.global_expressions are recorded.functions before all recorded.entry_points entries
+        the_entry.0 is_next_entry) failure fault)
 
 -- before the first function, and before the first entry point
 pub no_functions : (m : Module) (settings : Settings) (functions : List FunctionInfo) → functions ≡ [] → FunctionsFound m settings functions
@@ -126,7 +143,8 @@ no_functions m settings functions none = subst (FunctionsFound m settings) (sym 
   clean = λ i f cause lt is_f fault. absurd (omega (arith, lt));
 })
 
-pub no_entry_points : (m : Module) (settings : Settings) (entry_points : List FunctionInfo) → entry_points ≡ [] → EntryPointsFound m settings entry_points
+pub no_entry_points : (m : Module) (settings : Settings) (entry_points : List FunctionInfo) → entry_points ≡ [] →
+    EntryPointsFound m settings entry_points
 no_entry_points m settings entry_points none = subst (EntryPointsFound m settings) (sym none) (record {
   there = omega arith;
   exact = λ i entry info is_entry is_info. absurd (cc);
@@ -141,7 +159,8 @@ pub all_found : (m : Module) (settings : Settings) → IsWellFormed m → (typed
     FunctionsFound m settings with_functions.functions →
     last ≡ record with_functions { entry_points = last.entry_points } → length last.entry_points ≡ length m.entry_points →
     EntryPointsFound m settings last.entry_points →
-    IsExactModule m last.global_expressions (infos_of last.functions) (infos_of last.entry_points) × KeepsAllPairs m last × IsAccepted m settings
+    IsExactModule m last.global_expressions (infos_of last.functions) (infos_of last.entry_points) × KeepsAllPairs m last ×
+    IsAccepted m settings
 all_found m settings well typed with_functions last are is_next all found is_last all_entries entries =
     let types : last.global_expressions ≡ typed.global_expressions =
     ap (λ (v : Recorded). v.global_expressions) is_last ∙ ap (λ (v : Recorded). v.global_expressions) is_next in

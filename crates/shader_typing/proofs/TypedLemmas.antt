@@ -1,8 +1,10 @@
 -- One more global expression, where those before it have their types.
-use Rattle.std.proofs.Common.{◌≡◌, refl, sym, ap, subst, ◌∙◌, ◌⊎◌, inl, inr, ℕ, ◌+◌, ◌<◌, Bool, true, false, List, [], ◌∷◌, ◌++◌, Result, Ok, Err, IfOk, IfErr, length, length-append, arith}
+use Rattle.std.proofs.Common.{◌≡◌, refl, sym, ap, subst, ◌∙◌, ◌⊎◌, inl, inr, ℕ, ◌+◌, ◌<◌, Bool, true, false}
+use Rattle.std.proofs.Common.{List, [], ◌∷◌, ◌++◌, Result, Ok, Err, IfOk, IfErr, length, length-append, arith}
 use Rattle.shader_chains.proofs.TypeLemmas.{types_are_unique}
 use Rattle.shader_chains.specs.Derivable.{Derives, IsRefused}
-use Rattle.shader_chains.specs.Faults.{Cause, ComesBefore, IsFirstFault, ModuleFault, OfEntryPoint, OfFunction, OfGlobalExpression, Settings, Site, Untyped, in_expression}
+use Rattle.shader_chains.specs.Faults.{Cause, ComesBefore, IsFirstFault, ModuleFault, OfEntryPoint, OfFunction}
+use Rattle.shader_chains.specs.Faults.{OfGlobalExpression, Settings, Site, Untyped, in_expression}
 use Rattle.shader_chains.specs.Program.{Expression, Module}
 use Rattle.shader_expression_types.specs.Checked.{untyped_error}
 use Rattle.shader_expression_types.specs.Typed.{AreOfTheFirst, IsToldOf}
@@ -36,18 +38,21 @@ module _ (context : Context) (expressions : List Expression) (types : List TypeR
 
   refusal_alone : (memory : Bool) (failure : ResolveError) → (failure ≡ resolve.OutOfMemory → ⊥) → Told memory (Err failure) →
       IsTypeRefusal context expressions types failure
-  refusal_alone memory failure other told = inr (λ first. elim (told first) [ inl refused ↦ refused | inr wants ↦ absurd (other (no_memory memory failure wants)) ])
+  refusal_alone memory failure other told = inr (λ first. elim (told first)
+      [ inl refused ↦ refused | inr wants ↦ absurd (other (no_memory memory failure wants)) ])
 
   refusal : (memory : Bool) (failure : ResolveError) → Told memory (Err failure) → IsTypeRefusal context expressions types failure
   refusal memory resolve.OutOfMemory told = inl refl
   refusal memory failure told = refusal_alone memory failure (λ is. absurd (cc)) told
 
-  pub is_refusal : (memory : Bool) (result : Result TypeResolution ResolveError) → Told memory result → IfErr result (IsTypeRefusal context expressions types)
+  pub is_refusal : (memory : Bool) (result : Result TypeResolution ResolveError) → Told memory result →
+      IfErr result (IsTypeRefusal context expressions types)
   is_refusal memory (Ok ty) told = tt
   is_refusal memory (Err failure) told = refusal memory failure told
 
 -- what is told of a type that is refused names the refusal
-named_untyped : (IsCause : Cause → Type 0) (e : ℕ) (failure : ResolveError) → (failure ≡ resolve.OutOfMemory) ⊎ IsCause (Untyped e (refusal_of failure)) →
+named_untyped : (IsCause : Cause → Type 0) (e : ℕ) (failure : ResolveError) →
+    (failure ≡ resolve.OutOfMemory) ⊎ IsCause (Untyped e (refusal_of failure)) →
     IsNamed IsCause (untyped_error e failure)
 named_untyped IsCause e resolve.OutOfMemory told = tt
 named_untyped IsCause e failure (inl is) = absurd (cc)
@@ -64,19 +69,22 @@ module _ (m : Module) (well : IsWellFormed m) (types : List TypeResolution) (fou
         next = next;
         there = there;
         backward = well.types;
-        names = λ x is_x. at_place (IsInRange global) m.global_expressions e x (contexts_of_well_formed m well).global_expressions.names is_x;
+        names = λ x is_x. at_place (IsInRange global) m.global_expressions e x
+            (contexts_of_well_formed m well).global_expressions.names is_x;
         operands = λ x is_x. well.operands.global_expressions e x is_x;
         fit = found.fit;
       }))
 
-  one_found : (ty : TypeResolution) → IsNextType global m.global_expressions types ty → length types < length m.global_expressions → TypesFound m (types ++ ty ∷ [])
+  one_found : (ty : TypeResolution) → IsNextType global m.global_expressions types ty → length types < length m.global_expressions →
+      TypesFound m (types ++ ty ∷ [])
   one_found ty next lt = record {
     there = omega (arith, lt, length-append types (ty ∷ []));
     derived = one_more (λ e t. Derives global m.global_expressions e t) types ty found.derived (next.derived found.derived);
     fit = all_one_more (FitsTypes m.types) types ty found.fit (next.fits (contexts_of_well_formed m well).global_expressions.types);
   }
 
-  first_untyped : (settings : Settings) (e : ℕ) → e ≡ length types → (failure : ResolveError) → IsRefused global m.global_expressions (length types) (refusal_of failure) →
+  first_untyped : (settings : Settings) (e : ℕ) → e ≡ length types → (failure : ResolveError) →
+      IsRefused global m.global_expressions (length types) (refusal_of failure) →
       IsFirstFault m settings (OfGlobalExpression e) (Untyped e (refusal_of failure))
   first_untyped settings e next failure refused = record {
     stands = in_expression (subst (λ v. IsRefused global m.global_expressions v (refusal_of failure)) (sym next) refused);
@@ -89,7 +97,8 @@ module _ (m : Module) (well : IsWellFormed m) (types : List TypeResolution) (fou
     none (OfFunction i) told lt fault = lt
     none (OfEntryPoint i) told lt fault = lt
 
-  pub names_first : (settings : Settings) (e : ℕ) → e ≡ length types → (failure : ResolveError) → IsTypeRefusal global m.global_expressions types failure →
+  pub names_first : (settings : Settings) (e : ℕ) → e ≡ length types → (failure : ResolveError) →
+      IsTypeRefusal global m.global_expressions types failure →
       IsNamed (IsFirstFault m settings (OfGlobalExpression e)) (untyped_error e failure)
   names_first settings e next failure told = named_untyped (IsFirstFault m settings (OfGlobalExpression e)) e failure
       (elim told [ inl is ↦ inl is | inr refused ↦ inr (first_untyped settings e next failure (refused found.derived)) ])
@@ -97,7 +106,8 @@ module _ (m : Module) (well : IsWellFormed m) (types : List TypeResolution) (fou
 -- by contexts that are the module's
 module _ (m : Module) (well : IsWellFormed m) (context : Context) (expressions : List Expression) (is : context ≡ context_of m [] [])
     (are : expressions ≡ m.global_expressions) where
-  pub added_type : (old new : Recorded) → TypesFound m old.global_expressions → length old.global_expressions < length m.global_expressions →
+  pub added_type : (old new : Recorded) → TypesFound m old.global_expressions →
+      length old.global_expressions < length m.global_expressions →
       AddsType context expressions old new →
       (new ≡ record old { global_expressions = new.global_expressions })
       × (length new.global_expressions ≡ length old.global_expressions + 1)
@@ -105,13 +115,15 @@ module _ (m : Module) (well : IsWellFormed m) (context : Context) (expressions :
   added_type old new found lt adds =
       let types = old.global_expressions in
       let grown : new.global_expressions ≡ types ++ adds.ty ∷ [] = ap (λ (v : Recorded). v.global_expressions) adds.added in
-      let next = subst (λ v. IsNextType v m.global_expressions types adds.ty) is (subst (λ v. IsNextType context v types adds.ty) are adds.is_next) in (
+      let next = subst (λ v. IsNextType v m.global_expressions types adds.ty) is
+      (subst (λ v. IsNextType context v types adds.ty) are adds.is_next) in (
         adds.added ∙ ap (λ v. record old { global_expressions = v }) (sym grown),
         ap length grown ∙ length-append types (adds.ty ∷ []),
         subst (TypesFound m) (sym grown) (one_found m well types found adds.ty next lt),
       )
 
-  pub refused_type : (types : List TypeResolution) → TypesFound m types → (settings : Settings) (e : ℕ) → e ≡ length types → (failure : ResolveError) →
+  pub refused_type : (types : List TypeResolution) → TypesFound m types → (settings : Settings) (e : ℕ) → e ≡ length types →
+      (failure : ResolveError) →
       IsTypeRefusal context expressions types failure → IsNamed (IsFirstFault m settings (OfGlobalExpression e)) (untyped_error e failure)
   refused_type types found settings e next failure told = names_first m well types found settings e next failure
       (subst (λ v. IsTypeRefusal v m.global_expressions types failure) is (subst (λ v. IsTypeRefusal context v types failure) are told))

@@ -25,12 +25,14 @@ pub record FunctionsFound (m : Module) (settings : Settings) (functions : List F
   pub held : AreHeld m functions
   pub exact : Pairwise (IsExact m) m (infos_of functions)
   pub apart : (i : ℕ) (info : FunctionInfo) → slice_get functions i ≡ Some info → HaveArguments info.sampling.keys
-  pub clean : (i : ℕ) (f : Function) (cause : Cause) → i < length functions → slice_get m.functions i ≡ Some f → IsFault m f settings cause → ⊥
+  pub clean : (i : ℕ) (f : Function) (cause : Cause) → i < length functions → slice_get m.functions i ≡ Some f →
+      IsFault m f settings cause → ⊥
 
 -- the same of the first entry points
 pub record EntryPointsFound (m : Module) (settings : Settings) (entry_points : List FunctionInfo) : Type 0 where
   pub there : length entry_points ≤ length m.entry_points
-  pub exact : (i : ℕ) (entry : EntryPoint) (info : FunctionInfo) → slice_get m.entry_points i ≡ Some entry → slice_get entry_points i ≡ Some info →
+  pub exact : (i : ℕ) (entry : EntryPoint) (info : FunctionInfo) → slice_get m.entry_points i ≡ Some entry →
+      slice_get entry_points i ≡ Some info →
       IsExact m entry.function (info_of info)
   pub apart : (i : ℕ) (info : FunctionInfo) → slice_get entry_points i ≡ Some info → HaveArguments info.sampling.keys
   pub clean : (i : ℕ) (entry : EntryPoint) (cause : Cause) → i < length entry_points → slice_get m.entry_points i ≡ Some entry →

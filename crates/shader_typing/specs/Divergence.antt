@@ -21,9 +21,11 @@ pub data IsOf (m : Module) : Function → Type 0 where
 -- any two walks through f that choose alike where the choice has no origin pass the same Emits of expressions that need uniform flow
 abbrev pub KeepsTogether : Module → Function → Type 0
 KeepsTogether m f = (w v : Walk (KillsAt m) f.body) → Alike (HasOrigin m f) w v →
-    (i j e : ℕ) (n : Need) (b : Body) (p : At f.body (Then (Leaf (Emit i j)) b)) → i ≤ e → e < j → ExpressionNeeds m n f e → Passes w _ p ↔ Passes v _ p
+    (i j e : ℕ) (n : Need) (b : Body) (p : At f.body (Then (Leaf (Emit i j)) b)) → i ≤ e → e < j → ExpressionNeeds m n f e →
+    Passes w _ p ↔ Passes v _ p
 
--- what analyze_module answers of a module: where flow is checked, each function without loops whose filter says Error keeps its walks together
+-- what analyze_module answers of a module: where flow is checked, each function without loops whose filter says Error keeps its walks
+-- together
 abbrev pub AnalyzedWalksAgree : Type 0
 AnalyzedWalksAgree = (m : Module) (settings : Settings) (types : List TypeResolution) (functions entry_points : List Info) →
     IsExactModule m types functions entry_points → IsAccepted m settings → IsTrue settings.checks_flow →

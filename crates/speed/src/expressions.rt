@@ -40,40 +40,61 @@ fn math(
     }
 }
 
-/// The expression at a place of a group, whose first is at `first`: floats, vectors of them, and what is made of those.
-fn expression_at(mix: Mix, first: u32, place: usize) -> Expression {
+fn binary(
+    op: BinaryOperator,
+    left: Handle<mark::Expression>,
+    right: Handle<mark::Expression>,
+) -> Expression {
+    Expression::Binary { op, left, right }
+}
+
+/// A half of a vector's components.
+fn halved(vector: Handle<mark::Expression>) -> Expression {
+    Expression::Swizzle {
+        size: VectorSize::Bi,
+        vector,
+        pattern: [
+            SwizzleComponent::X,
+            SwizzleComponent::Y,
+            SwizzleComponent::X,
+            SwizzleComponent::X,
+        ],
+    }
+}
+
+/// One of the last two expressions of a group, in which the mixes differ.
+fn last_at(mix: Mix, first: u32, place: usize) -> Expression {
     let scalar = Handle::from_index(first);
     let vector = Handle::from_index(first.wrapping_add(1));
     let sum = Handle::from_index(first.wrapping_add(2));
     let test = Handle::from_index(first.wrapping_add(4));
+    match (mix, place) {
+        (Mix::NoBuiltins, 8) => Expression::Relational {
+            fun: RelationalFunction::All,
+            argument: test,
+        },
+        (Mix::NoBuiltins, _) => binary(BinaryOperator::Multiply, scalar, vector),
+        (_, 8) => math(MathFunction::Max, vector, sum),
+        (Mix::RegularBuiltins, _) => math(MathFunction::Pow, sum, vector),
+        (Mix::AllBuiltins, _) => math(MathFunction::Mix, vector, sum),
+    }
+}
+
+/// The expression at a place of a group, whose first is at `first`: floats, vectors of them, and what is made of those.
+fn expression_at(mix: Mix, first: u32, place: usize) -> Expression {
+    let vector = Handle::from_index(first.wrapping_add(1));
+    let sum = Handle::from_index(first.wrapping_add(2));
     match place {
         0 => Expression::Literal(Literal::F32(0)),
         1 => Expression::Splat {
             size: VectorSize::Quad,
-            value: scalar,
+            value: Handle::from_index(first),
         },
-        2 => Expression::Binary {
-            op: BinaryOperator::Add,
-            left: vector,
-            right: vector,
-        },
-        3 => Expression::Swizzle {
-            size: VectorSize::Bi,
-            vector: sum,
-            pattern: [
-                SwizzleComponent::X,
-                SwizzleComponent::Y,
-                SwizzleComponent::X,
-                SwizzleComponent::X,
-            ],
-        },
-        4 => Expression::Binary {
-            op: BinaryOperator::Less,
-            left: vector,
-            right: sum,
-        },
+        2 => binary(BinaryOperator::Add, vector, vector),
+        3 => halved(sum),
+        4 => binary(BinaryOperator::Less, vector, sum),
         5 => Expression::Select {
-            condition: test,
+            condition: Handle::from_index(first.wrapping_add(4)),
             accept: vector,
             reject: sum,
         },
@@ -86,22 +107,7 @@ fn expression_at(mix: Mix, first: u32, place: usize) -> Expression {
             kind: ScalarKind::Sint,
             convert: Some(4),
         },
-        8 => match mix {
-            Mix::NoBuiltins => Expression::Relational {
-                fun: RelationalFunction::All,
-                argument: test,
-            },
-            Mix::RegularBuiltins | Mix::AllBuiltins => math(MathFunction::Max, vector, sum),
-        },
-        _ => match mix {
-            Mix::NoBuiltins => Expression::Binary {
-                op: BinaryOperator::Multiply,
-                left: scalar,
-                right: vector,
-            },
-            Mix::RegularBuiltins => math(MathFunction::Pow, sum, vector),
-            Mix::AllBuiltins => math(MathFunction::Mix, vector, sum),
-        },
+        _ => last_at(mix, first, place),
     }
 }
 

@@ -2,8 +2,8 @@
 
 use crate::calls::{LISTED, REGULAR, calls_of, make_sets, resolve_calls};
 use crate::expressions::{GROUP, Mix, make_expressions, resolve_all};
-use crate::modules::{check, module_of};
-use crate::types::{compare, convert, lay_out, leaves, make_types};
+use crate::modules::{analyze_again, check, module_of};
+use crate::types::{compare, convert, lay_out, leaves, make_types, resolutions};
 use shader_ir::Module;
 use std::alloc::{AllocError, Global};
 
@@ -25,6 +25,7 @@ fn work_on_types(
     rounds: usize,
 ) -> Result<usize, AllocError> {
     let leaves = leaves(alloc)?;
+    let resolutions = resolutions(alloc)?;
     let types = make_types(
         alloc,
         if load == b"layouts".as_slice() {
@@ -38,7 +39,7 @@ fn work_on_types(
         let one = if load == b"layouts".as_slice() {
             lay_out(alloc, &types)?
         } else if load == b"comparisons".as_slice() {
-            compare(alloc, leaves.as_slice(), size)
+            compare(alloc, resolutions.as_slice(), size)
         } else {
             convert(alloc, leaves.as_slice(), size)
         };
@@ -48,9 +49,9 @@ fn work_on_types(
 }
 
 fn mix_of(load: &[u8]) -> Mix {
-    if load == b"expressions_without_builtins".as_slice() {
+    if load.ends_with(b"_without_builtins") {
         Mix::NoBuiltins
-    } else if load == b"expressions_without_lists".as_slice() {
+    } else if load.ends_with(b"_without_lists") {
         Mix::RegularBuiltins
     } else {
         Mix::AllBuiltins
@@ -72,9 +73,17 @@ fn work_on_expressions(
     Ok(done)
 }
 
-fn work_on_modules(alloc: Global, size: usize, rounds: usize) -> Result<usize, AllocError> {
-    let expressions = make_expressions(alloc, Mix::AllBuiltins, size)?;
+fn work_on_modules(
+    alloc: Global,
+    load: &[u8],
+    size: usize,
+    rounds: usize,
+) -> Result<usize, AllocError> {
+    let expressions = make_expressions(alloc, mix_of(load), size)?;
     let module = module_of(alloc, expressions, GROUP)?;
+    if load.starts_with(b"analyses") {
+        return Ok(analyze_again(alloc, &module, rounds));
+    }
     let mut done = 0usize;
     for _ in 0..rounds {
         done = done.wrapping_add(check(&module));
@@ -120,8 +129,8 @@ pub fn work(alloc: Global, line: &[u8]) -> Result<usize, AllocError> {
         work_on_types(alloc, load, size, rounds)
     } else if load.starts_with(b"expressions") {
         work_on_expressions(alloc, load, size, rounds)
-    } else if load == b"checks".as_slice() {
-        work_on_modules(alloc, size, rounds)
+    } else if load == b"checks".as_slice() || load.starts_with(b"analyses") {
+        work_on_modules(alloc, load, size, rounds)
     } else {
         work_on_calls(alloc, load, size, rounds)
     }

@@ -1,4 +1,7 @@
 //! Types, compared, converted and laid out.
+ghost use Rattle.std.specs.Prelude.{length, All, IsTrue};
+ghost use Rattle.shader_ir.specs.Key.{FitsTypes};
+ghost use Rattle.shader_ir.specs.TypeTree.{IsBackward, PointsBelow};
 
 use shader_arena::{Arena, Handle, UniqueArena};
 use shader_ir::{
@@ -90,77 +93,113 @@ static SCALARS: [Scalar; 4] = [
 ];
 
 /// What is compared and converted: scalars, vectors, matrices and a pointer over each.
-pub fn leaves(alloc: Global) -> Result<Vec<TypeResolution>, AllocError> {
+pub fn leaves(alloc: Global) -> Result<Vec<TypeInner>, AllocError> {
     let mut leaves = Vec::new(alloc);
     for scalar in &SCALARS {
-        leaves.push(TypeResolution::Value(TypeInner::Scalar(*scalar)))?;
-        leaves.push(TypeResolution::Value(TypeInner::Vector {
+        leaves.push(TypeInner::Scalar(*scalar))?;
+        leaves.push(TypeInner::Vector {
             size: VectorSize::Quad,
             scalar: *scalar,
-        }))?;
-        leaves.push(TypeResolution::Value(TypeInner::Matrix {
+        })?;
+        leaves.push(TypeInner::Matrix {
             columns: VectorSize::Quad,
             rows: VectorSize::Quad,
             scalar: *scalar,
-        }))?;
-        leaves.push(TypeResolution::Value(TypeInner::ValuePointer {
+        })?;
+        leaves.push(TypeInner::ValuePointer {
             size: None,
             scalar: *scalar,
             space: AddressSpace::Function,
-        }))?;
+        })?;
     }
     Ok(leaves)
 }
 
-/// Compares so many pairs, and tells how many are of the same type.
-pub fn compare(alloc: Global, leaves: &[TypeResolution], size: usize) -> usize {
-    let types = UniqueArena::new(alloc);
+/// The leaves as free-standing types.
+pub fn resolutions(alloc: Global) -> Result<Vec<TypeResolution>, AllocError> {
+    let mut resolutions = Vec::new(alloc);
+    for leaf in leaves(alloc)? {
+        resolutions.push(TypeResolution::Value(leaf))?;
+    }
+    Ok(resolutions)
+}
+
+/// Whether all of them fit the types.
+fn all_fit(leaves: &[TypeResolution], types: &UniqueArena<Type, mark::Type>) -> bool
+    ensures { IsTrue result → All (λ leaf. FitsTypes types.now leaf) leaves.now }
+{
+    leaves.iter().all(|leaf| leaf.fits(types))
+}
+
+/// Compares so many pairs of leaves, each of which fits the types, and tells how many are of the same type.
+fn count_same(
+    leaves: &[TypeResolution],
+    types: &UniqueArena<Type, mark::Type>,
+    size: usize,
+) -> usize
+    requires backward { IsBackward types.now }
+    requires fit { All (λ leaf. FitsTypes types.now leaf) leaves.now }
+{
     let mut same = 0usize;
     for place in 0..size {
-        if leaves.is_empty() || !types_backward(&types) {
+        if leaves.is_empty() {
             return same;
         }
         let left = &leaves[place % leaves.len()];
         let right = &leaves[place / leaves.len() % leaves.len()];
-        if left.fits(&types) && right.fits(&types) && compare_types(left, right, &types) {
+        if compare_types(left, right, types) {
             same = same.wrapping_add(1);
         }
     }
     same
 }
 
-/// Whether the one type converts to the other.
-fn converts(
-    left: &TypeResolution,
-    right: &TypeResolution,
-    types: &UniqueArena<Type, mark::Type>,
-) -> bool {
-    match (left, right) {
-        (TypeResolution::Value(left), TypeResolution::Value(right)) => {
-            types_backward(types)
-                && left.is_in_range(types)
-                && right.is_in_range(types)
-                && left.automatically_converts_to(right, types).is_some()
-        }
-        _ => false,
+/// Compares so many pairs, and tells how many are of the same type.
+pub fn compare(alloc: Global, leaves: &[TypeResolution], size: usize) -> usize {
+    let types = UniqueArena::new(alloc);
+    if types_backward(&types) && all_fit(leaves, &types) {
+        count_same(leaves, &types, size)
+    } else {
+        0
     }
 }
 
-/// Converts so many pairs, and tells how many convert.
-pub fn convert(alloc: Global, leaves: &[TypeResolution], size: usize) -> usize {
-    let types = UniqueArena::new(alloc);
+/// Whether all of them name types in range alone.
+fn all_in_range(leaves: &[TypeInner], types: &UniqueArena<Type, mark::Type>) -> bool
+    ensures { IsTrue result → All (λ leaf. PointsBelow (length types.now) leaf) leaves.now }
+{
+    leaves.iter().all(|leaf| leaf.is_in_range(types))
+}
+
+/// Converts so many pairs of leaves, each of which is in range, and tells how many convert.
+fn count_conversions(
+    leaves: &[TypeInner],
+    types: &UniqueArena<Type, mark::Type>,
+    size: usize,
+) -> usize
+    requires backward { IsBackward types.now }
+    requires in_range { All (λ leaf. PointsBelow (length types.now) leaf) leaves.now }
+{
     let mut converted = 0usize;
     for place in 0..size {
         if leaves.is_empty() {
             return converted;
         }
-        if converts(
-            &leaves[place % leaves.len()],
-            &leaves[place / leaves.len() % leaves.len()],
-            &types,
-        ) {
+        let left = &leaves[place % leaves.len()];
+        let right = &leaves[place / leaves.len() % leaves.len()];
+        if left.automatically_converts_to(right, types).is_some() {
             converted = converted.wrapping_add(1);
         }
     }
     converted
+}
+
+/// Converts so many pairs, and tells how many convert.
+pub fn convert(alloc: Global, leaves: &[TypeInner], size: usize) -> usize {
+    let types = UniqueArena::new(alloc);
+    if types_backward(&types) && all_in_range(leaves, &types) {
+        count_conversions(leaves, &types, size)
+    } else {
+        0
+    }
 }

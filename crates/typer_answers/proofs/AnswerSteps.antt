@@ -1,5 +1,6 @@
 -- Answers line by line, and how many lines a text has.
-use Rattle.std.proofs.Common.{◌≡◌, ◌∙◌, sym, subst, ap, refl, ℕ, ◌+◌, ◌≤◌, Bool, true, false, cond, eqb, Some, None, List, [], ◌∷◌, ◌++◌, append_assoc, length, arith}
+use Rattle.std.proofs.Common.{◌≡◌, ◌∙◌, sym, subst, ap, refl, ℕ, ◌+◌, ◌≤◌, Bool, true, false, cond}
+use Rattle.std.proofs.Common.{eqb, Some, None, List, [], ◌∷◌, ◌++◌, append_assoc, length, arith}
 use Rattle.std.specs.Prelude.{codes}
 use Rattle.std.specs.List.{slice_split}
 use Rattle.std.proofs.lemmas.List.Splits.{length-slice_split}
@@ -32,19 +33,29 @@ length-lines_of text =
 
 -- whatever answers the lines that are left answers the input behind the text
 abbrev pub IsBegun : List ℕ → List ℕ → ℕ → List (List ℕ) → Type 0
-IsBegun input text number lines = (later : List ℕ) (outcome : Outcome) → IsAnswerFrom number lines later outcome → IsAnswer input (text ++ later) outcome
+IsBegun input text number lines = (later : List ℕ) (outcome : Outcome) → IsAnswerFrom number lines later outcome →
+    IsAnswer input (text ++ later) outcome
 
-pub one_reply : (input text new : List ℕ) (number : ℕ) (line : List ℕ) (left lines : List (List ℕ)) (reply : Reply) → IsBegun input text number left → left ≡ line ∷ lines
+pub one_reply : (input text new : List ℕ) (number : ℕ) (line : List ℕ) (left lines : List (List ℕ)) (reply : Reply) →
+    IsBegun input text number left → left ≡ line ∷ lines
     → IsReplyTo line (Some reply) → new ≡ text ++ (reply_text reply ++ codes "\n") → IsBegun input new (number + 1) lines
 one_reply input text new number line left lines reply begun is told written later outcome rest =
     let answer = reply_text reply ++ codes "\n" ++ later in
     let joined : text ++ answer ≡ new ++ later =
     sym (append_assoc text (reply_text reply ++ codes "\n") later) ∙ ap (λ (bytes : List ℕ). bytes ++ later) (sym written) in
     let line_answer : IsAnswerFrom number (line ∷ lines) answer outcome =
-    subst (λ made. IsLineAnswer number made (IsAnswerFrom (number + 1) lines) answer outcome) (sym told.1) (reply, later, told.2, rest, refl) in
-    subst (λ bytes. IsAnswer input bytes outcome) joined (begun answer outcome (subst (λ ls. IsAnswerFrom number ls answer outcome) (sym is) line_answer))
+    subst (λ made. IsLineAnswer number made (IsAnswerFrom (number + 1) lines) answer outcome) (sym told.1) (
+      reply,
+      later,
+      told.2,
+      rest,
+      refl,
+    ) in
+    subst (λ bytes. IsAnswer input bytes outcome) joined (begun answer outcome
+    (subst (λ ls. IsAnswerFrom number ls answer outcome) (sym is) line_answer))
 
-pub no_reply : (input text new : List ℕ) (number : ℕ) (line : List ℕ) (left lines : List (List ℕ)) → IsBegun input text number left → left ≡ line ∷ lines
+pub no_reply : (input text new : List ℕ) (number : ℕ) (line : List ℕ) (left lines : List (List ℕ)) → IsBegun input text number left →
+    left ≡ line ∷ lines
     → IsReplyTo line None → new ≡ text ++ bad_line number → IsAnswer input new BadLine
 no_reply input text new number line left lines begun is none written =
     let line_answer : IsAnswerFrom number (line ∷ lines) (bad_line number) BadLine =
@@ -52,6 +63,8 @@ no_reply input text new number line left lines begun is none written =
     subst (λ bytes. IsAnswer input bytes BadLine) (sym written)
     (begun (bad_line number) BadLine (subst (λ ls. IsAnswerFrom number ls (bad_line number) BadLine) (sym is) line_answer))
 
-pub no_line : (input text : List ℕ) (number : ℕ) (left : List (List ℕ)) → IsBegun input text number left → left ≡ [] → IsAnswer input text Done
+pub no_line : (input text : List ℕ) (number : ℕ) (left : List (List ℕ)) → IsBegun input text number left → left ≡ [] →
+    IsAnswer input text Done
 no_line input text number left begun is =
-    subst (λ bytes. IsAnswer input bytes Done) (append-nil text) (begun [] Done (subst (λ ls. IsAnswerFrom number ls [] Done) (sym is) (refl, refl)))
+    subst (λ bytes. IsAnswer input bytes Done) (append-nil text)
+    (begun [] Done (subst (λ ls. IsAnswerFrom number ls [] Done) (sym is) (refl, refl)))

@@ -1,5 +1,6 @@
 -- Whole inputs by what they spell.
-use Rattle.std.proofs.Common.{◌≡◌, ◌≢◌, ◌↔◌, ℕ, ◌+◌, ◌<◌, Bool, true, false, cond, eqb, Option, Some, None, List, [], ◌∷◌, ◌++◌, length, refl, sym, subst, ap, ◌∙◌, append_assoc, add-zero, arith}
+use Rattle.std.proofs.Common.{◌≡◌, ◌≢◌, ◌↔◌, ℕ, ◌+◌, ◌<◌, Bool, true, false, cond, eqb, Option, Some, None, List}
+use Rattle.std.proofs.Common.{[], ◌∷◌, ◌++◌, length, refl, sym, subst, ap, ◌∙◌, append_assoc, add-zero, arith}
 use Rattle.std.specs.Prelude.{codes}
 use Rattle.std.specs.List.{slice_split, onto_first, list_any}
 use Rattle.std.proofs.lemmas.Bool.{ne_eqb}
@@ -7,7 +8,8 @@ use Rattle.std.proofs.lemmas.List.{append-nil}
 use Rattle.typer_answers.specs.declared.answer.Outcome.{Outcome}
 use Rattle.typer_answers.specs.declared.request.Request.{Request}
 use Rattle.typer_answers.specs.Answers.{IsAnswer, IsAnswerFrom, IsLineAnswer, bad_line, reply_text}
-use Rattle.typer_answers.specs.Laws.{AreReplyLines, AreWritable, BadLinesEndAnswers, LastLinesMayLackEnds, RequestsAreAnswered, request_lines}
+use Rattle.typer_answers.specs.Laws.{AreReplyLines, AreWritable, BadLinesEndAnswers, LastLinesMayLackEnds}
+use Rattle.typer_answers.specs.Laws.{RequestsAreAnswered, request_lines}
 use Rattle.typer_answers.specs.Lines.{lines_of, without_empty_last}
 use Rattle.typer_answers.specs.Requests.{IsWritableRequest, request_of, request_text}
 use Rattle.typer_answers.proofs.LineSteps.{has_piece, kept}
@@ -35,7 +37,8 @@ module _ (number : ℕ) (text : List ℕ) (outcome : Outcome) where
   request_answers : (request : Request) (rest : List ℕ) → IsWritableRequest request →
       IsAnswerFrom number (lines_of (request_text request ++ 10 ∷ rest)) text outcome
       ↔ IsLineAnswer number (Some request) (IsAnswerFrom (number + 1) (lines_of rest)) text outcome
-  request_answers request rest writable = line_answers (request_text request) rest (Some request) (request_line request writable) (request_named request writable)
+  request_answers request rest writable = line_answers (request_text request) rest (Some request) (request_line request writable)
+      (request_named request writable)
 
 joined_line : (a b : List ℕ) → (a ++ 10 ∷ []) ++ b ≡ a ++ 10 ∷ b
 joined_line a b = append_assoc a (10 ∷ []) b
@@ -43,14 +46,17 @@ joined_line a b = append_assoc a (10 ∷ []) b
 -- replies to the requests, and the answer to what follows
 abbrev AreReplied : ℕ → List Request → List ℕ → List ℕ → Outcome → Type 0
 AreReplied number requests rest text outcome =
-    (replies : List ℕ) × (later : List ℕ) × AreReplyLines requests replies × IsAnswerFrom (number + length requests) (lines_of rest) later outcome × (text ≡ replies ++ later)
+    (replies : List ℕ) × (later : List ℕ) × AreReplyLines requests replies ×
+    IsAnswerFrom (number + length requests) (lines_of rest) later outcome × (text ≡ replies ++ later)
 
 requests_first : (request : Request) (requests : List Request) (rest : List ℕ) →
     request_lines (request ∷ requests) ++ rest ≡ request_text request ++ 10 ∷ (request_lines requests ++ rest)
 requests_first request requests rest =
-    append_assoc (request_text request ++ 10 ∷ []) (request_lines requests) rest ∙ joined_line (request_text request) (request_lines requests ++ rest)
+    append_assoc (request_text request ++ 10 ∷ []) (request_lines requests) rest
+    ∙ joined_line (request_text request) (request_lines requests ++ rest)
 
-count_more : (number : ℕ) (request : Request) (requests : List Request) → number + 1 + length requests ≡ number + length (request ∷ requests)
+count_more : (number : ℕ) (request : Request) (requests : List Request) →
+    number + 1 + length requests ≡ number + length (request ∷ requests)
 count_more number request requests = omega arith
 
 requests_to : (number : ℕ) (requests : List Request) (rest text : List ℕ) (outcome : Outcome) → AreWritable requests →
@@ -77,8 +83,14 @@ requests_from number [] rest text outcome writable h =
 requests_from number (request ∷ requests) rest text outcome writable h =
     let replies = h.2 in
     let later : List ℕ = replies.1 ++ h.1 in
-    let others = requests_from (number + 1) requests rest later outcome writable.1
-    (replies.1, h.1, replies.3, subst (λ n. IsAnswerFrom n (lines_of rest) h.1 outcome) (sym (count_more number request requests)) h.3, refl) in
+    let others = requests_from (number + 1) requests rest later outcome writable.1 (
+      replies.1,
+      h.1,
+      replies.3,
+      subst (λ n. IsAnswerFrom n (lines_of rest) h.1 outcome)
+          (sym (count_more number request requests)) h.3,
+      refl,
+    ) in
     let is : text ≡ reply_text replies.0 ++ codes "\n" ++ later =
     h.4 ∙ ap (λ (bytes : List ℕ). bytes ++ h.1) replies.4 ∙ append_assoc (reply_text replies.0 ++ codes "\n") replies.1 h.1 in
     subst (λ bytes. IsAnswerFrom number (lines_of bytes) text outcome) (sym (requests_first request requests rest))
@@ -104,7 +116,8 @@ no_request bad (Some request) is none =
 pub bad_lines_end_answers : BadLinesEndAnswers
 bad_lines_end_answers requests bad rest writable ended none text outcome =
     let count : 1 + length requests ≡ length requests + 1 = omega arith in
-    let ends = λ (later : List ℕ). line_answers (1 + length requests) later outcome bad rest None ended (no_request bad (request_of bad) refl none) in (
+    let ends = λ (later : List ℕ). line_answers (1 + length requests) later outcome bad rest None ended
+    (no_request bad (request_of bad) refl none) in (
       λ h.
           let r = requests_to 1 requests (bad ++ 10 ∷ rest) text outcome writable h in
           let bad_end = (ends r.1).0 r.3 in
@@ -160,5 +173,6 @@ last_lines_may_lack_ends input last different text outcome =
     let other : eqb last 10 ≡ false = ne_eqb last 10 different in
     let pieces = slice_split is_end (input ++ last ∷ []) in
     let same : lines_of (input ++ last ∷ []) ≡ lines_of (input ++ last ∷ 10 ∷ []) =
-    full_kept pieces (ends_full input last other) ∙ sym (without_more pieces) ∙ sym (ap without_empty_last (one_piece_more input last other)) in
+    full_kept pieces (ends_full input last other) ∙ sym (without_more pieces)
+    ∙ sym (ap without_empty_last (one_piece_more input last other)) in
     (subst (λ lines. IsAnswerFrom 1 lines text outcome) same, subst (λ lines. IsAnswerFrom 1 lines text outcome) (sym same))

@@ -22,7 +22,7 @@ use Rattle.shader_text.specs.declared.types.PlainType.TheVariants.{Scalar, Vecto
 use Rattle.shader_text.specs.declared.types.SpelledType.{SpelledType}
 use Rattle.shader_text.specs.declared.types.SpelledType.TheVariants.{Plain, Array}
 use Rattle.shader_text.specs.Placements.{own_inner, own_types, unnamed}
-use Rattle.shader_text.specs.Types.{inner_of}
+use Rattle.shader_text.specs.Types.{plain_inner}
 use Rattle.typer_answers.specs.Layouts.{context, first_fault, laid_types, layout_in, layout_of_spelled, layout_unless}
 
 abbrev pub last_place : SpelledType → ℕ
@@ -50,7 +50,8 @@ types_laid spelled old new inner placed is added =
     ∙ ap (λ i. with_item type.ghosts.eq (own_types spelled) (unnamed i)) is
     ∙ type_added spelled
 
-pub place_laid : (spelled : SpelledType) (old : List «Type») (inner : TypeInner) (place : ℕ) → old ≡ own_types spelled → inner ≡ own_inner spelled
+pub place_laid : (spelled : SpelledType) (old : List «Type») (inner : TypeInner) (place : ℕ) → old ≡ own_types spelled →
+    inner ≡ own_inner spelled
     → place ≡ place_of type.ghosts.eq old (unnamed inner) → place ≡ last_place spelled
 place_laid spelled old inner place placed is at =
     at
@@ -60,7 +61,7 @@ place_laid spelled old inner place placed is at =
 
 -- ---- no size rests on what a module has yet to tell
 
-plain_in_range : (ctx : GlobalCtx) (plain : PlainType) → IsTypeSizeInRange ctx (inner_of plain)
+plain_in_range : (ctx : GlobalCtx) (plain : PlainType) → IsTypeSizeInRange ctx (plain_inner plain)
 plain_in_range ctx (Scalar scalar) = tt
 plain_in_range ctx (Vector size scalar) = tt
 plain_in_range ctx (Matrix columns rows scalar) = tt
@@ -69,10 +70,11 @@ abbrev InRange : GlobalCtx → «Type» → Type 0
 InRange ctx t = IsTypeSizeInRange ctx t.inner
 
 laid_in_range : (ctx : GlobalCtx) (spelled : SpelledType) → All (InRange ctx) (laid_types spelled)
-laid_in_range ctx (Plain plain) = All-cons (InRange ctx) (unnamed (inner_of plain)) [] (plain_in_range ctx plain) (All-nil (InRange ctx))
+laid_in_range ctx (Plain plain) = All-cons (InRange ctx) (unnamed (plain_inner plain)) [] (plain_in_range ctx plain) (All-nil (InRange ctx))
 laid_in_range ctx (Array base count stride) =
     let array = unnamed (own_inner (Array base count stride)) in
-    All-cons (InRange ctx) (unnamed (inner_of base)) (array ∷ []) (plain_in_range ctx base) (All-cons (InRange ctx) array [] tt (All-nil (InRange ctx)))
+    All-cons (InRange ctx) (unnamed (plain_inner base)) (array ∷ []) (plain_in_range ctx base)
+    (All-cons (InRange ctx) array [] tt (All-nil (InRange ctx)))
 
 pub sizes_in_range : (ctx : GlobalCtx) (spelled : SpelledType) → ctx.types.now ≡ laid_types spelled → AreTypeSizesInRange ctx
 sizes_in_range ctx spelled is = subst (All (InRange ctx)) (sym is) (laid_in_range ctx spelled)
@@ -83,7 +85,8 @@ types_counted : (spelled : SpelledType) → length (laid_types spelled) ≡ suc 
 types_counted (Plain plain) = refl
 types_counted (Array base count stride) = refl
 
-fault_same : (a b : GlobalCtx) (place : ℕ) (plain : PlainType) → layout_fault a place (inner_of plain) ≡ layout_fault b place (inner_of plain)
+fault_same : (a b : GlobalCtx) (place : ℕ) (plain : PlainType) →
+    layout_fault a place (plain_inner plain) ≡ layout_fault b place (plain_inner plain)
 fault_same a b place (Scalar scalar) = refl
 fault_same a b place (Vector size scalar) = refl
 fault_same a b place (Matrix columns rows scalar) = refl
@@ -93,7 +96,8 @@ faults_same a b (Plain plain) = ap (λ fault. option_or fault None) (fault_same 
 faults_same a b (Array base count stride) =
     ap (λ fault. option_or fault (first_fault a 1 (unnamed (own_inner (Array base count stride)) ∷ []))) (fault_same a b 0 base)
 
-layout_same : (a b : GlobalCtx) (spelled : SpelledType) → layout_of a (tree_of (laid_types spelled) (own_inner spelled)) ≡ layout_of b (tree_of (laid_types spelled) (own_inner spelled))
+layout_same : (a b : GlobalCtx) (spelled : SpelledType) →
+    layout_of a (tree_of (laid_types spelled) (own_inner spelled)) ≡ layout_of b (tree_of (laid_types spelled) (own_inner spelled))
 layout_same a b (Plain (Scalar scalar)) = refl
 layout_same a b (Plain (Vector size scalar)) = refl
 layout_same a b (Plain (Matrix columns rows scalar)) = refl
@@ -136,16 +140,20 @@ no_layouts ctx layouts none =
 abbrev layouts_in : GlobalCtx → List «Type» → List TypeLayout
 layouts_in ctx types = map (λ (t : «Type»). layout_of ctx (tree_of types t.inner)) types
 
-layout_last : (ctx : GlobalCtx) (spelled : SpelledType) → slice_get (layouts_in ctx (laid_types spelled)) (last_place spelled) ≡ Some (layout_of ctx (tree_of (laid_types spelled) (own_inner spelled)))
+layout_last : (ctx : GlobalCtx) (spelled : SpelledType) →
+    slice_get (layouts_in ctx (laid_types spelled)) (last_place spelled)
+    ≡ Some (layout_of ctx (tree_of (laid_types spelled) (own_inner spelled)))
 layout_last ctx (Plain plain) = refl
 layout_last ctx (Array base count stride) = refl
 
 -- the layout that an update gives to a type behind its base is the type's
-pub layout_is : (ctx : GlobalCtx) (spelled : SpelledType) (first : ℕ) (layouts : List TypeLayout) (layout : TypeLayout) → ctx.types.now ≡ laid_types spelled
+pub layout_is : (ctx : GlobalCtx) (spelled : SpelledType) (first : ℕ) (layouts : List TypeLayout) (layout : TypeLayout) →
+    ctx.types.now ≡ laid_types spelled
     → first ≡ 0 → AreFaultless ctx first (length layouts) → length ctx.types.now ≤ length layouts → layouts ≡ layouts_of ctx
     → slice_get layouts (last_place spelled) ≡ Some layout → Some layout ≡ layout_of_spelled spelled
 layout_is ctx spelled first layouts layout is start faultless whole all at =
-    let none = no_fault ctx spelled is (λ place above below. faultless place (omega (arith, start)) (omega (arith, whole, ap length is, types_counted spelled))) in
+    let none = no_fault ctx spelled is (λ place above below. faultless place (omega (arith, start))
+    (omega (arith, whole, ap length is, types_counted spelled))) in
     sym at
     ∙ ap (λ ls. slice_get ls (last_place spelled)) (all ∙ ap (layouts_in ctx) is)
     ∙ layout_last ctx spelled
@@ -154,7 +162,8 @@ layout_is ctx spelled first layouts layout is start faultless whole all at =
 
 -- ---- refusals
 
-first_bad : (o : Option LayoutErrorInner) (later : Option LayoutErrorInner) (fault : LayoutErrorInner) (layout : TypeLayout) → Some o ≡ Some (Some fault)
+first_bad : (o : Option LayoutErrorInner) (later : Option LayoutErrorInner) (fault : LayoutErrorInner) (layout : TypeLayout) →
+    Some o ≡ Some (Some fault)
     → None ≡ layout_unless (option_or o later) layout
 first_bad None later fault layout some = absurd (cc)
 first_bad (Some one) later fault layout some = refl
@@ -164,7 +173,8 @@ last_bad : (first o : Option LayoutErrorInner) (fault : LayoutErrorInner) (layou
 last_bad (Some one) o fault layout some = refl
 last_bad None o fault layout some = first_bad o None fault layout some
 
-refused_in : (ctx : GlobalCtx) (spelled : SpelledType) (place : ℕ) (fault : LayoutErrorInner) → fault_in ctx (laid_types spelled) place ≡ Some (Some fault)
+refused_in : (ctx : GlobalCtx) (spelled : SpelledType) (place : ℕ) (fault : LayoutErrorInner) →
+    fault_in ctx (laid_types spelled) place ≡ Some (Some fault)
     → None ≡ layout_in ctx spelled
 refused_in ctx (Plain plain) zero fault some = first_bad _ _ fault _ some
 refused_in ctx (Plain plain) (suc place) fault some = absurd (cc)
@@ -173,7 +183,8 @@ refused_in ctx (Array base count stride) (suc zero) fault some = last_bad _ _ fa
 refused_in ctx (Array base count stride) (suc (suc place)) fault some = absurd (cc)
 
 -- where an update refuses one of the types, the type has no layout
-pub refused_is : (ctx : GlobalCtx) (spelled : SpelledType) (place : ℕ) (error : UpdateError) (fault : LayoutError) → ctx.types.now ≡ laid_types spelled
+pub refused_is : (ctx : GlobalCtx) (spelled : SpelledType) (place : ℕ) (error : UpdateError) (fault : LayoutError) →
+    ctx.types.now ≡ laid_types spelled
     → error ≡ Layout fault → IsRefusalAt ctx place error → None ≡ layout_of_spelled spelled
 refused_is ctx spelled place error fault is which refusal =
     let at : IsRefusalAt ctx place (Layout fault) = subst (IsRefusalAt ctx place) which refusal in

@@ -1,5 +1,6 @@
 -- The faults of the sample modules are all of one kind, so a sample has one report.
-use Rattle.std.proofs.Common.{◌≡◌, ◌∙◌, sym, subst, ap, refl, ℕ, zero, suc, ◌+◌, ◌<◌, ◌≤◌, ◌^◌, Bool, true, false, ◌&&◌, not, List, [], ◌∷◌, Option, Some, None, length, nat_eq, nat_lt, slice_get, cond, arith}
+use Rattle.std.proofs.Common.{◌≡◌, ◌∙◌, sym, subst, ap, refl, ℕ, zero, suc, ◌+◌, ◌<◌, ◌≤◌, ◌^◌, Bool, true, false, ◌&&◌}
+use Rattle.std.proofs.Common.{not, List, [], ◌∷◌, Option, Some, None, length, nat_eq, nat_lt, slice_get, cond, arith}
 use Rattle.std.specs.List.{Contains, list_all, range_with_len}
 use Rattle.std.specs.Option.{is_some, option_and_then, option_map}
 use Rattle.std.proofs.lemmas.Bool.{ltb-true}
@@ -9,14 +10,16 @@ use Rattle.shader_ir.specs.declared.expression.Expression.TheVariants as form
 use Rattle.shader_ir.specs.declared.proc.type_resolution.TypeResolution.{TypeResolution}
 use Rattle.shader_chains.specs.Counts.{count_of, times}
 use Rattle.shader_chains.specs.Derivable.{Answers, Derives, by_one, by_two, function_context, given, plain}
-use Rattle.shader_chains.specs.Faults.{Cause, IsFault, ModuleFault, Passes, Settings, Site, bad_element, count_full, in_entry_point, in_expression, in_function, misplaced, no_capability, no_image_passed, no_image_place, no_sampler_passed, no_sampler_place, untyped}
+use Rattle.shader_chains.specs.Faults.{Cause, IsFault, ModuleFault, Passes, Settings, Site, bad_element, count_full}
+use Rattle.shader_chains.specs.Faults.{in_entry_point, in_expression, in_function, misplaced, no_capability, no_image_passed}
+use Rattle.shader_chains.specs.Faults.{no_image_place, no_sampler_passed, no_sampler_place, untyped}
 use Rattle.shader_chains.specs.Pairs.{place, sampled}
 use Rattle.shader_chains.specs.Program.{Call, Expression, Function, Label, Leaf, Module, Step, occurrences, statements}
 use Rattle.shader_chains.proofs.TypeLemmas.{types_are_unique}
 use Rattle.shader_info.specs.declared.error.AnalysisPlace.{AnalysisPlace}
 use Rattle.shader_overloads.proofs.AgreementLemmas.{all_at}
-use Rattle.shader_reports.specs.Laws.{TellAlike}
-use Rattle.shader_reports.specs.Reports.{IsModuleReport, kind_of}
+use Rattle.shader_reports.specs.Laws.{ReportAlike}
+use Rattle.shader_reports.specs.Reports.{IsModuleReport, kind_of_cause}
 use Rattle.shader_reports.specs.declared.report.FaultKind.{FaultKind}
 use Rattle.shader_reports.specs.declared.report.FaultKind.TheVariants.{NonUniformControlFlow}
 use Rattle.shader_reports.specs.declared.report.ModuleReport.{ModuleReport}
@@ -24,13 +27,13 @@ use Rattle.shader_reports.specs.declared.report.ModuleReport.TheVariants.{Accept
 use Rattle.shader_reports.proofs.Unique.{reports_are_unique}
 use Rattle.shader_resolve.specs.Outcome.{Given, Outcome, Refused as Refusing}
 use Rattle.shader_resolve.specs.Rows.{One, Plain, Row, Two, row}
-use Rattle.shader_samples.specs.Samples.{module_of}
+use Rattle.shader_samples.specs.Samples.{sample_module}
 use Rattle.shader_samples.specs.declared.sample.Sample.{Sample}
 use Rattle.shader_samples.specs.declared.sample.Sample.TheVariants as s
 use Rattle.shader_text.proofs.Found.{mapped}
 use Rattle.shader_typing.specs.Processed.{site_of}
 use Rattle.typer_answers.specs.Laws.{SamplesHaveOneReport}
-use Rattle.typer_answers.specs.Samples.{checked}
+use Rattle.typer_answers.specs.Samples.{flow_checked}
 
 some_of : {X : Type 0} (o : Option X) → is_some o ≡ true → (x : X) × (o ≡ Some x)
 some_of None h = cc
@@ -65,28 +68,34 @@ module _ (m : Module) (f : Function) where
   -- the type of an expression whose operands go so deep
   abbrev type_at : ℕ → ℕ → Option TypeResolution
   type_at zero e = None
-  type_at (suc n) e = option_and_then given_of (option_and_then (λ x. outcome_by (type_at n) (row (function_context m f) x)) (slice_get f.expressions e))
+  type_at (suc n) e = option_and_then given_of (option_and_then (λ x. outcome_by (type_at n) (row (function_context m f) x))
+      (slice_get f.expressions e))
 
   abbrev AreDerived : (ℕ → Option TypeResolution) → Type 0
   AreDerived told = (e : ℕ) (r : TypeResolution) → told e ≡ Some r → Derives (function_context m f) f.expressions e r
 
-  answers : (told : ℕ → Option TypeResolution) (e : ℕ) (x : Expression) (r : Row) (outcome : Outcome) → AreDerived told → slice_get f.expressions e ≡ Some x →
+  answers : (told : ℕ → Option TypeResolution) (e : ℕ) (x : Expression) (r : Row) (outcome : Outcome) → AreDerived told →
+      slice_get f.expressions e ≡ Some x →
       row (function_context m f) x ≡ r → outcome_by told r ≡ Some outcome → Answers (function_context m f) f.expressions e outcome
-  answers told e x (Plain o) outcome derived stands is found = subst (Answers (function_context m f) f.expressions e) (same_Some o outcome found) (plain stands is)
+  answers told e x (Plain o) outcome derived stands is found =
+      subst (Answers (function_context m f) f.expressions e) (same_Some o outcome found) (plain stands is)
   answers told e x (One operand answer) outcome derived stands is found =
       let t = mapped answer (told operand) outcome found in
       subst (Answers (function_context m f) f.expressions e) t.2 (by_one stands is (derived operand t.0 t.1))
   answers told e x (Two left right answer) outcome derived stands is found =
-      option_and_then_some {P = Answers (function_context m f) f.expressions e outcome} (λ first. option_map (answer first) (told right)) (told left) outcome found (λ first first_is inner.
+      option_and_then_some {P = Answers (function_context m f) f.expressions e outcome} (λ first. option_map (answer first) (told right))
+      (told left) outcome found (λ first first_is inner.
       let second = mapped (answer first) (told right) outcome inner in
-      subst (Answers (function_context m f) f.expressions e) second.2 (by_two stands is (derived left first first_is) (derived right second.0 second.1)))
+      subst (Answers (function_context m f) f.expressions e) second.2
+      (by_two stands is (derived left first first_is) (derived right second.0 second.1)))
 
   derived_at : (n : ℕ) → AreDerived (type_at n)
   derived_at zero e r h = cc
   derived_at (suc n) e r h =
       option_and_then_some {P = Derives (function_context m f) f.expressions e r} given_of
       (option_and_then (λ x. outcome_by (type_at n) (row (function_context m f) x)) (slice_get f.expressions e)) r h (λ outcome found gives.
-      option_and_then_some {P = Derives (function_context m f) f.expressions e r} (λ x. outcome_by (type_at n) (row (function_context m f) x)) (slice_get f.expressions e) outcome found
+      option_and_then_some {P = Derives (function_context m f) f.expressions e r}
+      (λ x. outcome_by (type_at n) (row (function_context m f) x)) (slice_get f.expressions e) outcome found
       (λ x stands inner.
       given (answers (type_at n) e x (row (function_context m f) x) outcome (derived_at n) stands refl inner) (given_is outcome r gives)))
 
@@ -130,27 +139,34 @@ module _ (m : Module) (f : Function) where
 
   -- ---- what follows
 
-  typed : all_typed ≡ true → (e : ℕ) (x : Expression) → slice_get f.expressions e ≡ Some x → (r : TypeResolution) × Derives (function_context m f) f.expressions e r
+  typed : all_typed ≡ true → (e : ℕ) (x : Expression) → slice_get f.expressions e ≡ Some x →
+      (r : TypeResolution) × Derives (function_context m f) f.expressions e r
   typed all e x stands =
       let count = length f.expressions in
       let within : e < length (range_with_len 0 count) =
       subst (λ n. e < n) (sym (length-range_with_len 0 count)) (slice_get_within f.expressions e x stands) in
       let at : slice_get (range_with_len 0 count) e ≡ Some e =
-      slice_get-get_or (range_with_len 0 count) e 0 within ∙ ap Some (get_or-range_with_len 0 count e 0 (slice_get_within f.expressions e x stands) ∙ add_nothing e) in
+      slice_get-get_or (range_with_len 0 count) e 0 within ∙ ap Some
+      (get_or-range_with_len 0 count e 0 (slice_get_within f.expressions e x stands) ∙ add_nothing e) in
       let r = some_of (type_at 4 e) (all_at is_typed (range_with_len 0 count) e e all at) in
       (r.0, derived_at 4 e r.0 r.1)
 
   indexes_nothing : none_indexes ≡ true → (e base index : ℕ) → slice_get f.expressions e ≡ Some (form.Access base index) → ⊥
   indexes_nothing none e base index stands =
-      let h : not (is_access (form.Access base index)) ≡ true = all_at (λ x. not (is_access x)) f.expressions e (form.Access base index) none stands in cc
+      let h : not (is_access (form.Access base index)) ≡ true =
+      all_at (λ x. not (is_access x)) f.expressions e (form.Access base index) none stands in cc
 
   placed_here : (e : ℕ) → is_placed e ≡ true → place f e ≡ None → ⊥
   placed_here e h none = let p = some_of (place f e) h in let is : Some p.0 ≡ None = sym p.1 ∙ none in cc
 
-  samples_placed : all_sampled ≡ true → (e image sampler : ℕ) → option_and_then sampled (slice_get f.expressions e) ≡ Some (image, sampler) →
+  samples_placed : all_sampled ≡ true → (e image sampler : ℕ) →
+      option_and_then sampled (slice_get f.expressions e) ≡ Some (image, sampler) →
       (is_placed image ≡ true) × (is_placed sampler ≡ true)
   samples_placed all e image sampler h =
-      option_and_then_some {P = (is_placed image ≡ true) × (is_placed sampler ≡ true)} sampled (slice_get f.expressions e) (image, sampler) h (λ x stands is.
+      option_and_then_some {P = (is_placed image ≡ true) × (is_placed sampler ≡ true)} sampled (slice_get f.expressions e) (
+        image,
+        sampler,
+      ) h (λ x stands is.
       both_of (is_placed image) (is_placed sampler)
       (subst (λ o. are_placed o ≡ true) is (all_at (λ x. are_placed (sampled x)) f.expressions e x all stands)))
 
@@ -171,14 +187,16 @@ times_le e (x ∷ xs) = omega (arith, one_le (nat_eq x.0 e), times_le e xs)
 few_named : (f : Function) (e : ℕ) → nat_lt (length (occurrences f)) 100 ≡ true → 2 ^ 64 ≤ count_of f e → ⊥
 few_named f e few full = omega (arith, times_le e (occurrences f), ltb-true (length (occurrences f)) 100 few)
 
-fault_kind : (m : Module) (f : Function) (settings : Settings) (cause : Cause) → all_typed m f ≡ true → none_indexes m f ≡ true → all_sampled m f ≡ true →
-    all_passed m f ≡ true → are_few m f ≡ true → IsFault m f settings cause → kind_of cause ≡ NonUniformControlFlow
+fault_kind : (m : Module) (f : Function) (settings : Settings) (cause : Cause) → all_typed m f ≡ true → none_indexes m f ≡ true →
+    all_sampled m f ≡ true →
+    all_passed m f ≡ true → are_few m f ≡ true → IsFault m f settings cause → kind_of_cause cause ≡ NonUniformControlFlow
 fault_kind m f settings _ types indexes sample pass few (untyped {e = e} {refusal = refusal} refused) =
     let t = typed m f types e refused.expression refused.stands in
     absurd ((types_are_unique (function_context m f) f.expressions e t.0 t.1).1 refusal refused)
 fault_kind m f settings _ types indexes sample pass few (no_capability {e = e} {index = index} at capability origin refused) =
     absurd (indexes_nothing m f indexes e at.base index at.stands)
-fault_kind m f settings _ types indexes sample pass few (bad_element {e = e} {index = index} at other) = absurd (indexes_nothing m f indexes e at.base index at.stands)
+fault_kind m f settings _ types indexes sample pass few (bad_element {e = e} {index = index} at other) =
+    absurd (indexes_nothing m f indexes e at.base index at.stands)
 fault_kind m f settings _ types indexes sample pass few (no_image_place {e = e} {image = i} {sampler = k} is none) =
     absurd (placed_here m f i (samples_placed m f sample e i k is).0 none)
 fault_kind m f settings _ types indexes sample pass few (no_sampler_place {e = e} {image = i} {sampler = k} is none) =
@@ -192,7 +210,7 @@ fault_kind m f settings _ types indexes sample pass few (count_full {e = e} full
 
 -- the faults of a simple function are in its flow
 flow_alone : (m : Module) (f : Function) (settings : Settings) (cause : Cause) → is_simple m f ≡ true → IsFault m f settings cause →
-    kind_of cause ≡ NonUniformControlFlow
+    kind_of_cause cause ≡ NonUniformControlFlow
 flow_alone m f settings cause simple fault =
     let a = both_of (all_typed m f) (none_indexes m f && (all_sampled m f && (all_passed m f && are_few m f))) simple in
     let b = both_of (none_indexes m f) (all_sampled m f && (all_passed m f && are_few m f)) a.1 in
@@ -210,13 +228,16 @@ nothing_at : {X : Type 0} (xs : List X) (i : ℕ) (x : X) → xs ≡ [] → slic
 nothing_at [] i x e at = cc
 nothing_at (y ∷ ys) i x e at = cc
 
-flow_in : (m : Module) (settings : Settings) (site : Site) (cause : Cause) → AreSimple m → ModuleFault m settings site cause → kind_of cause ≡ NonUniformControlFlow
-flow_in m settings _ _ simple (in_expression {e = e} refused) = absurd (nothing_at m.global_expressions e refused.expression simple.expressions refused.stands)
+flow_in : (m : Module) (settings : Settings) (site : Site) (cause : Cause) → AreSimple m → ModuleFault m settings site cause →
+    kind_of_cause cause ≡ NonUniformControlFlow
+flow_in m settings _ _ simple (in_expression {e = e} refused) =
+    absurd (nothing_at m.global_expressions e refused.expression simple.expressions refused.stands)
 flow_in m settings _ cause simple (in_function {i = i} {f = f} at fault) =
     flow_alone m f settings cause (all_at (is_simple m) m.functions i f simple.functions at) fault
-flow_in m settings _ _ simple (in_entry_point {i = i} {entry = entry} at fault) = absurd (nothing_at m.entry_points i entry simple.entry_points at)
+flow_in m settings _ _ simple (in_entry_point {i = i} {entry = entry} at fault) =
+    absurd (nothing_at m.entry_points i entry simple.entry_points at)
 
-samples_are_simple : (sample : Sample) → AreSimple (module_of sample)
+samples_are_simple : (sample : Sample) → AreSimple (sample_module sample)
 samples_are_simple s.Named = record { expressions = refl; entry_points = refl; functions = refl }
 samples_are_simple s.Stored = record { expressions = refl; entry_points = refl; functions = refl }
 samples_are_simple s.Sampling = record { expressions = refl; entry_points = refl; functions = refl }
@@ -229,15 +250,16 @@ samples_are_simple s.Derivative = record { expressions = refl; entry_points = re
 samples_are_simple s.DerivativeOff = record { expressions = refl; entry_points = refl; functions = refl }
 
 -- what is told of such a module
-one_report : (m : Module) (a b : ModuleReport) → AreSimple m → IsModuleReport m checked a → IsModuleReport m checked b → TellAlike a b → a ≡ b
+one_report : (m : Module) (a b : ModuleReport) → AreSimple m → IsModuleReport m flow_checked a → IsModuleReport m flow_checked b →
+    ReportAlike a b → a ≡ b
 one_report m (Accepted xs) (Accepted ys) simple x y alike = ap Accepted alike
 one_report m (Accepted xs) (Refused at kind) simple x y alike = absurd alike
 one_report m (Refused at kind) (Accepted ys) simple x y alike = absurd alike
 one_report m (Refused at kind) (Refused other told) simple x y alike =
-    let first : kind ≡ NonUniformControlFlow = x.kind ∙ flow_in m checked (site_of at) x.cause simple x.first.stands in
-    let second : told ≡ NonUniformControlFlow = y.kind ∙ flow_in m checked (site_of other) y.cause simple y.first.stands in
+    let first : kind ≡ NonUniformControlFlow = x.kind ∙ flow_in m flow_checked (site_of at) x.cause simple x.first.stands in
+    let second : told ≡ NonUniformControlFlow = y.kind ∙ flow_in m flow_checked (site_of other) y.cause simple y.first.stands in
     ap (λ (p : AnalysisPlace). Refused p kind) alike ∙ ap (λ (k : FaultKind). Refused other k) (first ∙ sym second)
 
 pub samples_have_one_report : SamplesHaveOneReport
 samples_have_one_report sample a b x y =
-    one_report (module_of sample) a b (samples_are_simple sample) x y (reports_are_unique (module_of sample) checked a b x y)
+    one_report (sample_module sample) a b (samples_are_simple sample) x y (reports_are_unique (sample_module sample) flow_checked a b x y)

@@ -1,29 +1,18 @@
 -- The rules that are left of a builtin, argument by argument.
-use Rattle.std.proofs.Common.{◌≡◌, ℕ, ◌+◌, ◌<◌, Bool, true, false, cond, ◌&&◌, List, [], ◌∷◌, length, map, drop, get_or, refl, sym, subst, ap, ◌∙◌}
+use Rattle.std.proofs.Common.{◌≡◌, ℕ, ◌+◌, ◌<◌, Bool, ◌&&◌, List, []}
+use Rattle.std.proofs.Common.{◌∷◌, length, map, drop, get_or, refl, sym, ap, ◌∙◌}
 use Rattle.std.specs.List.{filter, list_all}
 use Rattle.std.proofs.lemmas.List.{drop_more}
-use Rattle.std.proofs.lemmas.List.Elements.{All-filter}
 use Rattle.shader_ir.specs.declared.operators.MathFunction.{MathFunction}
-use Rattle.shader_ir.specs.declared.types.«Type».{«Type»}
 use Rattle.shader_overloads.specs.declared.rule.Rule.{Rule}
 use Rattle.shader_overloads.specs.Builtins.{acceptance_of, rules_of}
-use Rattle.shader_overloads.specs.Remaining.{RuleFits, RulesFit, passes}
+use Rattle.shader_overloads.specs.Remaining.{passes}
+use Rattle.shader_overloads.proofs.NarrowLemmas.{filter-filter}
 use Rattle.shader_text.specs.declared.types.PlainType.{PlainType}
 use Rattle.shader_text.specs.declared.types.SpelledType.{SpelledType}
 use Rattle.shader_text.specs.declared.types.SpelledType.TheVariants.{Plain}
 use Rattle.typer_answers.specs.Calls.{takes_all, takes_argument}
 use Rattle.typer_answers.specs.Laws.{RulesLeftRemain, calls_from}
-
-at_rule : (p : Rule → Bool) (b c : Bool) (rule : Rule) (kept both : List Rule) → p rule ≡ c → filter p kept ≡ both
-    → filter p (cond b (rule ∷ kept) kept) ≡ cond (b && c) (rule ∷ both) both
-at_rule p true true rule kept both is later = rw is (ap (λ (rs : List Rule). rule ∷ rs) later)
-at_rule p true false rule kept both is later = rw is later
-at_rule p false c rule kept both is later = later
-
-filter_both : (p q : Rule → Bool) (rules : List Rule) → filter p (filter q rules) ≡ filter (λ rule. q rule && p rule) rules
-filter_both p q [] = refl
-filter_both p q (rule ∷ rules) =
-    at_rule p (q rule) (p rule) rule (filter q rules) (filter (λ r. q r && p r) rules) refl (filter_both p q rules)
 
 -- no argument is left
 pub none_left : (function : MathFunction) (place : ℕ) (rules : List Rule) → filter (takes_all function place []) rules ≡ rules
@@ -33,17 +22,14 @@ none_left function place (rule ∷ rules) = ap (λ (rs : List Rule). rule ∷ rs
 -- one argument more: what the others leave is what they and it leave of the rules before it
 pub supplied : (function : MathFunction) (arguments : List SpelledType) (k : ℕ) (d argument : SpelledType) (before after all : List Rule)
     → k < length arguments → get_or arguments k d ≡ argument → after ≡ filter (takes_argument function k argument) before
-    → filter (takes_all function k (drop k arguments)) before ≡ all → filter (takes_all function (k + 1) (drop (k + 1) arguments)) after ≡ all
+    → filter (takes_all function k (drop k arguments)) before ≡ all →
+    filter (takes_all function (k + 1) (drop (k + 1) arguments)) after ≡ all
 supplied function arguments k d argument before after all within at step rest =
     ap (filter (takes_all function (k + 1) (drop (k + 1) arguments))) step
-    ∙ filter_both (takes_all function (k + 1) (drop (k + 1) arguments)) (takes_argument function k argument) before
+    ∙ filter-filter (takes_all function (k + 1) (drop (k + 1) arguments)) (takes_argument function k argument) before
     ∙ ap (λ (t : SpelledType). filter (takes_all function k (t ∷ drop (k + 1) arguments)) before) (sym at)
     ∙ sym (ap (λ (ts : List SpelledType). filter (takes_all function k ts) before) (drop_more arguments k d within))
     ∙ rest
-
--- fewer rules still fit
-pub fewer_fit : (types : List «Type») (p : Rule → Bool) (before after : List Rule) → after ≡ filter p before → RulesFit types before → RulesFit types after
-fewer_fit types p before after step fit = subst (RulesFit types) (sym step) (record { each = All-filter p (RuleFits types) before fit.each })
 
 -- ---- the same rules in one arena
 

@@ -23,7 +23,8 @@ one_reply (Module sample) a b x y = x.2 ∙ ap replies.Module (samples_have_one_
 abbrev IsOne : (List ℕ → Outcome → Type 0) → Type 0
 IsOne P = (text other : List ℕ) (outcome told : Outcome) → P text outcome → P other told → (text ≡ other) × (outcome ≡ told)
 
-one_line : (number : ℕ) (made : Option Request) (IsLater : List ℕ → Outcome → Type 0) → IsOne IsLater → IsOne (IsLineAnswer number made IsLater)
+one_line : (number : ℕ) (made : Option Request) (IsLater : List ℕ → Outcome → Type 0) → IsOne IsLater →
+    IsOne (IsLineAnswer number made IsLater)
 one_line number None IsLater one text other outcome told x y = (x.0 ∙ sym y.0, x.1 ∙ sym y.1)
 one_line number (Some request) IsLater one text other outcome told x y =
     let reply : x.0 ≡ y.0 = one_reply request x.0 y.0 x.2 y.2 in

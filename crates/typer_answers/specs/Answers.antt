@@ -13,7 +13,7 @@ use Rattle.typer_answers.specs.declared.reply.Reply.{Reply}
 use Rattle.typer_answers.specs.declared.reply.Reply.TheVariants as replies
 use Rattle.typer_answers.specs.declared.request.Request.{Request}
 use Rattle.typer_answers.specs.declared.request.Request.TheVariants.{Call, Rules, Layout, Convert, Module}
-use Rattle.typer_answers.specs.Calls.{conclusion_of, rules_left}
+use Rattle.typer_answers.specs.Calls.{call_conclusion, rules_left}
 use Rattle.typer_answers.specs.Conversions.{conversion_of}
 use Rattle.typer_answers.specs.Layouts.{layout_of_spelled}
 use Rattle.typer_answers.specs.Lines.{lines_of}
@@ -42,18 +42,18 @@ abbrev pub laid_out : Option TypeLayout → Reply
 laid_out (Some layout) = replies.Layout layout.size layout.alignment (next_multiple_of layout.size layout.alignment)
 laid_out None = replies.Refused
 
-abbrev pub concluded : Option Conclusion → Reply
-concluded (Some conclusion) = replies.Conclusion conclusion
-concluded None = replies.Refused
+abbrev pub conclusion_reply : Option Conclusion → Reply
+conclusion_reply (Some conclusion) = replies.Conclusion conclusion
+conclusion_reply None = replies.Refused
 
-abbrev pub listed : List Rule → Reply
-listed [] = replies.Refused
-listed (rule ∷ rules) = replies.Rules (rule ∷ rules)
+abbrev pub rules_reply : List Rule → Reply
+rules_reply [] = replies.Refused
+rules_reply (rule ∷ rules) = replies.Rules (rule ∷ rules)
 
 -- the reply to a request; that to a sample is what is told of its module, over all chains of calls
 abbrev pub IsReply : Request → Reply → Type 0
-IsReply (Call function arguments) reply = reply ≡ concluded (conclusion_of function arguments)
-IsReply (Rules function arguments) reply = reply ≡ listed (rules_left function arguments)
+IsReply (Call function arguments) reply = reply ≡ conclusion_reply (call_conclusion function arguments)
+IsReply (Rules function arguments) reply = reply ≡ rules_reply (rules_left function arguments)
 IsReply (Layout t) reply = reply ≡ laid_out (layout_of_spelled t)
 IsReply (Convert from to) reply = reply ≡ converted (conversion_of from to)
 IsReply (Module sample) reply = (report : ModuleReport) × IsSampleReport sample report × (reply ≡ replies.Module report)

@@ -14,16 +14,17 @@ takes_argument function place spelled rule = acceptance_of function (own_types s
 -- whether a rule takes the arguments, of which the first has the place
 abbrev pub takes_all : MathFunction → ℕ → List SpelledType → Rule → Bool
 takes_all function place [] rule = true
-takes_all function place (argument ∷ arguments) rule = takes_argument function place argument rule && takes_all function (place + 1) arguments rule
+takes_all function place (argument ∷ arguments) rule = takes_argument function place argument rule
+    && takes_all function (place + 1) arguments rule
 
 -- the rules of the builtin that take all arguments, in order
 abbrev pub rules_left : MathFunction → List SpelledType → List Rule
 rules_left function arguments = filter (takes_all function 0 arguments) (rules_of function)
 
-abbrev pub first_conclusion : List Rule → Option Conclusion
-first_conclusion [] = None
-first_conclusion (rule ∷ rules) = Some rule.conclusion
+abbrev pub conclusion_of_first : List Rule → Option Conclusion
+conclusion_of_first [] = None
+conclusion_of_first (rule ∷ rules) = Some rule.conclusion
 
 -- the type of the call, where a rule is left
-abbrev pub conclusion_of : MathFunction → List SpelledType → Option Conclusion
-conclusion_of function arguments = first_conclusion (rules_left function arguments)
+abbrev pub call_conclusion : MathFunction → List SpelledType → Option Conclusion
+call_conclusion function arguments = conclusion_of_first (rules_left function arguments)

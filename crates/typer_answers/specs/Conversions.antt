@@ -8,10 +8,10 @@ use Rattle.shader_ir.specs.TypeTree.{TypeTree, Node, NoTree, OneTree}
 use Rattle.shader_text.specs.declared.types.SpelledType.{SpelledType}
 use Rattle.shader_text.specs.declared.types.SpelledType.TheVariants.{Plain, Array}
 use Rattle.shader_text.specs.declared.types.PlainType.{PlainType}
-use Rattle.shader_text.specs.Types.{inner_of}
+use Rattle.shader_text.specs.Types.{plain_inner}
 
 abbrev pub plain_tree : PlainType → TypeTree
-plain_tree plain = Node (inner_of plain) NoTree
+plain_tree plain = Node (plain_inner plain) NoTree
 
 -- the tree of a type; where the base of an array stands doesn't matter
 abbrev pub tree_of_spelled : SpelledType → TypeTree

@@ -8,7 +8,7 @@ use Rattle.shader_overloads.specs.Builtins.{acceptance_of, rules_of}
 use Rattle.shader_overloads.specs.Remaining.{remaining}
 use Rattle.shader_text.specs.declared.types.PlainType.{PlainType}
 use Rattle.shader_text.specs.declared.types.SpelledType.TheVariants.{Plain}
-use Rattle.shader_text.specs.Types.{inner_of}
+use Rattle.shader_text.specs.Types.{plain_inner}
 use Rattle.typer_answers.specs.declared.answer.Outcome.{Outcome}
 use Rattle.typer_answers.specs.declared.answer.Outcome.TheVariants.{Done, BadLine}
 use Rattle.typer_answers.specs.declared.reply.Reply.{Reply}
@@ -72,7 +72,7 @@ AnswersAreUnique = (input text other : List ℕ) (outcome told : Outcome) → Is
 -- calls that supply the types, the first as the argument of the place
 abbrev pub calls_from : ℕ → List PlainType → List SetCall
 calls_from place [] = []
-calls_from place (plain ∷ plains) = Arg place (inner_of plain) ∷ calls_from (place + 1) plains
+calls_from place (plain ∷ plains) = Arg place (plain_inner plain) ∷ calls_from (place + 1) plains
 
 -- the rules that are left of a builtin are those that remain of its set after the arguments are supplied
 abbrev pub RulesLeftRemain : Type 0

@@ -38,7 +38,8 @@ layout_unless (Some fault) layout = None
 
 -- the layout of the type in its arena, where no type there has a fault
 abbrev pub layout_in : GlobalCtx → SpelledType → Option TypeLayout
-layout_in ctx spelled = layout_unless (first_fault ctx 0 (laid_types spelled)) (layout_of ctx (tree_of (laid_types spelled) (own_inner spelled)))
+layout_in ctx spelled = layout_unless (first_fault ctx 0 (laid_types spelled))
+    (layout_of ctx (tree_of (laid_types spelled) (own_inner spelled)))
 
 abbrev pub layout_of_spelled : SpelledType → Option TypeLayout
 layout_of_spelled spelled = layout_in (context (laid_types spelled) [] [] []) spelled

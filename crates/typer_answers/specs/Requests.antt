@@ -15,19 +15,19 @@ use Rattle.shader_text.specs.Types.{type_text, type_of, IsWritable}
 
 -- ---- how requests are written
 
-abbrev pub kind_text : Kind → List ℕ
-kind_text kinds.Call = codes "call"
-kind_text kinds.Rules = codes "rules"
-kind_text kinds.Layout = codes "layout"
-kind_text kinds.Convert = codes "convert"
-kind_text kinds.Module = codes "module"
+abbrev pub request_kind_text : Kind → List ℕ
+request_kind_text kinds.Call = codes "call"
+request_kind_text kinds.Rules = codes "rules"
+request_kind_text kinds.Layout = codes "layout"
+request_kind_text kinds.Convert = codes "convert"
+request_kind_text kinds.Module = codes "module"
 
 abbrev pub request_words : Request → List (List ℕ)
-request_words (Call function arguments) = kind_text kinds.Call ∷ builtin_text function ∷ map type_text arguments
-request_words (Rules function arguments) = kind_text kinds.Rules ∷ builtin_text function ∷ map type_text arguments
-request_words (Layout t) = kind_text kinds.Layout ∷ type_text t ∷ []
-request_words (Convert from to) = kind_text kinds.Convert ∷ type_text from ∷ type_text to ∷ []
-request_words (Module sample) = kind_text kinds.Module ∷ name_text sample ∷ []
+request_words (Call function arguments) = request_kind_text kinds.Call ∷ builtin_text function ∷ map type_text arguments
+request_words (Rules function arguments) = request_kind_text kinds.Rules ∷ builtin_text function ∷ map type_text arguments
+request_words (Layout t) = request_kind_text kinds.Layout ∷ type_text t ∷ []
+request_words (Convert from to) = request_kind_text kinds.Convert ∷ type_text from ∷ type_text to ∷ []
+request_words (Module sample) = request_kind_text kinds.Module ∷ name_text sample ∷ []
 
 -- the words, with one space between each two
 abbrev pub request_text : Request → List ℕ
@@ -50,8 +50,8 @@ IsWritableRequest (Module sample) = Unit {0}
 abbrev pub all_kinds : List Kind
 all_kinds = kinds.Call ∷ kinds.Rules ∷ kinds.Layout ∷ kinds.Convert ∷ kinds.Module ∷ []
 
-abbrev pub kind_of : List ℕ → Option Kind
-kind_of word = find (λ kind. bytes_eq (kind_text kind) word) all_kinds
+abbrev pub request_kind : List ℕ → Option Kind
+request_kind word = find (λ kind. bytes_eq (request_kind_text kind) word) all_kinds
 
 abbrev pub layout_from : List (List ℕ) → Option Request
 layout_from (word ∷ []) = option_map Layout (type_of word)
@@ -96,7 +96,7 @@ request_with kinds.Module words = module_from words
 
 abbrev pub request_from : List (List ℕ) → Option Request
 request_from [] = None
-request_from (kind ∷ words) = option_and_then (λ k. request_with k words) (kind_of kind)
+request_from (kind ∷ words) = option_and_then (λ k. request_with k words) (request_kind kind)
 
 -- what a line asks for, if it asks for anything
 abbrev pub request_of : List ℕ → Option Request

@@ -7,7 +7,9 @@ use std::alloc::{AllocError, Global};
 /// Whether each line asked for something.
 #[derive(Clone, Copy, Debug, PartialEq, Eq)]
 pub enum Outcome {
+    /// Each line did.
     Done,
+    /// One did not, and the answer ends there.
     BadLine,
 }
 

@@ -5,7 +5,7 @@ ghost use Rattle.shader_ir.specs.declared.types.«Type».{«Type»};
 ghost use Rattle.shader_overloads.specs.AnySet.{acceptance_in, rules_in};
 ghost use Rattle.shader_overloads.specs.Remaining.{RulesFit};
 ghost use Rattle.shader_text.specs.Placements.{own_inner, own_types};
-ghost use Rattle.typer_answers.specs.Calls.{conclusion_of, rules_left};
+ghost use Rattle.typer_answers.specs.Calls.{call_conclusion, rules_left};
 
 use shader_arena::{Arena, UniqueArena};
 use shader_ir::{GlobalCtx, Items, MathFunction};
@@ -21,7 +21,8 @@ fn supply(
     argument: SpelledType,
 ) -> Result<AnyOverloadSet, AllocError>
     requires { (types : List «Type») → RulesFit types (rules_in set.now) }
-    ensures rules { IfOk result (λ left. rules_in left ≡ filter (acceptance_in set.now (own_types argument) i (own_inner argument)) (rules_in set.now)) }
+    ensures rules { IfOk result (λ left. rules_in left ≡ filter (acceptance_in set.now (own_types argument) i (own_inner argument))
+        (rules_in set.now)) }
     ensures kind { IfOk result (λ left. acceptance_in left ≡ acceptance_in set.now) }
 {
     let mut types = UniqueArena::new(alloc);
@@ -50,7 +51,7 @@ pub fn conclusion(
     function: MathFunction,
     arguments: &[SpelledType],
 ) -> Result<Option<Conclusion>, AllocError>
-    ensures { IfOk result (λ found. found ≡ conclusion_of function arguments.now) }
+    ensures { IfOk result (λ found. found ≡ call_conclusion function arguments.now) }
 {
     let left = supply_all(alloc, function, arguments)?;
     if left.is_empty() {

@@ -1,6 +1,7 @@
 //! Laws of requests, of whole inputs by what they spell, of answers, and of the rules that are left.
 
-ghost use Rattle.typer_answers.specs.Laws.{AnswersAreUnique, BadLinesEndAnswers, LastLinesMayLackEnds, RequestsAreAnswered, RequestsAreSpelled, RulesLeftRemain, SamplesHaveOneReport};
+ghost use Rattle.typer_answers.specs.Laws.{AnswersAreUnique, BadLinesEndAnswers, LastLinesMayLackEnds, RequestsAreAnswered};
+ghost use Rattle.typer_answers.specs.Laws.{RequestsAreSpelled, RulesLeftRemain, SamplesHaveOneReport};
 
 /// A line makes a request exactly where it is the request's text.
 pub fn requests_are_spelled()

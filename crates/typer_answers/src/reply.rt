@@ -29,6 +29,7 @@ pub enum Reply {
     Conversion(Scalar, Scalar),
     /// What is found of a module, or where it has a fault.
     Module(ModuleReport),
+    /// Nothing answers the request.
     Refused,
 }
 
@@ -59,7 +60,7 @@ impl fmt::Display for Reply {
 impl Reply {
     ghost use Rattle.std.specs.Prelude.{◌≡◌, IfOk, IfSome};
     ghost use Rattle.shader_ir.specs.Layout.{HasStride};
-    ghost use Rattle.typer_answers.specs.Answers.{IsReply, IsReplyTo, concluded, converted, laid_out, listed};
+    ghost use Rattle.typer_answers.specs.Answers.{IsReply, IsReplyTo, conclusion_reply, converted, laid_out, rules_reply};
 
     fn from_conversion(scalars: Option<(Scalar, Scalar)>) -> Reply
         ensures { result ≡ converted scalars }
@@ -85,7 +86,7 @@ impl Reply {
     }
 
     fn from_conclusion(found: Option<Conclusion>) -> Reply
-        ensures { result ≡ concluded found }
+        ensures { result ≡ conclusion_reply found }
     {
         match found {
             Some(found) => Reply::Conclusion(found),
@@ -94,7 +95,7 @@ impl Reply {
     }
 
     fn from_rules(rules: Items<Rule>) -> Reply
-        ensures { result ≡ listed rules }
+        ensures { result ≡ rules_reply rules }
     {
         if rules.len() == 0 {
             return Reply::Refused;

@@ -2,7 +2,8 @@
 
 ghost use Rattle.std.specs.Prelude.{◌≡◌, IfOk};
 ghost use Rattle.std.specs.Option.{option_map};
-ghost use Rattle.typer_answers.specs.Requests.{call_from, convert_from, kind_of, layout_from, module_from, named_from, request_of, rules_from, types_of};
+ghost use Rattle.typer_answers.specs.Requests.{call_from, convert_from, request_kind, layout_from, module_from};
+ghost use Rattle.typer_answers.specs.Requests.{named_from, request_of, rules_from, types_of};
 
 use shader_ir::{Items, MathFunction};
 use shader_samples::Sample;
@@ -12,10 +13,15 @@ use std::alloc::{AllocError, Global};
 /// What a line asks for, by its first word.
 #[derive(Clone, Copy, Debug, PartialEq, Eq)]
 pub enum Kind {
+    /// `call`: the type of a call.
     Call,
+    /// `rules`: the rules that are left.
     Rules,
+    /// `layout`: bytes of a type.
     Layout,
+    /// `convert`: the scalars of a conversion.
     Convert,
+    /// `module`: the report of a sample.
     Module,
 }
 
@@ -35,7 +41,7 @@ pub enum Request {
 }
 
 impl Kind {
-    ghost use Rattle.typer_answers.specs.Requests.{kind_text};
+    ghost use Rattle.typer_answers.specs.Requests.{request_kind_text};
 
     const ALL: [Kind; 5] = [
         Kind::Call,
@@ -46,7 +52,7 @@ impl Kind {
     ];
 
     fn word(self) -> &'static str
-        ensures { result.now ≡ kind_text self }
+        ensures { result.now ≡ request_kind_text self }
     {
         match self {
             Kind::Call => "call",
@@ -59,7 +65,7 @@ impl Kind {
 
     /// The kind that the word names.
     fn from_word(word: &[u8]) -> Option<Kind>
-        ensures { result ≡ kind_of word.now }
+        ensures { result ≡ request_kind word.now }
     {
         Kind::ALL
             .iter()

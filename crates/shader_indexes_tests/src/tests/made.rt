@@ -48,13 +48,21 @@ pub enum Form {
 /// Where in a function's body a call stands.
 #[derive(Clone, Copy)]
 pub enum Place {
+    /// In the body itself.
     Body,
+    /// In a block of it.
     Block,
+    /// In a block of such a block.
     BlockOfBlock,
+    /// In the accept block of an `If`.
     Accept,
+    /// In the reject block of an `If`.
     Reject,
+    /// In a case of a `Switch`.
     Case,
+    /// In the body of a `Loop`.
     LoopBody,
+    /// In its continuing block.
     Continuing,
 }
 

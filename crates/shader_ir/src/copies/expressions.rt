@@ -1,6 +1,7 @@
 //! Copies of expressions.
 ghost use Rattle.std.specs.Prelude.{◌≡◌, IfOk, IsOk};
-ghost use Rattle.shader_ir.specs.Forms.{AppliesOperator, HoldsNoList, IsCooperative, IsResult, NamesDeclared, ReadsImage, SamplesImage, SelectsOrCalls, TakesPart};
+ghost use Rattle.shader_ir.specs.Forms.{AppliesOperator, HoldsNoList, IsCooperative, IsResult, NamesDeclared};
+ghost use Rattle.shader_ir.specs.Forms.{ReadsImage, SamplesImage, SelectsOrCalls, TakesPart};
 
 use crate::{Expression, TryCopy};
 use std::alloc::{AllocError, Global};

@@ -38,7 +38,7 @@ impl TypeInner {
     /// The leaf scalars of this type and of `goal`, where a value of this type converts to `goal` by
     /// WGSL's automatic conversions: the types are alike but for their scalars and the strides of
     /// arrays, and the scalars are equal or the first is abstract and of a kind that becomes the
-    /// second's. Widths don't count, and equal types answer their own scalar twice.
+    /// second's. Widths don't count, and equal types give their own scalar twice.
     pub fn automatically_converts_to(
         &self,
         goal: &TypeInner,

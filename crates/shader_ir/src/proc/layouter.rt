@@ -116,7 +116,8 @@ impl Index<Handle<mark::Type>> for Layouter {
 }
 
 ghost use Rattle.shader_ir.specs.Sizes.{AreTypeSizesInRange, AreTypeSizesInRangeFrom, IsTypeSizeInRange};
-ghost use Rattle.shader_ir.specs.Layout.{AreFaultless, AreFirstLayouts, HasStride, IsRefusalAt, layouts_of, member_fault, part_fault, width_fault};
+ghost use Rattle.shader_ir.specs.Layout.{AreFaultless, AreFirstLayouts, HasStride, IsRefusalAt};
+ghost use Rattle.shader_ir.specs.Layout.{layouts_of, member_fault, part_fault, width_fault};
 ghost use Rattle.shader_ir.specs.HeldLayouts.{AreLaidOver, faulty_or, greatest_held, held_alignment, held_layout};
 
 /// The alignment of a scalar.
@@ -236,8 +237,8 @@ impl Layouter {
     ///
     /// `Layout` names the first type past the layouts held that has a fault, and its fault: first a size above the limit,
     /// then a width that is no power of two, or the first part that isn't earlier. The same call again refuses alike.
-    /// `OutOfMemory` where a growth was refused for the layout of a type that has no fault. After either, the layouts made so far stay, those of this call too, so that
-    /// the next call goes on behind them.
+    /// `OutOfMemory` where a growth was refused for the layout of a type that has no fault. After either, the layouts made so far stay,
+    /// those of this call too, so that the next call goes on behind them.
     pub fn update(&mut self, ctx: GlobalCtx<'_>) -> Result<(), UpdateError>
         requires sizes { AreTypeSizesInRange ctx }
 

@@ -3,7 +3,8 @@ ghost use Rattle.std.specs.Prelude.{◌≡◌, ◌≤◌, [], ◌∷◌, length}
 ghost use Rattle.std.specs.Iterator.{YieldsFirst, item_count};
 ghost use Rattle.shader_ir.specs.Slots.{kept, read, read_optional, reads};
 ghost use Rattle.shader_ir.specs.Body.{RayPipeline};
-ghost use Rattle.shader_ir.specs.Operands.{exchange_compare, expression_operands, gather_index, gradient_y, level_handle, query_level, ray_query_operands, simple_operands, statement_operands, IsArithmetic, TakesTexels, WritesTexel};
+ghost use Rattle.shader_ir.specs.Operands.{exchange_compare, expression_operands, gather_index, gradient_y, level_handle, query_level};
+ghost use Rattle.shader_ir.specs.Operands.{ray_query_operands, simple_operands, statement_operands, IsArithmetic, TakesTexels, WritesTexel};
 ghost use Rattle.shader_ir.specs.BodyOf.{step_of};
 
 use crate::{

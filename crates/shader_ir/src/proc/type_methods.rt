@@ -1,6 +1,7 @@
 //! Queries that read a type itself, and at most the type that it names.
 ghost use Rattle.std.specs.Prelude.{◌≡◌, length};
-ghost use Rattle.shader_ir.specs.Queries.{HasMember, component_count, component_type, is_atomic_pointer, kind_of, pointer_base, pointer_space, scalar_of, vector_size_and_scalar, width_of};
+ghost use Rattle.shader_ir.specs.Queries.{HasMember, component_count, component_type, is_atomic_pointer, kind_of};
+ghost use Rattle.shader_ir.specs.Queries.{pointer_base, pointer_space, scalar_of, vector_size_and_scalar, width_of};
 ghost use Rattle.shader_ir.specs.Alignments.{vector_count};
 ghost use Rattle.shader_ir.specs.TypeTree.{PointsBelow};
 

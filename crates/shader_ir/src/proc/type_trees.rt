@@ -1,7 +1,8 @@
 //! Queries that go from a type to those that it leads to.
 ghost use Rattle.std.specs.Prelude.{◌≡◌, length};
 ghost use Rattle.shader_ir.specs.Conversion.{leaf_of};
-ghost use Rattle.shader_ir.specs.TreeQueries.{is_abstract, is_constructible, is_dynamically_sized, is_runtime_array, needs_host_buffer_byte_size};
+ghost use Rattle.shader_ir.specs.TreeQueries.{is_abstract, is_constructible, is_dynamically_sized};
+ghost use Rattle.shader_ir.specs.TreeQueries.{is_runtime_array, needs_host_buffer_byte_size};
 ghost use Rattle.shader_ir.specs.TypeTree.{IsBackward, PointsBelow, tree_of};
 
 use crate::{ArraySize, Scalar, Type, TypeInner, mark};

@@ -1,6 +1,7 @@
 //! The builtins whose overload sets are lists.
 ghost use Rattle.std.specs.Prelude.{◌≡◌, IfOk, IsTrue};
-ghost use Rattle.shader_overloads.specs.Builtins.{extract_bits_rules, insert_bits_rules, ldexp_rules, mix_rules, outer_rules, refract_rules, rules_of, transpose_rules};
+ghost use Rattle.shader_overloads.specs.Builtins.{extract_bits_rules, insert_bits_rules, ldexp_rules, mix_rules};
+ghost use Rattle.shader_overloads.specs.Builtins.{outer_rules, refract_rules, rules_of, transpose_rules};
 ghost use Rattle.shader_overloads.specs.BuiltinGroups.{is_listed};
 
 use crate::list_forms::{ListForm, by_scalar, by_size};

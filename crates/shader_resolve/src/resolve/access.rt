@@ -16,15 +16,20 @@ use shader_ir::{
 /// What an access reaches in a type.
 #[derive(Clone, Copy)]
 pub enum Part {
+    /// A component of a vector.
     Scalar(Scalar),
+    /// A column of a matrix.
     Vector { size: VectorSize, scalar: Scalar },
+    /// An element or a member.
     Type(Handle<mark::Type>),
 }
 
 /// Why an access reaches nothing.
 #[derive(Clone, Copy)]
 pub enum NoPart {
+    /// The index, which is not below the count.
     PastEnd(u32),
+    /// The type has no parts, or none that this index may name.
     NotIndexable,
 }
 

@@ -2,7 +2,8 @@
 ghost use Rattle.std.specs.Prelude.{◌≡◌, length, nat_lt};
 ghost use Rattle.std.specs.List.{list_all};
 ghost use Rattle.shader_ir.specs.TypeTree.{type_handles};
-ghost use Rattle.shader_resolve.specs.ModuleTests.{all_below, check_data, check_filter, check_type, constant_in_range, every, global_in_range, in_arena, override_in_range, special_in_range, variables_in_range};
+ghost use Rattle.shader_resolve.specs.ModuleTests.{all_below, check_data, check_filter, check_type, constant_in_range, every};
+ghost use Rattle.shader_resolve.specs.ModuleTests.{global_in_range, in_arena, override_in_range, special_in_range, variables_in_range};
 ghost use Rattle.shader_resolve.specs.WellFormed.{pending_size, sizing_override};
 
 use super::ModuleFault;

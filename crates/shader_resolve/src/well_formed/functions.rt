@@ -1,7 +1,8 @@
 //! Checks of functions.
 ghost use Rattle.std.specs.Prelude.{◌≡◌, length, nat_lt, slice_get};
 ghost use Rattle.std.specs.List.{list_all};
-ghost use Rattle.shader_resolve.specs.ModuleTests.{check_argument, check_function, every, function_in_range, in_list, is_pointer_type, is_value_pointer, local_in_range, result_in_range};
+ghost use Rattle.shader_resolve.specs.ModuleTests.{check_argument, check_function, every, function_in_range, in_list};
+ghost use Rattle.shader_resolve.specs.ModuleTests.{is_pointer_type, is_value_pointer, local_in_range, result_in_range};
 
 use super::expressions::{check_expressions, is_below, is_optional_below};
 use super::statements::check_block;

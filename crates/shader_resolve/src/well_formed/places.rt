@@ -2,7 +2,9 @@
 ghost use Rattle.std.specs.Prelude.{◌≡◌, ◌↔◌, IfSome, IsNone};
 ghost use Rattle.shader_resolve.specs.FaultyPlaces.{IsFirstFault, in_entry_point, in_function};
 ghost use Rattle.shader_resolve.specs.ModuleTests.{constant_in_range, global_in_range, override_in_range};
-ghost use Rattle.shader_resolve.specs.PlaceTests.{check_declarations, find_constants, find_entry_points, find_expressions, find_filters, find_functions, find_global_expressions, find_globals, find_in_function, find_in_module, find_overrides, find_types, find_variables, found_here, handles_tested};
+ghost use Rattle.shader_resolve.specs.PlaceTests.{check_declarations, find_constants, find_entry_points, find_expressions, find_filters};
+ghost use Rattle.shader_resolve.specs.PlaceTests.{find_functions, find_global_expressions, find_globals, find_in_function, find_in_module};
+ghost use Rattle.shader_resolve.specs.PlaceTests.{find_overrides, find_types, find_variables, found_here, handles_tested};
 ghost use Rattle.shader_resolve.specs.WellFormed.{IsWellFormed, Stands};
 
 use super::data::{check_filter, check_type, special_in_range};

@@ -2,7 +2,8 @@
 ghost use Rattle.std.specs.Prelude.{◌≡◌, slice_get};
 ghost use Rattle.shader_arena.specs.Places.{places_between};
 ghost use Rattle.shader_ir.specs.BodyOf.{step_of};
-ghost use Rattle.shader_resolve.specs.ModuleTests.{all_below, check_statement, counts_match, in_body, in_within, is_emitted, statement_in_range, takes};
+ghost use Rattle.shader_resolve.specs.ModuleTests.{all_below, check_statement, counts_match, in_body};
+ghost use Rattle.shader_resolve.specs.ModuleTests.{in_within, is_emitted, statement_in_range, takes};
 ghost use Rattle.shader_resolve.specs.Statements.{proceed_result, statement_callee, statement_result};
 
 use super::expressions::{is_below, is_optional_below};

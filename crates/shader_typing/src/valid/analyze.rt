@@ -64,7 +64,8 @@ fn add_type(
     ensures rest { OnOk result (info.new ≡ record info.old { global_expressions = info.new.global_expressions }) }
     ensures one { OnOk result (length info.new.global_expressions ≡ length info.old.global_expressions + 1) }
     ensures found { OnOk result (TypesFound «module».now info.new.global_expressions) }
-    ensures refused { IfErr result (λ error. (settings : Settings) → IsNamed (IsFirstFault «module».now settings (site_of error.place)) error.cause) }
+    ensures refused { IfErr result (λ error. (settings : Settings) →
+        IsNamed (IsFirstFault «module».now settings (site_of error.place)) error.cause) }
 {
     match info.process_const_expression(alloc, handle, context, gctx) {
         Ok(()) => Ok(()),
@@ -78,7 +79,8 @@ fn add_types(alloc: Global, module: &Module, info: &mut ModuleInfo) -> Result<()
     requires none { info.old.global_expressions ≡ [] }
     ensures rest { OnOk result (info.new ≡ record info.old { global_expressions = info.new.global_expressions }) }
     ensures types { OnOk result (AreTypes (context_of «module».now [] []) «module».now.global_expressions info.new.global_expressions) }
-    ensures refused { IfErr result (λ error. (settings : Settings) → IsNamed (IsFirstFault «module».now settings (site_of error.place)) error.cause) }
+    ensures refused { IfErr result (λ error. (settings : Settings) →
+        IsNamed (IsFirstFault «module».now settings (site_of error.place)) error.cause) }
 {
     let locals = Arena::new(alloc);
     let context = global_context(module, &locals);
@@ -96,7 +98,8 @@ fn add_function(
     found: FunctionInfo,
 ) -> Result<(), AnalysisError>
     ensures ok { OnOk result (info.new ≡ record info.old { functions = info.old.functions ++ found ∷ [] }) }
-    ensures refused { IfErr result (λ error. (m : Module) (settings : Settings) → IsNamed (IsFirstFault m settings (site_of error.place)) error.cause) }
+    ensures refused { IfErr result (λ error. (m : Module) (settings : Settings) →
+        IsNamed (IsFirstFault m settings (site_of error.place)) error.cause) }
 {
     match info.add_function(found) {
         Ok(()) => Ok(()),
@@ -114,7 +117,8 @@ fn add_entry_point(
     found: FunctionInfo,
 ) -> Result<(), AnalysisError>
     ensures ok { OnOk result (info.new ≡ record info.old { entry_points = info.old.entry_points ++ found ∷ [] }) }
-    ensures refused { IfErr result (λ error. (m : Module) (settings : Settings) → IsNamed (IsFirstFault m settings (site_of error.place)) error.cause) }
+    ensures refused { IfErr result (λ error. (m : Module) (settings : Settings) →
+        IsNamed (IsFirstFault m settings (site_of error.place)) error.cause) }
 {
     match info.add_entry_point(found) {
         Ok(()) => Ok(()),
@@ -142,7 +146,8 @@ fn analyze_function(
     ensures rest { OnOk result (info.new ≡ record info.old { functions = info.new.functions }) }
     ensures one { OnOk result (length info.new.functions ≡ length info.old.functions + 1) }
     ensures found { OnOk result (FunctionsFound «module».now (settings_of flags capabilities) info.new.functions) }
-    ensures refused { IfErr result (λ error. IsNamed (IsFirstFault «module».now (settings_of flags capabilities) (site_of error.place)) error.cause) }
+    ensures refused { IfErr result (λ error. IsNamed (IsFirstFault «module».now (settings_of flags capabilities) (site_of error.place))
+        error.cause) }
 {
     let place = AnalysisPlace::Function(handle);
     match info.process_function(alloc, place, module, flags, capabilities) {
@@ -169,7 +174,8 @@ fn add_functions(
     ensures rest { OnOk result (info.new ≡ record info.old { functions = info.new.functions }) }
     ensures all { OnOk result (length info.new.functions ≡ length «module».now.functions) }
     ensures found { OnOk result (FunctionsFound «module».now (settings_of flags capabilities) info.new.functions) }
-    ensures refused { IfErr result (λ error. IsNamed (IsFirstFault «module».now (settings_of flags capabilities) (site_of error.place)) error.cause) }
+    ensures refused { IfErr result (λ error. IsNamed (IsFirstFault «module».now (settings_of flags capabilities) (site_of error.place))
+        error.cause) }
 {
     for (handle, _) in module.functions.iter() {
         analyze_function(alloc, module, handle, flags, capabilities, info)?;
@@ -196,7 +202,8 @@ fn analyze_entry_point(
     ensures rest { OnOk result (info.new ≡ record info.old { entry_points = info.new.entry_points }) }
     ensures one { OnOk result (length info.new.entry_points ≡ length info.old.entry_points + 1) }
     ensures found { OnOk result (EntryPointsFound «module».now (settings_of flags capabilities) info.new.entry_points) }
-    ensures refused { IfErr result (λ error. IsNamed (IsFirstFault «module».now (settings_of flags capabilities) (site_of error.place)) error.cause) }
+    ensures refused { IfErr result (λ error. IsNamed (IsFirstFault «module».now (settings_of flags capabilities) (site_of error.place))
+        error.cause) }
 {
     let place = AnalysisPlace::EntryPoint(index);
     match info.process_function(alloc, place, module, flags, capabilities) {
@@ -225,7 +232,8 @@ fn add_entry_points(
     ensures rest { OnOk result (info.new ≡ record info.old { entry_points = info.new.entry_points }) }
     ensures all { OnOk result (length info.new.entry_points ≡ length «module».now.entry_points) }
     ensures found { OnOk result (EntryPointsFound «module».now (settings_of flags capabilities) info.new.entry_points) }
-    ensures refused { IfErr result (λ error. IsNamed (IsFirstFault «module».now (settings_of flags capabilities) (site_of error.place)) error.cause) }
+    ensures refused { IfErr result (λ error. IsNamed (IsFirstFault «module».now (settings_of flags capabilities) (site_of error.place))
+        error.cause) }
 {
     for index in 0..module.entry_points.len() {
         analyze_entry_point(alloc, module, index, flags, capabilities, info)?;
@@ -245,10 +253,12 @@ pub fn analyze_module(
     capabilities: Capabilities,
 ) -> Result<ModuleInfo, AnalysisError>
     requires { IsWellFormed «module».now }
-    ensures exact { IfOk result (λ info. IsExactModule «module».now info.global_expressions (infos_of info.functions) (infos_of info.entry_points)) }
+    ensures exact { IfOk result (λ info. IsExactModule «module».now info.global_expressions (infos_of info.functions)
+        (infos_of info.entry_points)) }
     ensures pairs { IfOk result (KeepsAllPairs «module».now) }
     ensures accepted { IfOk result (λ _. IsAccepted «module».now (settings_of flags capabilities)) }
-    ensures refused { IfErr result (λ error. IsNamed (IsFirstFault «module».now (settings_of flags capabilities) (site_of error.place)) error.cause) }
+    ensures refused { IfErr result (λ error. IsNamed (IsFirstFault «module».now (settings_of flags capabilities) (site_of error.place))
+        error.cause) }
 {
     let mut info = ModuleInfo::new(alloc);
     add_types(alloc, module, &mut info)?;

@@ -46,7 +46,8 @@ pub(crate) fn function_info(
     ensures fits { IfOk result (λ info. Fits «module».now function.now info) }
     ensures stages { IfOk result (λ info. info.available_stages.0 ≡ 31) }
     ensures one_source { IfOk result (λ info. info.dual_source_blending ≡ false) }
-    ensures clean { IfOk result (λ _. (cause : Cause) → StepFault «module».now (infos_of infos.now) function.now (settings_of flags capabilities) cause → ⊥) }
+    ensures clean { IfOk result (λ _. (cause : Cause) → StepFault «module».now (infos_of infos.now) function.now
+        (settings_of flags capabilities) cause → ⊥) }
     ensures fault { IfErr result (IsNamed (StepFault «module».now (infos_of infos.now) function.now (settings_of flags capabilities))) }
 {
     let statements = statements_of(alloc, &function.body)?;

@@ -103,7 +103,7 @@ impl ModuleInfo {
     ///
     /// # Errors
     ///
-    /// Want of memory hands the info back.
+    /// If allocation fails, the info is handed back.
     pub fn add_function(&mut self, info: FunctionInfo) -> Result<(), AllocFailed<FunctionInfo>>
         ensures ok { OnOk result (self.new ≡ record self.old { functions = self.old.functions ++ info ∷ [] }) }
         ensures value_returned { IfErr result (λ failed. failed.value ≡ info) }
@@ -116,7 +116,7 @@ impl ModuleInfo {
     ///
     /// # Errors
     ///
-    /// Want of memory hands the info back.
+    /// If allocation fails, the info is handed back.
     pub fn add_entry_point(&mut self, info: FunctionInfo) -> Result<(), AllocFailed<FunctionInfo>>
         ensures ok { OnOk result (self.new ≡ record self.old { entry_points = self.old.entry_points ++ info ∷ [] }) }
         ensures value_returned { IfErr result (λ failed. failed.value ≡ info) }
@@ -172,8 +172,8 @@ impl ModuleInfo {
 
     /// Analyses the function at a place, over the infos of the functions before it.
     ///
-    /// The module is well formed where `check_module` answers `Ok`, and an info fits where `FunctionInfo::fits` says so: each
-    /// one that this call answers does. Nothing is added: `add_function` and `add_entry_point` do that.
+    /// The module is well formed where `check_module` returns `Ok`, and an info fits where `FunctionInfo::fits` says so: each
+    /// one that this call returns does. Nothing is added: `add_function` and `add_entry_point` do that.
     ///
     /// # Errors
     ///
@@ -188,14 +188,18 @@ impl ModuleInfo {
     ) -> Result<FunctionInfo, AnalysisError>
         requires well_formed { IsWellFormed «module».now }
         requires held { CanProcess «module».now self.now place }
-        ensures steps { IfOk result (λ info. (f : Function) → IsFunctionAt «module».now place f → MeetsSteps «module».now (infos_of (infos_before «module».now self.now place)) f (info_of info)) }
+        ensures steps { IfOk result (λ info. (f : Function) → IsFunctionAt «module».now place f →
+            MeetsSteps «module».now (infos_of (infos_before «module».now self.now place)) f (info_of info)) }
         ensures with_arguments { IfOk result (λ info. HaveArguments info.sampling.keys) }
         ensures fits { IfOk result (λ info. (f : Function) → IsFunctionAt «module».now place f → Fits «module».now f info) }
         ensures stages { IfOk result (λ info. info.available_stages.0 ≡ 31) }
         ensures one_source { IfOk result (λ info. info.dual_source_blending ≡ false) }
-        ensures clean { IfOk result (λ _. (f : Function) (cause : Cause) → IsFunctionAt «module».now place f → StepFault «module».now (infos_of (infos_before «module».now self.now place)) f (settings_of flags capabilities) cause → ⊥) }
+        ensures clean { IfOk result (λ _. (f : Function) (cause : Cause) → IsFunctionAt «module».now place f →
+            StepFault «module».now (infos_of (infos_before «module».now self.now place)) f (settings_of flags capabilities) cause → ⊥) }
         ensures place { IfErr result (λ error. error.place ≡ place) }
-        ensures fault { IfErr result (λ error. (f : Function) → IsFunctionAt «module».now place f → IsNamed (StepFault «module».now (infos_of (infos_before «module».now self.now place)) f (settings_of flags capabilities)) error.cause) }
+        ensures fault { IfErr result (λ error. (f : Function) → IsFunctionAt «module».now place f →
+            IsNamed (StepFault «module».now (infos_of (infos_before «module».now self.now place)) f (settings_of flags capabilities))
+            error.cause) }
     {
         let function = function_at(module, &place);
         let infos = self.infos_before(module, &place);

@@ -6,7 +6,8 @@ pub loop-word-init : goal.loop-word-init
 loop-word-init c = record {
   flat = c.requires;
   fit = rw c.new-calls.ensures.items (none_fit c.args.types.now);
-  taken = rw c.new-calls.ensures.items (empty_taken c.args.types.now c.args.words c.into_iter-word-iterator.result (sym c.into_iter-word-iterator.ensures.into_iter_gives));
+  taken = rw c.new-calls.ensures.items (empty_taken c.args.types.now c.args.words c.into_iter-word-iterator.result
+      (sym c.into_iter-word-iterator.ensures.into_iter_gives));
 }
 
 pub loop-word-preserved : goal.loop-word-preserved
@@ -20,6 +21,7 @@ loop-word-preserved c =
     record {
       flat = c.in_ok-to_call.ensures.flat;
       fit = rw c.in_ok-push.ensures.items (fit_more before after made call kept c.loop-word.invariant.fit c.in_ok-to_call.ensures.fits);
-      taken = rw c.in_ok-push.ensures.items (one_taken before after c.args.words c.loop-word.word-iterator c.next.new.self c.in-Some.word.now made c.in-Some-from_word.step call
+      taken = rw c.in_ok-push.ensures.items (one_taken before after c.args.words c.loop-word.word-iterator c.next.new.self
+          c.in-Some.word.now made c.in-Some-from_word.step call
           kept c.in-Some.ensures.steps found c.in_ok-to_call.ensures.call c.loop-word.invariant.taken);
     }

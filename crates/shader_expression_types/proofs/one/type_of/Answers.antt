@@ -12,7 +12,8 @@ resolve-requires c κs = (
       c.requires.names,
       (
         may_ask c.args.context.now c.args.expression.now c.args.types.now c.requires.operands _ (λ operand lt. search rules),
-        told_fits c.args.context.now c.args.expression.now c.args.types.now c.requires.operands c.requires.fit _ (λ operand told post. search rules),
+        told_fits c.args.context.now c.args.expression.now c.args.types.now c.requires.operands c.requires.fit _
+            (λ operand told post. search rules),
       ),
     ),
   ),
@@ -20,5 +21,6 @@ resolve-requires c κs = (
 
 pub returns-clause-told : goal.returns-clause-told
 returns-clause-told c = λ expressions is first.
-    is_told c.args.context.now expressions c.args.types.now first (length c.args.types.now) c.args.expression.now is c.requires.operands (takes_memory c.args.expression.now)
+    is_told c.args.context.now expressions c.args.types.now first (length c.args.types.now) c.args.expression.now is c.requires.operands
+    (takes_memory c.args.expression.now)
     _ (λ operand told post. search rules) c.resolve.result c.resolve.ensures.follows

@@ -17,7 +17,8 @@ access_refusal-requires-clause-operands c =
 pub type_of-requires-clause-names : goal.type_of-requires-clause-names
 type_of-requires-clause-names c =
     subst (λ v. IsInRange v c.index-expression.result.now) (sym c.context_of-context.ensures)
-    (at_place (IsInRange (function_context c.args.module.now c.args.function.now)) c.args.function.now.expressions c.args.handle c.index-expression.result.now
+    (at_place (IsInRange (function_context c.args.module.now c.args.function.now)) c.args.function.now.expressions c.args.handle
+    c.index-expression.result.now
     c.requires.context.names c.index-expression.ensures)
 
 pub type_of-requires-clause-operands : goal.type_of-requires-clause-operands
@@ -27,20 +28,27 @@ type_of-requires-clause-operands c =
 
 pub returns-in-Some-clause-named : goal.returns-in-Some-clause-named
 returns-in-Some-clause-named c = λ infos found.
-    names_refusal_at c.args.module.now infos c.args.function.now c.args.facts.now found c.requires.operands c.args.capabilities c.args.types.now c.requires.first c.args.handle
-    c.requires.place c.index-expression.result.now c.index-expression.ensures (subst (λ v. OperandsBelow v c.index-expression.result.now) c.requires.place
-    (operands_below c.args.function.now c.requires.operands c.args.handle c.index-expression.result.now c.index-expression.ensures)) c.in-Some.source (sym c.access_refusal.ensures ∙ c.in-Some.is)
+    names_refusal_at c.args.module.now infos c.args.function.now c.args.facts.now found c.requires.operands c.args.capabilities
+    c.args.types.now c.requires.first c.args.handle
+    c.requires.place c.index-expression.result.now c.index-expression.ensures
+    (subst (λ v. OperandsBelow v c.index-expression.result.now) c.requires.place
+    (operands_below c.args.function.now c.requires.operands c.args.handle c.index-expression.result.now c.index-expression.ensures))
+    c.in-Some.source (sym c.access_refusal.ensures ∙ c.in-Some.is)
 
 pub returns-in-Ok-clause-sound : goal.returns-in-Ok-clause-sound
 returns-in-Ok-clause-sound c = λ infos found.
     let earlier = subst (λ v. OperandsBelow v c.index-expression.result.now) c.requires.place
     (operands_below c.args.function.now c.requires.operands c.args.handle c.index-expression.result.now c.index-expression.ensures) in
     let memory = takes_memory c.index-expression.result.now in
-    let told = told_here c.args.module.now infos c.args.function.now c.args.facts.now found c.requires.operands c.args.capabilities c.args.types.now c.requires.first c.args.handle
-    c.requires.place c.index-expression.result.now c.index-expression.ensures earlier c.context_of-context.result c.context_of-context.ensures memory c.type_of.result c.type_of.ensures.told in
-    sound_at c.args.module.now infos c.args.function.now c.args.facts.now found c.requires.operands c.args.capabilities c.args.types.now c.requires.first c.args.handle
+    let told = told_here c.args.module.now infos c.args.function.now c.args.facts.now found c.requires.operands c.args.capabilities
+    c.args.types.now c.requires.first c.args.handle
+    c.requires.place c.index-expression.result.now c.index-expression.ensures earlier c.context_of-context.result
+    c.context_of-context.ensures memory c.type_of.result c.type_of.ensures.told in
+    sound_at c.args.module.now infos c.args.function.now c.args.facts.now found c.requires.operands c.args.capabilities c.args.types.now
+    c.requires.first c.args.handle
     c.requires.place c.index-expression.result.now c.index-expression.ensures earlier memory c.in-Ok.resolution
-    (subst (IsToldOf (function_context c.args.module.now c.args.function.now) c.args.function.now.expressions (length c.args.types.now) memory) c.in-Ok.is told)
+    (subst (IsToldOf (function_context c.args.module.now c.args.function.now) c.args.function.now.expressions (length c.args.types.now)
+    memory) c.in-Ok.is told)
     (sym c.access_refusal.ensures ∙ c.in-None.is)
 
 pub returns-in-Err-clause-named : goal.returns-in-Err-clause-named
@@ -48,9 +56,13 @@ returns-in-Err-clause-named c = λ infos found.
     let earlier = subst (λ v. OperandsBelow v c.index-expression.result.now) c.requires.place
     (operands_below c.args.function.now c.requires.operands c.args.handle c.index-expression.result.now c.index-expression.ensures) in
     let memory = takes_memory c.index-expression.result.now in
-    let told = told_here c.args.module.now infos c.args.function.now c.args.facts.now found c.requires.operands c.args.capabilities c.args.types.now c.requires.first c.args.handle
-    c.requires.place c.index-expression.result.now c.index-expression.ensures earlier c.context_of-context.result c.context_of-context.ensures memory c.type_of.result c.type_of.ensures.told in
+    let told = told_here c.args.module.now infos c.args.function.now c.args.facts.now found c.requires.operands c.args.capabilities
+    c.args.types.now c.requires.first c.args.handle
+    c.requires.place c.index-expression.result.now c.index-expression.ensures earlier c.context_of-context.result
+    c.context_of-context.ensures memory c.type_of.result c.type_of.ensures.told in
     subst (NamesFault c.args.module.now infos c.args.function.now c.args.capabilities) (sym c.untyped.ensures)
-    (names_failure_at c.args.module.now infos c.args.function.now c.args.facts.now found c.requires.operands c.args.capabilities c.args.types.now c.requires.first c.args.handle
+    (names_failure_at c.args.module.now infos c.args.function.now c.args.facts.now found c.requires.operands c.args.capabilities
+    c.args.types.now c.requires.first c.args.handle
     c.requires.place c.index-expression.result.now c.index-expression.ensures earlier memory c.in-Err.failure
-    (subst (IsToldOf (function_context c.args.module.now c.args.function.now) c.args.function.now.expressions (length c.args.types.now) memory) c.in-Err.is told))
+    (subst (IsToldOf (function_context c.args.module.now c.args.function.now) c.args.function.now.expressions (length c.args.types.now)
+    memory) c.in-Err.is told))

@@ -43,15 +43,19 @@ loop-handle-preserved c =
       subst (λ v. AreOfTheFirst context expressions v) (sym pushed)
           (one_more (λ e t. Derives context expressions e t) types resolution c.loop-handle.invariant.3
           (subst (λ v. Derives context expressions v resolution) next.0 c.in_ok-resolution.ensures.derived)),
-      subst (λ v. All (FitsTypes checked.types) v) (sym pushed) (all_one_more (FitsTypes checked.types) types resolution c.loop-handle.invariant.4 c.in_ok-resolution.ensures.fits),
-      λ infos found e lt. up_to_here (IsSound checked infos function c.args.capabilities) (length types) (c.loop-handle.invariant.5 infos found)
-          (subst (IsSound checked infos function c.args.capabilities) next.0 (c.in_ok-resolution.ensures.sound infos found)) e (omega (arith, lt, long)),
+      subst (λ v. All (FitsTypes checked.types) v) (sym pushed)
+          (all_one_more (FitsTypes checked.types) types resolution c.loop-handle.invariant.4 c.in_ok-resolution.ensures.fits),
+      λ infos found e lt. up_to_here (IsSound checked infos function c.args.capabilities) (length types)
+          (c.loop-handle.invariant.5 infos found)
+          (subst (IsSound checked infos function c.args.capabilities) next.0 (c.in_ok-resolution.ensures.sound infos found)) e
+          (omega (arith, lt, long)),
     )
 
 pub returns-clause-types : goal.returns-clause-types
 returns-clause-types c = record {
   complete = none_left (length c.loop-handle.types.items) (length c.args.function.now.expressions)
-      (subst (λ v. IsLeft {X = Expression} (length c.loop-handle.types.items) (length c.args.function.now.expressions) v) c.in-None.ensures.steps.0 c.loop-handle.invariant.2);
+      (subst (λ v. IsLeft {X = Expression} (length c.loop-handle.types.items) (length c.args.function.now.expressions) v)
+      c.in-None.ensures.steps.0 c.loop-handle.invariant.2);
   derived = c.loop-handle.invariant.3;
 }
 
@@ -59,5 +63,6 @@ pub returns-clause-sound : goal.returns-clause-sound
 returns-clause-sound c = λ infos found.
     sound_beyond c.args.module.now infos c.args.function.now c.args.capabilities c.loop-handle.types.items
     (none_left (length c.loop-handle.types.items) (length c.args.function.now.expressions)
-    (subst (λ v. IsLeft {X = Expression} (length c.loop-handle.types.items) (length c.args.function.now.expressions) v) c.in-None.ensures.steps.0 c.loop-handle.invariant.2))
+    (subst (λ v. IsLeft {X = Expression} (length c.loop-handle.types.items) (length c.args.function.now.expressions) v)
+    c.in-None.ensures.steps.0 c.loop-handle.invariant.2))
     (c.loop-handle.invariant.5 infos found)

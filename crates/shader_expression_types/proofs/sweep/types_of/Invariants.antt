@@ -15,4 +15,5 @@ invariant-loop-handle l =
     × IsLeft (length l.types.items) (length l.function.expressions) l.handle-iterator
     × AreOfTheFirst (function_context l.«module» l.function) l.function.expressions l.types.items
     × All (FitsTypes l.«module».types) l.types.items
-    × ((infos : List FunctionInfo) → l.facts ≡ facts_found l.«module» infos l.function → (e : ℕ) → e < length l.types.items → IsSound l.«module» infos l.function l.capabilities e)
+    × ((infos : List FunctionInfo) → l.facts ≡ facts_found l.«module» infos l.function → (e : ℕ) → e < length l.types.items →
+    IsSound l.«module» infos l.function l.capabilities e)

@@ -9,8 +9,10 @@ loop-next-preserved c =
     let m = c.args.module.now in
     let f = c.args.function.now in
     let expression = c.in-Some-expression_at.expression.now in
-    let stands : slice_get f.expressions c.in-Some.place ≡ Some expression = sym c.expression_at.ensures ∙ ap option_copied c.in-Some-expression_at.is in
+    let stands : slice_get f.expressions c.in-Some.place ≡ Some expression =
+    sym c.expression_at.ensures ∙ ap option_copied c.in-Some-expression_at.is in
     let P : Option ℕ → Type 0 = λ v. Leads m f (Records c.args.info.now) c.args.chain v in
     subst P (sym c.base_of-next.ensures)
-    (leads_to_base m f (Records c.args.info.now) c.args.chain c.loop-next.next c.in-Some.place expression c.loop-next.invariant c.in-Some.is stands c.is_unchecked.result c.is_unchecked.ensures
+    (leads_to_base m f (Records c.args.info.now) c.args.chain c.loop-next.next c.in-Some.place expression c.loop-next.invariant c.in-Some.is
+    stands c.is_unchecked.result c.is_unchecked.ensures
     c.if-is_unchecked.false)

@@ -7,20 +7,24 @@ add-requires c = access_below (length c.args.checked.now) c.args.expression.now 
 
 pub add_load-requires-clause-coordinate : goal.add_load-requires-clause-coordinate
 add_load-requires-clause-coordinate c =
-    coordinate_below (length c.args.checked.now) c.args.expression.now c.in-ImageLoad.image c.in-ImageLoad.coordinate c.in-ImageLoad.array_index c.in-ImageLoad.sample c.in-ImageLoad.level
+    coordinate_below (length c.args.checked.now) c.args.expression.now c.in-ImageLoad.image c.in-ImageLoad.coordinate
+    c.in-ImageLoad.array_index c.in-ImageLoad.sample c.in-ImageLoad.level
     c.in-ImageLoad.is c.requires
 
 pub add_load-requires-clause-array_index : goal.add_load-requires-clause-array_index
 add_load-requires-clause-array_index c =
-    array_index_below (length c.args.checked.now) c.args.expression.now c.in-ImageLoad.image c.in-ImageLoad.coordinate c.in-ImageLoad.array_index c.in-ImageLoad.sample c.in-ImageLoad.level
+    array_index_below (length c.args.checked.now) c.args.expression.now c.in-ImageLoad.image c.in-ImageLoad.coordinate
+    c.in-ImageLoad.array_index c.in-ImageLoad.sample c.in-ImageLoad.level
     c.in-ImageLoad.is c.requires
 
 pub add_load-requires-clause-sample : goal.add_load-requires-clause-sample
 add_load-requires-clause-sample c =
-    sample_below (length c.args.checked.now) c.args.expression.now c.in-ImageLoad.image c.in-ImageLoad.coordinate c.in-ImageLoad.array_index c.in-ImageLoad.sample c.in-ImageLoad.level
+    sample_below (length c.args.checked.now) c.args.expression.now c.in-ImageLoad.image c.in-ImageLoad.coordinate c.in-ImageLoad.array_index
+    c.in-ImageLoad.sample c.in-ImageLoad.level
     c.in-ImageLoad.is c.requires
 
 pub add_load-requires-clause-level : goal.add_load-requires-clause-level
 add_load-requires-clause-level c =
-    level_below (length c.args.checked.now) c.args.expression.now c.in-ImageLoad.image c.in-ImageLoad.coordinate c.in-ImageLoad.array_index c.in-ImageLoad.sample c.in-ImageLoad.level
+    level_below (length c.args.checked.now) c.args.expression.now c.in-ImageLoad.image c.in-ImageLoad.coordinate c.in-ImageLoad.array_index
+    c.in-ImageLoad.sample c.in-ImageLoad.level
     c.in-ImageLoad.is c.requires

@@ -35,10 +35,12 @@ add_checked-requires c =
     let f = c.args.function.now in
     let first : items_of c.loop-expression.expression-iterator ≡ c.in-Some.expression.now ∷ items_of c.next.new.self = search rules in
     let holds : Contains (items_of c.loop-expression.expression-iterator) c.in-Some.expression.now =
-    let P : List Expression → Type 0 = λ v. Contains v c.in-Some.expression.now in subst P (sym first) (here c.in-Some.expression.now (items_of c.next.new.self)) in
+    let P : List Expression → Type 0 = λ v. Contains v c.in-Some.expression.now in
+    subst P (sym first) (here c.in-Some.expression.now (items_of c.next.new.self)) in
     let Q : ℕ → Type 0 = λ v. OperandsBelow v c.in-Some.expression.now in
     subst Q (sym c.loop-expression.invariant.count)
-    (operands_there c.args.module.now c.requires.well_formed f c.requires.function c.in-Some.expression.now (c.loop-expression.invariant.left c.in-Some.expression.now holds))
+    (operands_there c.args.module.now c.requires.well_formed f c.requires.function c.in-Some.expression.now
+    (c.loop-expression.invariant.left c.in-Some.expression.now holds))
 
 pub loop-expression-preserved : goal.loop-expression-preserved
 loop-expression-preserved c =
@@ -50,9 +52,12 @@ loop-expression-preserved c =
       can_next = tt;
       is_finite = tt;
       count = c.add_checked.ensures.count ∙ c.loop-expression.invariant.count;
-      left = λ x h. c.loop-expression.invariant.left x (subst (P x) (sym first) (there c.in-Some.expression.now (items_of c.next.new.self) x h));
-      whole = brought_at W (items_of c.loop-expression.expression-iterator) c.in-Some.expression.now (items_of c.next.new.self) (IsCheckedIndex c.args.module.now f (Records c.args.info.now) c.args.policies)
-          (IsIn c.loop-expression.checked) (IsIn c.add_checked.new.checked) first c.loop-expression.invariant.whole c.add_checked.ensures.gains;
+      left = λ x h. c.loop-expression.invariant.left x (subst (P x) (sym first)
+          (there c.in-Some.expression.now (items_of c.next.new.self) x h));
+      whole = brought_at W (items_of c.loop-expression.expression-iterator) c.in-Some.expression.now (items_of c.next.new.self)
+          (IsCheckedIndex c.args.module.now f (Records c.args.info.now) c.args.policies)
+          (IsIn c.loop-expression.checked) (IsIn c.add_checked.new.checked) first c.loop-expression.invariant.whole
+          c.add_checked.ensures.gains;
     }
 
 pub returns : goal.returns
@@ -60,4 +65,6 @@ returns c =
     let f = c.args.function.now in
     let W : Expression → ℕ → Type 0 = Checks c.args.module.now f (Records c.args.info.now) c.args.policies in
     let last : items_of c.loop-expression.expression-iterator ≡ [] = search rules in
-    whole_at W (items_of c.loop-expression.expression-iterator) (IsCheckedIndex c.args.module.now f (Records c.args.info.now) c.args.policies) (IsIn c.loop-expression.checked) last c.loop-expression.invariant.whole
+    whole_at W (items_of c.loop-expression.expression-iterator)
+    (IsCheckedIndex c.args.module.now f (Records c.args.info.now) c.args.policies) (IsIn c.loop-expression.checked) last
+    c.loop-expression.invariant.whole

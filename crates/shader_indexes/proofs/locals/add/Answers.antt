@@ -8,4 +8,5 @@ pub returns : goal.returns
 returns c =
     let same : ℕ → ℕ → Bool = (handle.eq-value (kinds.impl_arg-0-1 c.insert.lifetimes)).it in
     let is : (x y : ℕ) → same x y ≡ true → x ≡ y = λ x y h. search rules in
-    key_put {same = same} c.args.locals.now c.insert.new.self.keys c.args.ty c.in_ok-insert.field-0 c.in_ok-insert.ensures.keys c.in_ok-insert.ensures.added is
+    key_put {same = same} c.args.locals.now c.insert.new.self.keys c.args.ty c.in_ok-insert.field-0 c.in_ok-insert.ensures.keys
+    c.in_ok-insert.ensures.added is

@@ -10,20 +10,29 @@ use Rattle.shader_indexes.proofs.locals.add_arguments.Goals as goal
 
 pub loop-parameter-preserved : goal.loop-parameter-preserved
 loop-parameter-preserved c =
-    let W : FunctionArgument × ℕ → ℕ → Type 0 = λ pair ty. PassesUnchecked c.args.module.now c.args.function.now (Records c.args.info.now) ty pair.0 pair.1 in
+    let W : FunctionArgument × ℕ → ℕ → Type 0 = λ pair ty. PassesUnchecked c.args.module.now c.args.function.now (Records c.args.info.now)
+    ty pair.0 pair.1 in
     let before = c.loop-parameter.parameter-iterator in
     let after = c.next.new.self in
     let more = c.in-Some.ensures.steps in
-    brought_at W (zip (iter_rest (zip_first before)) (iter_rest (zip_second before))) (c.in-Some.parameter.now, c.in-Some.argument.now) (zip (iter_rest (zip_first after)) (iter_rest (zip_second after)))
-    (λ ty. Contains c.args.locals.now.keys ty ⊎ PairsPass c.args.module.now c.args.function.now (Records c.args.info.now) (zip c.args.parameters.now c.args.arguments.now) ty)
+    brought_at W (zip (iter_rest (zip_first before)) (iter_rest (zip_second before))) (
+      c.in-Some.parameter.now,
+      c.in-Some.argument.now,
+    ) (zip (iter_rest (zip_first after)) (iter_rest (zip_second after)))
+    (λ ty. Contains c.args.locals.now.keys ty ⊎ PairsPass c.args.module.now c.args.function.now (Records c.args.info.now)
+    (zip c.args.parameters.now c.args.arguments.now) ty)
     (Contains c.loop-parameter.locals.keys) (Contains c.add_passed.new.locals.keys)
-    (zip_step (iter_rest (zip_first before)) (iter_rest (zip_first after)) (iter_rest (zip_second before)) (iter_rest (zip_second after)) c.in-Some.parameter.now c.in-Some.argument.now more.0 more.1)
+    (zip_step (iter_rest (zip_first before)) (iter_rest (zip_first after)) (iter_rest (zip_second before)) (iter_rest (zip_second after))
+    c.in-Some.parameter.now c.in-Some.argument.now more.0 more.1)
     c.loop-parameter.invariant c.in_ok-add_passed.ensures
 
 pub returns : goal.returns
 returns c =
-    let W : FunctionArgument × ℕ → ℕ → Type 0 = λ pair ty. PassesUnchecked c.args.module.now c.args.function.now (Records c.args.info.now) ty pair.0 pair.1 in
+    let W : FunctionArgument × ℕ → ℕ → Type 0 = λ pair ty. PassesUnchecked c.args.module.now c.args.function.now (Records c.args.info.now)
+    ty pair.0 pair.1 in
     let before = c.loop-parameter.parameter-iterator in
-    let ended : (length (iter_rest (zip_first before)) ≡ 0) ⊎ (length (iter_rest (zip_second before)) ≡ 0) = elim c.in-None.ensures.steps [ inl first ↦ inl (first.1).0 | inr second ↦ inr (second.1).0 ] in
-    gained_at W (zip c.args.parameters.now c.args.arguments.now) (zip (iter_rest (zip_first before)) (iter_rest (zip_second before))) (Contains c.args.locals.now.keys) (Contains c.loop-parameter.locals.keys)
+    let ended : (length (iter_rest (zip_first before)) ≡ 0) ⊎ (length (iter_rest (zip_second before)) ≡ 0) =
+    elim c.in-None.ensures.steps [ inl first ↦ inl (first.1).0 | inr second ↦ inr (second.1).0 ] in
+    gained_at W (zip c.args.parameters.now c.args.arguments.now) (zip (iter_rest (zip_first before)) (iter_rest (zip_second before)))
+    (Contains c.args.locals.now.keys) (Contains c.loop-parameter.locals.keys)
     (zip_ends (iter_rest (zip_first before)) (iter_rest (zip_second before)) ended) c.loop-parameter.invariant

@@ -9,5 +9,7 @@ use Rattle.shader_indexes.proofs.locals.add_arguments.Given as goal
 
 abbrev pub invariant-loop-parameter : goal.invariant-loop-parameter
 invariant-loop-parameter l =
-    Gains (PairsPass l.module l.function (Records l.info) (zip (iter_rest (zip_first l.parameter-iterator)) (iter_rest (zip_second l.parameter-iterator))))
-    (λ ty. Contains l.fn.locals.keys ty ⊎ PairsPass l.module l.function (Records l.info) (zip l.fn.parameters l.fn.arguments) ty) (Contains l.locals.keys)
+    Gains (PairsPass l.module l.function (Records l.info) (zip (iter_rest (zip_first l.parameter-iterator))
+    (iter_rest (zip_second l.parameter-iterator))))
+    (λ ty. Contains l.fn.locals.keys ty ⊎ PairsPass l.module l.function (Records l.info) (zip l.fn.parameters l.fn.arguments) ty)
+    (Contains l.locals.keys)

@@ -18,11 +18,14 @@ returns-in-Some c =
     let stands : slice_get m.functions c.args.callee ≡ Some c.in-Some.called.now = sym c.called.ensures ∙ ap option_copied c.in-Some.is in
     let parameters : c.as_slice-parameters.result.now ≡ (c.in-Some.called.now).arguments = cc in
     let P : List FunctionArgument → Type 0 = λ v. Gains S T (PairsPass m f (Records c.args.info.now) (zip v c.args.arguments.now)) in
-    on_ok c.add_arguments.result (Gains S T (PairsPass m f (Records c.args.info.now) (zip c.as_slice-parameters.result.now c.args.arguments.now)))
+    on_ok c.add_arguments.result (Gains S T (PairsPass m f (Records c.args.info.now)
+    (zip c.as_slice-parameters.result.now c.args.arguments.now)))
     (Gains S T (λ ty. CallPasses m f (Records c.args.info.now) ty c.args.callee c.args.arguments.now))
-    (λ g. call_gains m f (Records c.args.info.now) c.args.callee c.args.arguments.now c.in-Some.called.now S T stands (subst P parameters g)) c.add_arguments.ensures
+    (λ g. call_gains m f (Records c.args.info.now) c.args.callee c.args.arguments.now c.in-Some.called.now S T stands
+    (subst P parameters g)) c.add_arguments.ensures
 
 pub returns-in-None : goal.returns-in-None
 returns-in-None c =
-    call_of_none c.args.module.now c.args.function.now (Records c.args.info.now) c.args.callee c.args.arguments.now (Contains c.args.locals.now.keys)
+    call_of_none c.args.module.now c.args.function.now (Records c.args.info.now) c.args.callee c.args.arguments.now
+    (Contains c.args.locals.now.keys)
     (sym c.called.ensures ∙ ap option_copied c.in-None.is)

@@ -6,5 +6,6 @@ use Rattle.shader_indexes.proofs.locals.add_passed.Goals as goal
 
 pub returns-in_ok-add-in-Some : goal.returns-in_ok-add-in-Some
 returns-in_ok-add-in-Some c =
-    passes_gain c.args.module.now c.args.function.now (Records c.args.info.now) c.in-Some.ty c.args.parameter.now c.args.argument (Contains c.args.locals.now.keys) (Contains c.add.new.locals.keys)
+    passes_gain c.args.module.now c.args.function.now (Records c.args.info.now) c.in-Some.ty c.args.parameter.now c.args.argument
+    (Contains c.args.locals.now.keys) (Contains c.add.new.locals.keys)
     (sym c.pointed_at.ensures ∙ c.in-Some.is) (c.chain_needs_check.ensures.0 c.if-chain_needs_check.true) c.in_ok-add-in-Some.ensures

@@ -18,15 +18,19 @@ loop-statement-init c =
 pub loop-statement-preserved : goal.loop-statement-preserved
 loop-statement-preserved c =
     let W : Step → ℕ → Type 0 = λ step ty. StepPasses c.args.module.now c.args.function.now (Records c.args.info.now) ty step in
-    brought_at W (listed (drop c.loop-statement.statement-index c.args.all.now)) (step_of c.statement-item.result.now) (listed (drop (c.loop-statement.statement-index + 1) c.args.all.now))
-    (λ ty. Contains c.args.locals.now.keys ty ⊎ AllPass c.args.module.now c.args.function.now (Records c.args.info.now) (listed c.args.all.now) ty)
+    brought_at W (listed (drop c.loop-statement.statement-index c.args.all.now)) (step_of c.statement-item.result.now)
+    (listed (drop (c.loop-statement.statement-index + 1) c.args.all.now))
+    (λ ty. Contains c.args.locals.now.keys ty ⊎ AllPass c.args.module.now c.args.function.now (Records c.args.info.now)
+    (listed c.args.all.now) ty)
     (Contains c.loop-statement.locals.keys) (Contains c.add_statement.new.locals.keys)
-    (ap listed (drop_item c.args.all.now c.loop-statement.statement-index c.statement-item.result c.loop-statement-test.true c.statement-item.is))
+    (ap listed (drop_item c.args.all.now c.loop-statement.statement-index c.statement-item.result c.loop-statement-test.true
+    c.statement-item.is))
     c.loop-statement.invariant c.in_ok-add_statement.ensures
 
 pub returns : goal.returns
 returns c =
     let W : Step → ℕ → Type 0 = λ step ty. StepPasses c.args.module.now c.args.function.now (Records c.args.info.now) ty step in
     let last : drop c.loop-statement.statement-index c.args.all.now ≡ [] = drop_of_length-le c.args.all.now (omega arith) in
-    gained_at W (listed c.args.all.now) (listed (drop c.loop-statement.statement-index c.args.all.now)) (Contains c.args.locals.now.keys) (Contains c.loop-statement.locals.keys) (ap listed last)
+    gained_at W (listed c.args.all.now) (listed (drop c.loop-statement.statement-index c.args.all.now)) (Contains c.args.locals.now.keys)
+    (Contains c.loop-statement.locals.keys) (ap listed last)
     c.loop-statement.invariant

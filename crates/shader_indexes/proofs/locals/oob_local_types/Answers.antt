@@ -15,5 +15,6 @@ returns-then-eq c =
     let chosen : c.args.policies.index ≡ ReadZeroSkipWrite = search rules in
     let needs : ℕ → Type 0 = NeedsLocal c.args.module.now c.args.function.now (Records c.args.info.now) in
     if_ok c.needed_locals.result (λ locals. (ty : ℕ) → Contains locals.keys ty ↔ needs ty)
-    (λ locals. (ty : ℕ) → Contains locals.keys ty ↔ IsOutOfBoundsType c.args.module.now c.args.function.now (Records c.args.info.now) c.args.policies ty)
+    (λ locals. (ty : ℕ) → Contains locals.keys ty ↔ IsOutOfBoundsType c.args.module.now c.args.function.now (Records c.args.info.now)
+    c.args.policies ty)
     (λ locals found ty. (λ h. (chosen, (found ty).0 h), λ h. (found ty).1 h.1)) c.needed_locals.ensures

@@ -6,4 +6,5 @@ use Rattle.shader_overloads.proofs.list.has_concrete_arguments.Given as goal
 
 -- no argument so far is abstract
 abbrev pub invariant-loop-argument : goal.invariant-loop-argument
-invariant-loop-argument l = list_all (λ argument. is_concrete l.types (inner_of l.types argument)) (take l.argument-index l.rule.arguments) ≡ true
+invariant-loop-argument l = list_all (λ argument. is_concrete l.types (inner_of l.types argument))
+    (take l.argument-index l.rule.arguments) ≡ true

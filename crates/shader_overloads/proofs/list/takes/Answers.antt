@@ -13,7 +13,8 @@ automatically_converts_to-requires-clause-goal_in c = c.inner_with-goal.ensures.
 pub returns-then-non_struct_equivalent : goal.returns-then-non_struct_equivalent
 returns-then-non_struct_equivalent c =
     c.if-non_struct_equivalent.true
-    ∙ takes_same c.args.types.now c.args.ty.now c.args.argument.now c.inner_with-goal.result.now c.inner_with-goal.ensures.inner (c.non_struct_equivalent.ensures.0 c.if-non_struct_equivalent.true)
+    ∙ takes_same c.args.types.now c.args.ty.now c.args.argument.now c.inner_with-goal.result.now c.inner_with-goal.ensures.inner
+    (c.non_struct_equivalent.ensures.0 c.if-non_struct_equivalent.true)
 
 pub returns-else-non_struct_equivalent : goal.returns-else-non_struct_equivalent
 returns-else-non_struct_equivalent c =

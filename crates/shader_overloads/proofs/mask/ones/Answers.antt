@@ -14,4 +14,5 @@ pub returns-else-count-ge64-clause-below : goal.returns-else-count-ge64-clause-b
 returns-else-count-ge64-clause-below c k h = ap (λ n. has_bit (n - 1) k) (small_power c.args.count (omega arith)) ∙ all_bits c.args.count k
 
 pub returns-else-count-ge64-clause-above : goal.returns-else-count-ge64-clause-above
-returns-else-count-ge64-clause-above c k h = ap (λ n. has_bit (n - 1) k) (small_power c.args.count (omega arith)) ∙ all_bits c.args.count k ∙ le-ltb k c.args.count (omega arith)
+returns-else-count-ge64-clause-above c k h = ap (λ n. has_bit (n - 1) k) (small_power c.args.count (omega arith)) ∙ all_bits c.args.count k
+    ∙ le-ltb k c.args.count (omega arith)

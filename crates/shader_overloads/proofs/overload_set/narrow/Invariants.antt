@@ -8,7 +8,8 @@ invariant-loop-call g l =
     let rules = g.S.OverloadSet.rules in
     let accepting = g.S.OverloadSet.accepting in
     record {
-      rest : remaining (accepting l.fn.set) l.types (drop l.call-index l.calls) (rules l.left) ≡ remaining (accepting l.fn.set) l.types l.calls (rules l.fn.set);
+      rest : remaining (accepting l.fn.set) l.types (drop l.call-index l.calls) (rules l.left)
+          ≡ remaining (accepting l.fn.set) l.types l.calls (rules l.fn.set);
       kind : accepting l.left ≡ accepting l.fn.set;
       fits : RulesFit l.types (rules l.left);
     }

@@ -6,5 +6,6 @@ use Rattle.shader_reports.proofs.making.add_entry_points.Goals as goal
 
 pub loop-index-preserved : goal.loop-index-preserved
 loop-index-preserved c =
-    one_more c.args.infos.now (map Function (range_with_len 0 (length c.args.module.now.functions))) EntryPoint c.loop-index.index c.get_entry_point.result.now
+    one_more c.args.infos.now (map Function (range_with_len 0 (length c.args.module.now.functions))) EntryPoint c.loop-index.index
+    c.get_entry_point.result.now
     c.loop-index.reports.items c.add_report.new.reports.items c.loop-index.invariant c.get_entry_point.ensures c.in_ok-add_report.ensures

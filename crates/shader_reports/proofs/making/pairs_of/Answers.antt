@@ -17,5 +17,6 @@ returns c =
     c.map.ensures.closure (λ x r q k. search (rules, tests)) in
     let made = fact_from_collect {E = Unit {0}} (IsFromIterResult pair_cmp) (Ok c.in_ok-pairs.pairs) c.in_ok-pairs.ensures.ran numbers in
     let is : c.in_ok-pairs-2.pairs.items ≡ c.in_ok-pairs.pairs.keys =
-    items_from_collect {E = Unit {0}} (Ok c.in_ok-pairs-2.pairs) c.in_ok-pairs-2.ensures.ran (YieldsList-from_rest c.in_ok-pairs.pairs.keys rest) in
+    items_from_collect {E = Unit {0}} (Ok c.in_ok-pairs-2.pairs) c.in_ok-pairs-2.ensures.ran
+    (YieldsList-from_rest c.in_ok-pairs.pairs.keys rest) in
     subst (ArePairsOf info) (sym (c.from.ensures ∙ is)) (pairs_told info c.in_ok-pairs.pairs made)

@@ -10,7 +10,8 @@ returns-in-Ok c =
     let m = c.args.module.now in
     let settings = settings_of c.args.flags c.args.capabilities in
     IfOk-weaker c.accepted.result (TellsAll m c.in-Ok.infos) (IsModuleReport m settings)
-    (λ report told. acceptance_is m settings c.in-Ok.infos report c.in-Ok.ensures.exact c.in-Ok.ensures.pairs c.in-Ok.ensures.accepted told) c.accepted.ensures
+    (λ report told. acceptance_is m settings c.in-Ok.infos report c.in-Ok.ensures.exact c.in-Ok.ensures.pairs c.in-Ok.ensures.accepted told)
+    c.accepted.ensures
 
 pub returns-in-Err : goal.returns-in-Err
 returns-in-Err c =

@@ -16,7 +16,8 @@ most_more depth (x ∷ xs) = let rest = most_more depth xs in omega arith
 
 -- the cases of a switch are less deep than it
 cases_fall : (statement : Statement) (selector : Handle Expression) (cases : Vec SwitchCase Global) (passed : List SwitchCase) (t : ℕ) →
-    statement ≡ Switch selector cases → passed ≡ cases.items → 2 * size-Statement statement + 0 ≡ t → 2 * most size-SwitchCase passed + 1 < t
+    statement ≡ Switch selector cases → passed ≡ cases.items → 2 * size-Statement statement + 0 ≡ t →
+    2 * most size-SwitchCase passed + 1 < t
 cases_fall statement selector cases passed t is same deep =
     let below = most_more deep-SwitchCase cases.items in
     let whole : 2 * size-Statement (Switch selector cases) + 0 ≡ t = subst (λ v. 2 * size-Statement v + 0 ≡ t) is deep in
@@ -24,7 +25,8 @@ cases_fall statement selector cases passed t is same deep =
 
 pub sweep_statement-sweep_cases-requires : goal.sweep_statement-sweep_cases-requires
 sweep_statement-sweep_cases-requires t c = (
-  cases_fall c.args.statement.now c.in-Switch.selector c.in-Switch.cases c.deref.result.now t c.in-Switch.is c.deref.ensures.value c.decreases,
+  cases_fall c.args.statement.now c.in-Switch.selector c.in-Switch.cases c.deref.result.now t c.in-Switch.is
+      c.deref.ensures.value c.decreases,
   tt,
 )
 

@@ -9,7 +9,8 @@ abbrev pub invariant-sweep_block-loop-statement : goal.invariant-sweep_block-loo
 invariant-sweep_block-loop-statement l = record {
   exits : either l.exits (block_ends (origin_at l.facts) (killing l.infos) l.flow (body_of (drop l.statement-index l.statement-items)))
       ≡ block_ends (origin_at l.facts) (killing l.infos) l.disruptor l.block;
-  first : option_or l.seen.first (block_fault (origin_at l.facts) (killing l.infos) l.facts l.flow (body_of (drop l.statement-index l.statement-items)))
+  first : option_or l.seen.first (block_fault (origin_at l.facts) (killing l.infos) l.facts l.flow
+      (body_of (drop l.statement-index l.statement-items)))
       ≡ option_or l.fn.seen.first (block_fault (origin_at l.facts) (killing l.infos) l.facts l.disruptor l.block);
 }
 
@@ -17,6 +18,7 @@ abbrev pub invariant-sweep_cases-loop-case : goal.invariant-sweep_cases-loop-cas
 invariant-sweep_cases-loop-case l = record {
   exits : either l.exits (cases_end (origin_at l.facts) (killing l.infos) l.branch l.entered (cases_of (drop l.case-index l.cases)))
       ≡ cases_end (origin_at l.facts) (killing l.infos) l.branch l.branch (cases_of l.cases);
-  first : option_or l.seen.first (cases_fault (origin_at l.facts) (killing l.infos) l.facts l.branch l.entered (cases_of (drop l.case-index l.cases)))
+  first : option_or l.seen.first (cases_fault (origin_at l.facts) (killing l.infos) l.facts l.branch l.entered
+      (cases_of (drop l.case-index l.cases)))
       ≡ option_or l.fn.seen.first (cases_fault (origin_at l.facts) (killing l.infos) l.facts l.branch l.branch (cases_of l.cases));
 }

@@ -10,4 +10,5 @@ invariant-gather_block-loop-statement l =
 
 abbrev pub invariant-gather_within-loop-case : goal.invariant-gather_within-loop-case
 invariant-gather_within-loop-case l =
-    listed l.all.items ++ case_statements (cases_of (drop l.case-index l.case-items)) ≡ listed l.fn.all.items ++ statements_within (step_of l.fn.statement)
+    listed l.all.items ++ case_statements (cases_of (drop l.case-index l.case-items)) ≡ listed l.fn.all.items
+    ++ statements_within (step_of l.fn.statement)

@@ -6,4 +6,5 @@ abbrev pub invariant-loop-expression : goal.invariant-loop-expression
 invariant-loop-expression l =
     (goal.iterator-loop-expression).can_next l.expression-iterator
     × (goal.iterator-loop-expression).is_finite l.expression-iterator
-    × (fold (named_by l.facts) l.uses (map (λ entry. entry.0) l.expression-iterator) ≡ fold (named_by l.facts) l.fn.uses (map (λ entry. entry.0) l.named))
+    × (fold (named_by l.facts) l.uses (map (λ entry. entry.0) l.expression-iterator)
+    ≡ fold (named_by l.facts) l.fn.uses (map (λ entry. entry.0) l.named))

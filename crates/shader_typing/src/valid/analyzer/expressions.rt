@@ -11,7 +11,7 @@ use std::alloc::{AllocError, Global};
 ///
 /// # Errors
 ///
-/// Want of memory for an info an expression.
+/// If allocation fails: an info an expression is asked for.
 pub fn expression_infos(
     alloc: Global,
     types: Vec<TypeResolution>,
@@ -24,7 +24,8 @@ pub fn expression_infos(
     ensures types { IfOk result (λ infos. map (λ info. info.ty) infos ≡ types.items) }
     ensures counts { IfOk result (λ infos. map (λ info. info.ref_count) infos ≡ counts.now) }
     ensures origins { IfOk result (λ infos. map (λ info. info.uniformity.non_uniform_result) infos ≡ map (λ fact. fact.origin) facts.now) }
-    ensures needs { IfOk result (λ infos. map (λ info. info.uniformity.requirements.0) infos ≡ map (λ fact. fact.requirements.0) facts.now) }
+    ensures needs { IfOk result (λ infos. map (λ info. info.uniformity.requirements.0) infos
+        ≡ map (λ fact. fact.requirements.0) facts.now) }
 {
     let mut infos = Vec::with_capacity(alloc, facts.len())?;
     for (place, ty) in types.into_iter().enumerate() {

@@ -37,8 +37,10 @@ pub fn placed_pairs(
     requires { listed all.now ≡ statements function.now.body }
     ensures members { IfOk result (λ pairs. SameMembers (pairs_of pairs) (pairs_found infos.now function.now)) }
     ensures with_arguments { IfOk result (λ pairs. HaveArguments pairs.sampling.keys) }
-    ensures placed { IfOk result (λ _. (m : Module) (settings : Settings) (e : ℕ) → StepFault m (infos_of infos.now) function.now settings (NoPlace e) → ⊥) }
-    ensures fault { IfErr result (λ failure. (m : Module) (settings : Settings) → IsNamed (StepFault m (infos_of infos.now) function.now settings) failure) }
+    ensures placed { IfOk result (λ _. (m : Module) (settings : Settings) (e : ℕ) →
+        StepFault m (infos_of infos.now) function.now settings (NoPlace e) → ⊥) }
+    ensures fault { IfErr result (λ failure. (m : Module) (settings : Settings) →
+        IsNamed (StepFault m (infos_of infos.now) function.now settings) failure) }
 {
     let pairs = Pairs::of_function(alloc, infos, function, all)?;
     match pairs.unplaced {
@@ -59,9 +61,12 @@ pub fn counted(
     all: &[&Statement],
 ) -> Result<Tally, FunctionError>
     requires { listed all.now ≡ statements function.now.body }
-    ensures counts { IfOk result (λ tally. (e : ℕ) → e < length function.now.expressions → slice_get tally.0 e ≡ Some (count_of function.now e)) }
-    ensures tallied { IfOk result (λ tally. (infos : _) → facts.now ≡ facts_found «module».now infos function.now → tally ≡ tallied «module».now infos function.now) }
-    ensures fault { IfErr result (λ failure. (infos : _) (settings : Settings) → IsNamed (StepFault «module».now infos function.now settings) failure) }
+    ensures counts { IfOk result (λ tally. (e : ℕ) → e < length function.now.expressions →
+        slice_get tally.0 e ≡ Some (count_of function.now e)) }
+    ensures tallied { IfOk result (λ tally. (infos : _) → facts.now ≡ facts_found «module».now infos function.now →
+        tally ≡ tallied «module».now infos function.now) }
+    ensures fault { IfErr result (λ failure. (infos : _) (settings : Settings) →
+        IsNamed (StepFault «module».now infos function.now settings) failure) }
 {
     let tally = Tally::of_function(alloc, module, function, facts, all)?;
     match tally.full {
@@ -108,8 +113,11 @@ pub fn kills(
     requires operands { PointsBackwards function.now }
     requires facts { facts.now ≡ facts_found «module».now infos.now function.now }
     ensures kills { IfOk result (λ kills. kills ≡ kill_found «module».now infos.now function.now) }
-    ensures undisrupted { IfOk result (λ _. (capabilities : Capabilities) (needs e : ℕ) (blamed : Disruptor) → StepFault «module».now (infos_of infos.now) function.now (settings_of flags capabilities) (NonUniformControlFlow needs e blamed) → ⊥) }
-    ensures fault { IfErr result (λ failure. (capabilities : Capabilities) → IsNamed (StepFault «module».now (infos_of infos.now) function.now (settings_of flags capabilities)) failure) }
+    ensures undisrupted { IfOk result (λ _. (capabilities : Capabilities) (needs e : ℕ) (blamed : Disruptor) →
+        StepFault «module».now (infos_of infos.now) function.now (settings_of flags capabilities)
+        (NonUniformControlFlow needs e blamed) → ⊥) }
+    ensures fault { IfErr result (λ failure. (capabilities : Capabilities) →
+        IsNamed (StepFault «module».now (infos_of infos.now) function.now (settings_of flags capabilities)) failure) }
 {
     let mut found = Found { first: None };
     let undisrupted = None;
@@ -132,7 +140,9 @@ pub fn uses_of(
     all: &[&Statement],
 ) -> Result<Items<GlobalUse>, AllocError>
     requires { listed all.now ≡ statements function.now.body }
-    ensures { IfOk result (λ uses. (m : Module) → PointsBackwards function.now → GlobalsWithin m function.now → EachFits m infos.now → facts.now ≡ facts_found m infos.now function.now → own.items ≡ own_uses m infos.now function.now → HasUses m infos.now function.now (map (λ at. at.0) uses)) }
+    ensures { IfOk result (λ uses. (m : Module) → PointsBackwards function.now → GlobalsWithin m function.now → EachFits m infos.now →
+        facts.now ≡ facts_found m infos.now function.now → own.items ≡ own_uses m infos.now function.now →
+        HasUses m infos.now function.now (map (λ at. at.0) uses)) }
 {
     let mut uses = own;
     join_calls(infos, &mut uses, all);

@@ -8,5 +8,6 @@ automatically_converts_to-requires-clause-backward c = are_backward c.place-2.ne
 
 pub returns : goal.returns
 returns c =
-    c.automatically_converts_to.ensures ∙ conversion_is c.place.new.types c.place-2.new.types c.args.from c.args.to c.in_ok-from.from c.in_ok-to.to
+    c.automatically_converts_to.ensures ∙ conversion_is c.place.new.types c.place-2.new.types c.args.from c.args.to
+    c.in_ok-from.from c.in_ok-to.to
     c.in_ok-from.ensures.placed c.in_ok-to.ensures.kept c.in_ok-to.ensures.placed

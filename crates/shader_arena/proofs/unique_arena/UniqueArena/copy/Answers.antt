@@ -5,7 +5,8 @@ use Rattle.shader_arena.proofs.unique_arena.UniqueArena.copy.Goals as goal
 pub loop-place-preserved : goal.loop-place-preserved
 loop-place-preserved g c =
     let at : slice_get c.args.self.now c.loop-place.place ≡ Some c.index-item.result.now = search rules in
-    let more = next_unique c.args.self.now c.loop-place.place c.index-item.result.now at g.T.PartialEq.eq c.len-place-end.ensures.distinct in
+    let more = next_unique c.args.self.now c.loop-place.place c.index-item.result.now at g.T.PartialEq.eq
+    c.len-place-end.ensures.distinct in
     let put = c.in_ok-insert.ensures.inserted in
     let item = c.in_ok-try_copy.ensures in
     let before = c.loop-place.invariant in

@@ -10,4 +10,5 @@ returns-clause-items g c = ap items_of c.new.ensures ∙ items_of-enumerate_from
 
 pub returns-clause-distinct : goal.returns-clause-distinct
 returns-clause-distinct g c =
-    subst (HasNoEqualItems g.T.PartialEq.eq) c.self.view_is (HasNoEqualItems-from_distinct g.T.PartialEq.eq g.met.T.Eq.laws _ c.as_slice.ensures.unique)
+    subst (HasNoEqualItems g.T.PartialEq.eq) c.self.view_is
+    (HasNoEqualItems-from_distinct g.T.PartialEq.eq g.met.T.Eq.laws _ c.as_slice.ensures.unique)

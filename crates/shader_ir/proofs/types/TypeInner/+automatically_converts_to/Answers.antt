@@ -28,7 +28,8 @@ returns-then-not-is_equal_size t c =
     let from = c.in-Array in
     let to = c.in-Array-goal in
     sym ((λ i. conversion (tree_of types (from.is i)) (tree_of types (to.is i)))
-    ∙ conversion-unequal types from.base from.size from.stride to.goal_base to.goal_size to.stride (sym c.is_equal_size.ensures ∙ c.if-not-is_equal_size.true))
+    ∙ conversion-unequal types from.base from.size from.stride to.goal_base to.goal_size to.stride (sym c.is_equal_size.ensures
+    ∙ c.if-not-is_equal_size.true))
 
 pub returns-else-not-is_equal_size : goal.returns-else-not-is_equal_size
 returns-else-not-is_equal_size t c =
@@ -38,7 +39,8 @@ returns-else-not-is_equal_size t c =
     let sizes = sym c.is_equal_size.ensures ∙ c.if-not-is_equal_size.false in
     c.automatically_converts_to.ensures
     ∙ sym ((λ i. conversion (tree_of types (from.is i)) (tree_of types (to.is i)))
-    ∙ conversion-Array types c.requires.backward from.base from.size from.stride c.index.result.now to.goal_base to.goal_size to.stride c.index-in-Array-goal.result.now
+    ∙ conversion-Array types c.requires.backward from.base from.size from.stride c.index.result.now to.goal_base to.goal_size to.stride
+    c.index-in-Array-goal.result.now
     c.index.ensures c.index-in-Array-goal.ensures sizes)
 
 pub returns-in_default-goal : goal.returns-in_default-goal

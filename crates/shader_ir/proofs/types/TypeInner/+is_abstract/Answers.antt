@@ -20,4 +20,5 @@ returns-in-Array t c =
     let from = c.in-Array in
     c.is_abstract-in-Array.ensures
     ∙ sym (ap (λ inner. is_abstract (tree_of types inner)) from.is
-    ∙ ap is_abstract (tree_of-base types c.requires.backward (Array from.base from.size from.stride) from.base c.index.result.now refl c.index.ensures))
+    ∙ ap is_abstract (tree_of-base types c.requires.backward (Array from.base from.size from.stride) from.base c.index.result.now refl
+    c.index.ensures))

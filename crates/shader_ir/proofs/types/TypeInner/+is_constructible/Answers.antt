@@ -29,7 +29,8 @@ returns-in-Constant t c =
     let whole = from.is ∙ ap (λ size. Array from.base size from.stride) c.in-Constant.is in
     c.is_constructible.ensures
     ∙ sym (ap (λ inner. is_constructible (tree_of types inner)) whole
-    ∙ ap is_constructible (tree_of-base types c.requires.backward (Array from.base (Constant c.in-Constant.field-0) from.stride) from.base c.index.result.now refl c.index.ensures)
+    ∙ ap is_constructible (tree_of-base types c.requires.backward (Array from.base (Constant c.in-Constant.field-0) from.stride) from.base
+    c.index.result.now refl c.index.ensures)
     ∙ and_true (is_constructible (tree_of types c.index.result.now.inner)))
 
 pub index-requires-in-loop-member : goal.index-requires-in-loop-member
@@ -39,7 +40,8 @@ index-requires-in-loop-member t c =
     let index = c.loop-member.member-index in
     let member = c.member-item.result in
     let inside : index < length list = omega arith in
-    let found : slice_get members index ≡ Some member = ap (λ l. slice_get l index) (sym c.as_slice-member-items.ensures) ∙ slice_get_read list (length list) index member refl inside c.member-item.is in
+    let found : slice_get members index ≡ Some member = ap (λ l. slice_get l index) (sym c.as_slice-member-items.ensures)
+    ∙ slice_get_read list (length list) index member refl inside c.member-item.is in
     let below = subst (PointsBelow (length c.args.types.now)) c.in-Struct.is c.requires.self_in in
     member_below (length c.args.types.now) members c.in-Struct.span index member below found
 
@@ -52,7 +54,8 @@ is_constructible-requires-in-loop-member t c =
     let index = c.loop-member.member-index in
     let member = c.member-item.result in
     let inside : index < length list = omega arith in
-    let found : slice_get members index ≡ Some member = ap (λ l. slice_get l index) (sym c.as_slice-member-items.ensures) ∙ slice_get_read list (length list) index member refl inside c.member-item.is in
+    let found : slice_get members index ≡ Some member = ap (λ l. slice_get l index) (sym c.as_slice-member-items.ensures)
+    ∙ slice_get_read list (length list) index member refl inside c.member-item.is in
     let type = c.index-in-loop-member.result.now in
     let less = member_falls c.args.types.now backward members c.in-Struct.span index member type found c.index-in-loop-member.ensures in
     let whole = ap reach c.in-Struct.is in
@@ -65,7 +68,8 @@ loop-member-preserved t c =
     let index = c.loop-member.member-index in
     let rest = are_constructible (member_trees types (drop (index + 1) list)) in
     c.loop-member.invariant
-    ∙ constructible_from types c.requires.backward list index c.member-item.result c.index-in-loop-member.result.now (omega arith) c.member-item.is c.index-in-loop-member.ensures
+    ∙ constructible_from types c.requires.backward list index c.member-item.result c.index-in-loop-member.result.now (omega arith)
+    c.member-item.is c.index-in-loop-member.ensures
     ∙ ap (λ b. b && rest) (sym c.is_constructible-in-loop-member.ensures ∙ c.if-not-is_constructible.false)
 
 pub returns-then-not-is_constructible : goal.returns-then-not-is_constructible
@@ -77,7 +81,8 @@ returns-then-not-is_constructible t c =
     sym (ap (λ inner. is_constructible (tree_of types inner)) c.in-Struct.is
     ∙ ap (λ l. are_constructible (member_trees types l)) (sym c.as_slice-member-items.ensures)
     ∙ c.loop-member.invariant
-    ∙ constructible_from types c.requires.backward list index c.member-item.result c.index-in-loop-member.result.now (omega arith) c.member-item.is c.index-in-loop-member.ensures
+    ∙ constructible_from types c.requires.backward list index c.member-item.result c.index-in-loop-member.result.now (omega arith)
+    c.member-item.is c.index-in-loop-member.ensures
     ∙ ap (λ b. b && rest) (sym c.is_constructible-in-loop-member.ensures ∙ c.if-not-is_constructible.true))
 
 pub returns-after-loop-member : goal.returns-after-loop-member

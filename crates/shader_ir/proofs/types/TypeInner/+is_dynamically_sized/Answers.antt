@@ -14,7 +14,8 @@ is_dynamically_sized-requires t c =
     let member = c.in-Some.member.now in
     let found : slice_get members (length members - 1) ≡ Some member =
     ap (λ list. slice_get list (length list - 1)) (sym c.as_slice.ensures) ∙ sym c.last.ensures.value ∙ ap option_copied c.in-Some.is in
-    let less = member_falls c.args.types.now backward members c.in-Struct.span (length members - 1) member c.index.result.now found c.index.ensures in
+    let less = member_falls c.args.types.now backward members c.in-Struct.span (length members - 1) member c.index.result.now found
+    c.index.ensures in
     let whole = ap reach c.in-Struct.is in
     (omega arith, (backward, backward.in_range member.ty c.index.result.now c.index.ensures))
 

@@ -13,7 +13,8 @@ pub needs_host_buffer_byte_size-requires : goal.needs_host_buffer_byte_size-requ
 needs_host_buffer_byte_size-requires t c =
     let backward = c.requires.backward in
     let from = c.in-BindingArray in
-    let less = falls c.args.types.now backward c.args.self.now from.base c.index-in-BindingArray.result.now (ap type_handles from.is) c.index-in-BindingArray.ensures in
+    let less = falls c.args.types.now backward c.args.self.now from.base c.index-in-BindingArray.result.now (ap type_handles from.is)
+    c.index-in-BindingArray.ensures in
     (omega arith, (backward, backward.in_range from.base c.index-in-BindingArray.result.now c.index-in-BindingArray.ensures))
 
 pub returns-in-BindingArray : goal.returns-in-BindingArray
@@ -22,7 +23,8 @@ returns-in-BindingArray t c =
     let from = c.in-BindingArray in
     c.needs_host_buffer_byte_size.ensures
     ∙ sym (ap (λ inner. needs_host_buffer_byte_size (tree_of types inner)) from.is
-    ∙ ap needs_host_buffer_byte_size (tree_of-base types c.requires.backward (BindingArray from.base from.size) from.base c.index-in-BindingArray.result.now refl c.index-in-BindingArray.ensures))
+    ∙ ap needs_host_buffer_byte_size (tree_of-base types c.requires.backward (BindingArray from.base from.size) from.base
+    c.index-in-BindingArray.result.now refl c.index-in-BindingArray.ensures))
 
 pub returns-in-Some : goal.returns-in-Some
 returns-in-Some t c =
@@ -34,5 +36,6 @@ returns-in-Some t c =
     let inside : length members - 1 < length members = slice_get_within members (length members - 1) member found in
     c.is_runtime_array-in-Some.ensures
     ∙ sym (ap (λ inner. needs_host_buffer_byte_size (tree_of types inner)) c.in-Struct.is
-    ∙ last_member types c.requires.backward ends_in_runtime_array (λ tree. is_runtime_array (root_of tree)) (λ answer. refl) (λ answer tree trees. refl)
+    ∙ last_member types c.requires.backward ends_in_runtime_array (λ tree. is_runtime_array (root_of tree)) (λ answer. refl)
+    (λ answer tree trees. refl)
     members (length members - 1) member c.index.result.now (omega arith) found c.index.ensures false)

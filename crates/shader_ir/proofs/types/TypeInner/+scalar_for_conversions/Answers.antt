@@ -20,4 +20,5 @@ returns-in-Array t c =
     let from = c.in-Array in
     c.scalar_for_conversions.ensures
     ∙ sym (ap (λ inner. leaf_of (tree_of types inner)) from.is
-    ∙ ap leaf_of (tree_of-base types c.requires.backward (Array from.base from.size from.stride) from.base c.index.result.now refl c.index.ensures))
+    ∙ ap leaf_of (tree_of-base types c.requires.backward (Array from.base from.size from.stride) from.base c.index.result.now refl
+    c.index.ensures))

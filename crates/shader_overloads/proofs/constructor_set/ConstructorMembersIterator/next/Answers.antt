@@ -12,10 +12,12 @@ overflow_sub-below c = some_bit c.self.inside.left.0 all_constructors (λ e. bot
 pub returns-clause-steps : goal.returns-clause-steps
 returns-clause-steps c =
     ap (map (λ x. x ∷ [])) (sym c.self.view_is)
-    ∙ members_step c.self.inside.left.0 all_constructors sizes.Scalar (omega arith) (λ e. both_ways _ c.if-is_empty.false (c.is_empty.ensures.1 e))
+    ∙ members_step c.self.inside.left.0 all_constructors sizes.Scalar (omega arith)
+    (λ e. both_ways _ c.if-is_empty.false (c.is_empty.ensures.1 e))
 
 pub returns-clause-goes : goal.returns-clause-goes
 returns-clause-goes c =
-    let step = split c.self.inside.left.0 all_constructors sizes.Scalar (omega arith) (λ e. both_ways _ c.if-is_empty.false (c.is_empty.ensures.1 e)) in
+    let step = split c.self.inside.left.0 all_constructors sizes.Scalar (omega arith)
+    (λ e. both_ways _ c.if-is_empty.false (c.is_empty.ensures.1 e)) in
     let fewer = ap length (sym c.self.view_is ∙ step.whole) in
     search (rules, arith)

@@ -9,10 +9,12 @@ pub returns-then-group-eq5 : goal.returns-then-group-eq5
 returns-then-group-eq5 c k h = rw c.if-group-eq5.true (across_low c.args.members k)
 
 pub returns-then-group-lt10 : goal.returns-then-group-lt10
-returns-then-group-lt10 c k h = in_middle c.args.members k c.args.group (omega (arith, c.if-group-lt5.false, c.if-group-eq5.false)) c.if-group-lt10.true
+returns-then-group-lt10 c k h = in_middle c.args.members k c.args.group (omega (arith, c.if-group-lt5.false, c.if-group-eq5.false))
+    c.if-group-lt10.true
 
 pub returns-then-group-eq10 : goal.returns-then-group-eq10
 returns-then-group-eq10 c k h = rw c.if-group-eq10.true (across_middle c.args.members k)
 
 pub returns-else-group-eq10 : goal.returns-else-group-eq10
-returns-else-group-eq10 c k h = in_high c.args.members k c.args.group (omega (arith, c.if-group-lt10.false, c.if-group-eq10.false)) c.requires
+returns-else-group-eq10 c k h = in_high c.args.members k c.args.group
+    (omega (arith, c.if-group-lt10.false, c.if-group-eq10.false)) c.requires

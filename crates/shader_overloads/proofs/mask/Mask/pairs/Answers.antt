@@ -16,12 +16,17 @@ overflow_add-result-2 c = omega (arith, c.five_groups-second.ensures.within)
 
 pub returns-clause-pairs : goal.returns-clause-pairs
 returns-clause-pairs c k h =
-    words-pair (bit_and c.args.groups 8191) (bit_and c.args.members 4095) c.five_groups-first.result c.five_groups-second.result c.five_groups-third.result
-    c.five_groups-first.ensures.pairs c.five_groups-second.ensures.pairs c.five_groups-third.ensures.pairs c.five_groups-first.ensures.within c.five_groups-second.ensures.within c.five_groups-third.ensures.within k (omega arith)
+    words-pair (bit_and c.args.groups 8191) (bit_and c.args.members 4095) c.five_groups-first.result c.five_groups-second.result
+    c.five_groups-third.result
+    c.five_groups-first.ensures.pairs c.five_groups-second.ensures.pairs c.five_groups-third.ensures.pairs
+    c.five_groups-first.ensures.within c.five_groups-second.ensures.within c.five_groups-third.ensures.within k (omega arith)
     ∙ ap (λ b. b && has_bit (bit_and c.args.members 4095) (k % 12)) (masked_bit c.args.groups 13 (k / 12) (omega arith))
     ∙ ap (λ b. has_bit c.args.groups (k / 12) && b) (masked_bit c.args.members 12 (k % 12) (omega arith))
 
 pub returns-clause-within : goal.returns-clause-within
 returns-clause-within c =
-    words-within (bit_and c.args.groups 8191) (bit_and c.args.members 4095) c.five_groups-first.result c.five_groups-second.result c.five_groups-third.result
-    c.five_groups-first.ensures.pairs c.five_groups-second.ensures.pairs c.five_groups-third.ensures.pairs c.five_groups-first.ensures.within c.five_groups-second.ensures.within c.five_groups-third.ensures.within (omega (arith, and_le_r c.args.groups 8191))
+    words-within (bit_and c.args.groups 8191) (bit_and c.args.members 4095) c.five_groups-first.result c.five_groups-second.result
+    c.five_groups-third.result
+    c.five_groups-first.ensures.pairs c.five_groups-second.ensures.pairs c.five_groups-third.ensures.pairs
+    c.five_groups-first.ensures.within c.five_groups-second.ensures.within c.five_groups-third.ensures.within
+    (omega (arith, and_le_r c.args.groups 8191))

@@ -5,7 +5,9 @@ pub unreachable-requires : goal.unreachable-requires
 unreachable-requires g c = absurd (c.requires (none_at c.args.self.now.mask (g.T.Table.rows c.args.self.now.table) c.in-None.ensures.none))
 
 pub returns-clause-within : goal.returns-clause-within
-returns-clause-within g c = (first_at c.args.self.now.mask (g.T.Table.rows c.args.self.now.table) c.in-Some.row c.requires c.in-Some.ensures.first).0
+returns-clause-within g c = (first_at c.args.self.now.mask (g.T.Table.rows c.args.self.now.table) c.in-Some.row c.requires
+    c.in-Some.ensures.first).0
 
 pub returns-clause-first : goal.returns-clause-first
-returns-clause-first g c = (first_at c.args.self.now.mask (g.T.Table.rows c.args.self.now.table) c.in-Some.row c.requires c.in-Some.ensures.first).1
+returns-clause-first g c = (first_at c.args.self.now.mask (g.T.Table.rows c.args.self.now.table) c.in-Some.row c.requires
+    c.in-Some.ensures.first).1

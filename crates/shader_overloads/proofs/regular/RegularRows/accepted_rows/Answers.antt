@@ -4,16 +4,20 @@ use Rattle.shader_overloads.proofs.RegularLemmas.{row_accepts, row_past}
 use Rattle.shader_overloads.proofs.regular.RegularRows.accepted_rows.Goals as goal
 
 pub returns-then-i-self : goal.returns-then-i-self
-returns-then-i-self c types row rule at = c.empty.ensures row ∙ row_past c.args.self row rule at types c.args.i c.args.ty.now c.if-i-self.true
+returns-then-i-self c types row rule at = c.empty.ensures row
+    ∙ row_past c.args.self row rule at types c.args.i c.args.ty.now c.if-i-self.true
 
 pub returns-in-Scalar : goal.returns-in-Scalar
 returns-in-Scalar c types row rule at =
-    row_accepts c.args.self row rule at types c.args.i c.args.ty.now sizes.Scalar c.in-Scalar.scalar c.accepting_rows.result c.in-Scalar.is c.if-i-self.false c.accepting_rows.ensures
+    row_accepts c.args.self row rule at types c.args.i c.args.ty.now sizes.Scalar c.in-Scalar.scalar c.accepting_rows.result c.in-Scalar.is
+    c.if-i-self.false c.accepting_rows.ensures
 
 pub returns-in-Vector : goal.returns-in-Vector
 returns-in-Vector c types row rule at =
-    row_accepts c.args.self row rule at types c.args.i c.args.ty.now (sizes.Vector c.in-Vector.size) c.in-Vector.scalar c.accepting_rows-in-Vector.result c.in-Vector.is c.if-i-self.false c.accepting_rows-in-Vector.ensures
+    row_accepts c.args.self row rule at types c.args.i c.args.ty.now (sizes.Vector c.in-Vector.size) c.in-Vector.scalar
+    c.accepting_rows-in-Vector.result c.in-Vector.is c.if-i-self.false c.accepting_rows-in-Vector.ensures
 
 pub returns-in-Matrix : goal.returns-in-Matrix
 returns-in-Matrix c types row rule at =
-    row_accepts c.args.self row rule at types c.args.i c.args.ty.now (sizes.Matrix c.in-Matrix.columns c.in-Matrix.rows) c.in-Matrix.scalar c.accepting_rows-in-Matrix.result c.in-Matrix.is c.if-i-self.false c.accepting_rows-in-Matrix.ensures
+    row_accepts c.args.self row rule at types c.args.i c.args.ty.now (sizes.Matrix c.in-Matrix.columns c.in-Matrix.rows) c.in-Matrix.scalar
+    c.accepting_rows-in-Matrix.result c.in-Matrix.is c.if-i-self.false c.accepting_rows-in-Matrix.ensures

@@ -4,7 +4,8 @@ use Rattle.shader_overloads.proofs.RegularLemmas.{any_group, any_row, row_concre
 use Rattle.shader_overloads.proofs.regular.RegularRows.concrete_rows.Goals as goal
 
 pub returns-then-self-eq0 : goal.returns-then-self-eq0
-returns-then-self-eq0 c types row rule at = any_row c.pairs.result row (row_within c.args.self row rule at) c.pairs.ensures.pairs ∙ row_without_arguments c.args.self row rule at types c.if-self-eq0.true
+returns-then-self-eq0 c types row rule at = any_row c.pairs.result row (row_within c.args.self row rule at) c.pairs.ensures.pairs
+    ∙ row_without_arguments c.args.self row rule at types c.if-self-eq0.true
 
 pub returns : goal.returns
 returns c types row rule at =

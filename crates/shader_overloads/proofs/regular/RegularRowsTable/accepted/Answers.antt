@@ -4,4 +4,5 @@ use Rattle.shader_overloads.proofs.regular.RegularRowsTable.accepted.Goals as go
 
 pub returns-clause-rules : goal.returns-clause-rules
 returns-clause-rules c =
-    kept_rows c.args.self.now (accepts c.args._types.now c.args.i c.args.ty.now) c.args.mask c.accepted_rows.result c.bitand.result (λ row rule at. c.accepted_rows.ensures c.args._types.now row rule at) c.bitand.ensures
+    kept_rows c.args.self.now (accepts c.args._types.now c.args.i c.args.ty.now) c.args.mask c.accepted_rows.result c.bitand.result
+    (λ row rule at. c.accepted_rows.ensures c.args._types.now row rule at) c.bitand.ensures

@@ -4,4 +4,5 @@ use Rattle.shader_overloads.proofs.regular.RegularRowsTable.concrete.Goals as go
 
 pub returns-clause-rules : goal.returns-clause-rules
 returns-clause-rules c =
-    kept_rows c.args.self.now (has_concrete_arguments c.args._types.now) c.args.mask c.concrete_rows.result c.bitand.result (λ row rule at. c.concrete_rows.ensures c.args._types.now row rule at) c.bitand.ensures
+    kept_rows c.args.self.now (has_concrete_arguments c.args._types.now) c.args.mask c.concrete_rows.result c.bitand.result
+    (λ row rule at. c.concrete_rows.ensures c.args._types.now row rule at) c.bitand.ensures

@@ -13,5 +13,6 @@ returns c =
     let size : parts.size.element ≡ c.size_at-size.result = cc (parts.size.is, c.size_at-size.ensures) in
     let scalar : parts.scalar.element ≡ c.scalar_at-scalar.result = cc (parts.scalar.is, c.scalar_at-scalar.ensures) in
     ok_is c.make_rule.result _ _
-    (parts.is ∙ ap (λ s. Some (rule_for c.args.self.now.arity c.args.self.now.conclude s parts.scalar.element)) size ∙ ap (λ v. Some (rule_for c.args.self.now.arity c.args.self.now.conclude c.size_at-size.result v)) scalar)
+    (parts.is ∙ ap (λ s. Some (rule_for c.args.self.now.arity c.args.self.now.conclude s parts.scalar.element)) size
+    ∙ ap (λ v. Some (rule_for c.args.self.now.arity c.args.self.now.conclude c.size_at-size.result v)) scalar)
     c.make_rule.ensures

@@ -6,4 +6,5 @@ use Rattle.shader_reports.proofs.report.CountsTextDisplay.fmt.Given as goal
 
 abbrev pub invariant-loop-other : goal.invariant-loop-other
 invariant-loop-other g l =
-    IsPlainFormatter l.initial.f → HasWritten g.W.Write.write_str_gives l.initial.f (flat_map (λ t. codes "," ++ decimal t) (take l.other-index l.others)) l.f
+    IsPlainFormatter l.initial.f → HasWritten g.W.Write.write_str_gives l.initial.f
+    (flat_map (λ t. codes "," ++ decimal t) (take l.other-index l.others)) l.f

@@ -6,4 +6,5 @@ abbrev pub invariant-loop-expression : goal.invariant-loop-expression
 invariant-loop-expression l =
     (goal.iterator-loop-expression).can_next l.expression-iterator
     × (goal.iterator-loop-expression).is_finite l.expression-iterator
-    × (list_all (λ entry. nat_lt entry.0 (length l.function.expressions)) l.expression-iterator ≡ list_all (λ entry. nat_lt entry.0 (length l.function.expressions)) l.function.named_expressions)
+    × (list_all (λ entry. nat_lt entry.0 (length l.function.expressions)) l.expression-iterator
+    ≡ list_all (λ entry. nat_lt entry.0 (length l.function.expressions)) l.function.named_expressions)

@@ -5,7 +5,8 @@ use Rattle.shader_resolve.proofs.well_formed.statements.+blocks.Given as goal
 
 abbrev pub invariant-check_block-loop-statement : goal.invariant-check_block-loop-statement
 invariant-check_block-loop-statement l =
-    in_body (check_statement l.«module» l.bounds) (body_of (drop l.statement-index l.statement-items)) ≡ in_body (check_statement l.«module» l.bounds) l.block
+    in_body (check_statement l.«module» l.bounds) (body_of (drop l.statement-index l.statement-items))
+    ≡ in_body (check_statement l.«module» l.bounds) l.block
 
 abbrev pub invariant-check_blocks-loop-case : goal.invariant-check_blocks-loop-case
 invariant-check_blocks-loop-case l =

@@ -12,9 +12,12 @@ pub loop-statement-preserved : goal.loop-statement-preserved
 loop-statement-preserved c =
     let f = called c.args.infos.now c.args.function.now in
     record {
-      members = more_at (flat_map f (listed (drop c.loop-statement.statement-index c.args.all.now))) (f (step_of c.statement-item.result.now))
-          (flat_map f (listed (drop (c.loop-statement.statement-index + 1) c.args.all.now))) (pairs_of c.loop-statement.self) (pairs_of c.pass.new.self) _
-          (ap (λ d. flat_map f (listed d)) (drop_item c.args.all.now c.loop-statement.statement-index c.statement-item.result c.loop-statement-test.true c.statement-item.is))
+      members = more_at (flat_map f (listed (drop c.loop-statement.statement-index c.args.all.now)))
+          (f (step_of c.statement-item.result.now))
+          (flat_map f (listed (drop (c.loop-statement.statement-index + 1) c.args.all.now))) (pairs_of c.loop-statement.self)
+          (pairs_of c.pass.new.self) _
+          (ap (λ d. flat_map f (listed d)) (drop_item c.args.all.now c.loop-statement.statement-index c.statement-item.result
+          c.loop-statement-test.true c.statement-item.is))
           c.in_ok-pass.ensures.members c.loop-statement.invariant.members;
       unplaced = grind (arith, common_steps, c.loop-statement.invariant.unplaced);
       with_arguments = λ before. c.in_ok-pass.ensures.with_arguments (c.loop-statement.invariant.with_arguments before);

@@ -9,4 +9,5 @@ abbrev pub invariant-loop-expression : goal.invariant-loop-expression
 invariant-loop-expression l =
     (goal.iterator-loop-expression).can_next l.expression-iterator
     × (goal.iterator-loop-expression).is_finite l.expression-iterator
-    × (fold (occurred l.facts) l.self (flat_map expression_operands (items_of l.expression-iterator)) ≡ fold (occurred l.facts) l.fn.self (flat_map expression_operands l.expressions))
+    × (fold (occurred l.facts) l.self (flat_map expression_operands (items_of l.expression-iterator))
+    ≡ fold (occurred l.facts) l.fn.self (flat_map expression_operands l.expressions))

@@ -9,4 +9,5 @@ abbrev pub invariant-loop-local : goal.invariant-loop-local
 invariant-loop-local l =
     (goal.iterator-loop-local).can_next l.local-iterator
     × (goal.iterator-loop-local).is_finite l.local-iterator
-    × (fold (occurred l.facts) l.self (flat_map local_operands (items_of l.local-iterator)) ≡ fold (occurred l.facts) l.fn.self (flat_map local_operands l.locals))
+    × (fold (occurred l.facts) l.self (flat_map local_operands (items_of l.local-iterator))
+    ≡ fold (occurred l.facts) l.fn.self (flat_map local_operands l.locals))

@@ -8,7 +8,8 @@ pub returns-in-Some-clause-steps : goal.returns-in-Some-clause-steps
 returns-in-Some-clause-steps c =
     let sep = c.self.inside.separator in
     let rest = c.in_ok-rest.rest.now in
-    sym c.self.view_is ∙ ap (pieces_of sep) c.in_ok-rest.was ∙ simp take_rest (split_at (λ b. eqb b sep) rest c.in-Some.at c.in-Some.ensures)
+    sym c.self.view_is ∙ ap (pieces_of sep) c.in_ok-rest.was
+    ∙ simp take_rest (split_at (λ b. eqb b sep) rest c.in-Some.at c.in-Some.ensures)
 
 pub returns-in-None-clause-steps : goal.returns-in-None-clause-steps
 returns-in-None-clause-steps c =

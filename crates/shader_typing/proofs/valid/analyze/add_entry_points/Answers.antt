@@ -17,6 +17,7 @@ loop-index-preserved c =
       types = subst (λ v. AreTypes (context_of c.args.module.now [] []) c.args.module.now.global_expressions v)
           (sym (ap (λ (v : Recorded). v.global_expressions) told.rest)) before.types;
       all = ap length same ∙ before.all;
-      functions = subst (λ v. FunctionsFound c.args.module.now (settings_of c.args.flags c.args.capabilities) v) (sym same) before.functions;
+      functions = subst (λ v. FunctionsFound c.args.module.now (settings_of c.args.flags c.args.capabilities) v) (sym same)
+          before.functions;
       found = told.found;
     }

@@ -31,7 +31,8 @@ loop-handle-preserved c =
       tt,
       tt,
       subst (λ v. IsLeft v total c.next.new.self) (sym c.in_ok-analyze_function.ensures.one) next.2,
-      c.in_ok-analyze_function.ensures.rest ∙ ap (λ (v : Recorded). record v { functions = c.analyze_function.new.info.functions }) c.loop-handle.invariant.3,
+      c.in_ok-analyze_function.ensures.rest ∙ ap (λ (v : Recorded). record v { functions = c.analyze_function.new.info.functions })
+          c.loop-handle.invariant.3,
       subst (λ v. AreTypes (context_of c.args.module.now [] []) c.args.module.now.global_expressions v)
           (sym (ap (λ (v : Recorded). v.global_expressions) c.in_ok-analyze_function.ensures.rest)) c.loop-handle.invariant.4,
       c.in_ok-analyze_function.ensures.found,
@@ -40,4 +41,5 @@ loop-handle-preserved c =
 pub returns-clause-all : goal.returns-clause-all
 returns-clause-all c =
     none_left (length c.loop-handle.info.functions) (length c.args.module.now.functions)
-    (subst (λ v. IsLeft {X = Function} (length c.loop-handle.info.functions) (length c.args.module.now.functions) v) c.in-None.ensures.steps.0 c.loop-handle.invariant.2)
+    (subst (λ v. IsLeft {X = Function} (length c.loop-handle.info.functions) (length c.args.module.now.functions) v)
+    c.in-None.ensures.steps.0 c.loop-handle.invariant.2)

@@ -7,12 +7,15 @@ use Rattle.shader_typing.proofs.valid.analyze.add_type.Goals as goal
 
 pub returns-in-Ok-clause-found : goal.returns-in-Ok-clause-found
 returns-in-Ok-clause-found c =
-    (added_type c.args.module.now c.requires.well_formed c.args.context.now c.args.gctx.now.global_expressions.now c.requires.context c.requires.expressions
-    c.args.info.now c.process_const_expression.new.self c.requires.found (omega (arith, c.requires.next, c.requires.there)) c.in-Ok.ensures.ok).2
+    (added_type c.args.module.now c.requires.well_formed c.args.context.now c.args.gctx.now.global_expressions.now c.requires.context
+    c.requires.expressions
+    c.args.info.now c.process_const_expression.new.self c.requires.found (omega (arith, c.requires.next, c.requires.there))
+    c.in-Ok.ensures.ok).2
 
 pub returns-in-Err-clause-refused : goal.returns-in-Err-clause-refused
 returns-in-Err-clause-refused c = λ settings.
     subst (λ v. IsNamed (IsFirstFault c.args.module.now settings (site_of v)) c.type_error.result.cause) (sym c.type_error.ensures.place)
     (subst (λ v. IsNamed (IsFirstFault c.args.module.now settings (OfGlobalExpression c.args.handle)) v) (sym c.type_error.ensures.cause)
-    (refused_type c.args.module.now c.requires.well_formed c.args.context.now c.args.gctx.now.global_expressions.now c.requires.context c.requires.expressions
+    (refused_type c.args.module.now c.requires.well_formed c.args.context.now c.args.gctx.now.global_expressions.now c.requires.context
+    c.requires.expressions
     c.args.info.now.global_expressions c.requires.found settings c.args.handle c.requires.next c.in-Err.failure c.in-Err.ensures.refused))

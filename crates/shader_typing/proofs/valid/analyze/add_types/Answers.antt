@@ -29,13 +29,15 @@ loop-handle-preserved c =
       tt,
       tt,
       subst (λ v. IsLeft v total c.next.new.self) (sym c.in_ok-add_type.ensures.one) next.2,
-      c.in_ok-add_type.ensures.rest ∙ ap (λ (v : Recorded). record v { global_expressions = c.add_type.new.info.global_expressions }) c.loop-handle.invariant.3,
+      c.in_ok-add_type.ensures.rest ∙ ap (λ (v : Recorded). record v { global_expressions = c.add_type.new.info.global_expressions })
+          c.loop-handle.invariant.3,
       c.in_ok-add_type.ensures.found,
     )
 
 pub returns-clause-types : goal.returns-clause-types
 returns-clause-types c = record {
   complete = none_left (length c.loop-handle.info.global_expressions) (length c.args.module.now.global_expressions)
-      (subst (λ v. IsLeft {X = Expression} (length c.loop-handle.info.global_expressions) (length c.args.module.now.global_expressions) v) c.in-None.ensures.steps.0 c.loop-handle.invariant.2);
+      (subst (λ v. IsLeft {X = Expression} (length c.loop-handle.info.global_expressions) (length c.args.module.now.global_expressions) v)
+      c.in-None.ensures.steps.0 c.loop-handle.invariant.2);
   derived = c.loop-handle.invariant.4.derived;
 }

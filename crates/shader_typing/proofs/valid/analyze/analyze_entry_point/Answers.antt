@@ -9,17 +9,22 @@ use Rattle.shader_typing.proofs.valid.analyze.analyze_entry_point.Goals as goal
 
 pub process_function-requires-clause-held : goal.process_function-requires-clause-held
 process_function-requires-clause-held c =
-    can_process_entry_point c.args.module.now (settings_of c.args.flags c.args.capabilities) c.requires.well_formed c.args.info.now c.requires.types c.requires.functions c.requires.all c.requires.found c.args.index c.requires.next c.requires.there
+    can_process_entry_point c.args.module.now (settings_of c.args.flags c.args.capabilities) c.requires.well_formed c.args.info.now
+    c.requires.types c.requires.functions c.requires.all c.requires.found c.args.index c.requires.next c.requires.there
 
 pub returns-in_ok-add_entry_point-in-Ok-clause-found : goal.returns-in_ok-add_entry_point-in-Ok-clause-found
 returns-in_ok-add_entry_point-in-Ok-clause-found c =
-    entry_point_found c.args.module.now (settings_of c.args.flags c.args.capabilities) c.requires.well_formed c.args.info.now c.requires.types c.requires.functions c.requires.all c.requires.found c.args.index c.requires.next c.requires.there
-    c.in-Ok.found c.in-Ok.ensures.steps c.in-Ok.ensures.with_arguments c.in-Ok.ensures.clean c.add_entry_point.new.info.entry_points (ap (λ (v : Recorded). v.entry_points) c.in_ok-add_entry_point-in-Ok.ensures.ok)
+    entry_point_found c.args.module.now (settings_of c.args.flags c.args.capabilities) c.requires.well_formed c.args.info.now
+    c.requires.types c.requires.functions c.requires.all c.requires.found c.args.index c.requires.next c.requires.there
+    c.in-Ok.found c.in-Ok.ensures.steps c.in-Ok.ensures.with_arguments c.in-Ok.ensures.clean c.add_entry_point.new.info.entry_points
+    (ap (λ (v : Recorded). v.entry_points) c.in_ok-add_entry_point-in-Ok.ensures.ok)
 
 pub returns-in-Err-clause-refused : goal.returns-in-Err-clause-refused
 returns-in-Err-clause-refused c =
-    subst (λ v. IsNamed (IsFirstFault c.args.module.now (settings_of c.args.flags c.args.capabilities) (site_of v)) c.in-Err.error.cause) (sym c.in-Err.ensures.place)
-    (entry_point_refused c.args.module.now (settings_of c.args.flags c.args.capabilities) c.requires.well_formed c.args.info.now c.requires.types c.requires.functions c.requires.all c.requires.found c.args.index c.requires.next c.requires.there
+    subst (λ v. IsNamed (IsFirstFault c.args.module.now (settings_of c.args.flags c.args.capabilities) (site_of v)) c.in-Err.error.cause)
+    (sym c.in-Err.ensures.place)
+    (entry_point_refused c.args.module.now (settings_of c.args.flags c.args.capabilities) c.requires.well_formed c.args.info.now
+    c.requires.types c.requires.functions c.requires.all c.requires.found c.args.index c.requires.next c.requires.there
     c.in-Err.error.cause c.in-Err.ensures.fault)
 
 pub returns-in_err-add_entry_point-in-Ok-clause-refused : goal.returns-in_err-add_entry_point-in-Ok-clause-refused

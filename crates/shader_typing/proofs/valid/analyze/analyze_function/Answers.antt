@@ -9,17 +9,22 @@ use Rattle.shader_typing.proofs.valid.analyze.analyze_function.Goals as goal
 
 pub process_function-requires-clause-held : goal.process_function-requires-clause-held
 process_function-requires-clause-held c =
-    can_process_function c.args.module.now (settings_of c.args.flags c.args.capabilities) c.requires.well_formed c.args.info.now c.requires.types c.requires.found c.args.handle c.requires.next c.requires.there
+    can_process_function c.args.module.now (settings_of c.args.flags c.args.capabilities) c.requires.well_formed c.args.info.now
+    c.requires.types c.requires.found c.args.handle c.requires.next c.requires.there
 
 pub returns-in_ok-add_function-in-Ok-clause-found : goal.returns-in_ok-add_function-in-Ok-clause-found
 returns-in_ok-add_function-in-Ok-clause-found c =
-    function_found c.args.module.now (settings_of c.args.flags c.args.capabilities) c.requires.well_formed c.args.info.now c.requires.types c.requires.found c.args.handle c.requires.next c.requires.there
-    c.in-Ok.found c.in-Ok.ensures.steps c.in-Ok.ensures.with_arguments c.in-Ok.ensures.fits c.in-Ok.ensures.clean c.add_function.new.info.functions (ap (λ (v : Recorded). v.functions) c.in_ok-add_function-in-Ok.ensures.ok)
+    function_found c.args.module.now (settings_of c.args.flags c.args.capabilities) c.requires.well_formed c.args.info.now c.requires.types
+    c.requires.found c.args.handle c.requires.next c.requires.there
+    c.in-Ok.found c.in-Ok.ensures.steps c.in-Ok.ensures.with_arguments c.in-Ok.ensures.fits c.in-Ok.ensures.clean
+    c.add_function.new.info.functions (ap (λ (v : Recorded). v.functions) c.in_ok-add_function-in-Ok.ensures.ok)
 
 pub returns-in-Err-clause-refused : goal.returns-in-Err-clause-refused
 returns-in-Err-clause-refused c =
-    subst (λ v. IsNamed (IsFirstFault c.args.module.now (settings_of c.args.flags c.args.capabilities) (site_of v)) c.in-Err.error.cause) (sym c.in-Err.ensures.place)
-    (function_refused c.args.module.now (settings_of c.args.flags c.args.capabilities) c.requires.well_formed c.args.info.now c.requires.types c.requires.found c.args.handle c.requires.next c.requires.there
+    subst (λ v. IsNamed (IsFirstFault c.args.module.now (settings_of c.args.flags c.args.capabilities) (site_of v)) c.in-Err.error.cause)
+    (sym c.in-Err.ensures.place)
+    (function_refused c.args.module.now (settings_of c.args.flags c.args.capabilities) c.requires.well_formed c.args.info.now
+    c.requires.types c.requires.found c.args.handle c.requires.next c.requires.there
     c.in-Err.error.cause c.in-Err.ensures.fault)
 
 pub returns-in_err-add_function-in-Ok-clause-refused : goal.returns-in_err-add_function-in-Ok-clause-refused

@@ -14,22 +14,26 @@ add_entry_points-requires-clause-types c =
 
 pub returns-clause-exact : goal.returns-clause-exact
 returns-clause-exact c =
-    (all_found c.args.module.now (settings_of c.args.flags c.args.capabilities) c.requires c.add_types.new.info c.add_functions.new.info c.add_entry_points.new.info
+    (all_found c.args.module.now (settings_of c.args.flags c.args.capabilities) c.requires c.add_types.new.info c.add_functions.new.info
+    c.add_entry_points.new.info
     c.in_ok-add_types.ensures.types c.in_ok-add_functions.ensures.rest c.in_ok-add_functions.ensures.all c.in_ok-add_functions.ensures.found
     c.in_ok-add_entry_points.ensures.rest c.in_ok-add_entry_points.ensures.all c.in_ok-add_entry_points.ensures.found).0
 
 pub returns-clause-pairs : goal.returns-clause-pairs
 returns-clause-pairs c =
-    (all_found c.args.module.now (settings_of c.args.flags c.args.capabilities) c.requires c.add_types.new.info c.add_functions.new.info c.add_entry_points.new.info
+    (all_found c.args.module.now (settings_of c.args.flags c.args.capabilities) c.requires c.add_types.new.info c.add_functions.new.info
+    c.add_entry_points.new.info
     c.in_ok-add_types.ensures.types c.in_ok-add_functions.ensures.rest c.in_ok-add_functions.ensures.all c.in_ok-add_functions.ensures.found
     c.in_ok-add_entry_points.ensures.rest c.in_ok-add_entry_points.ensures.all c.in_ok-add_entry_points.ensures.found).1
 
 pub returns-clause-accepted : goal.returns-clause-accepted
 returns-clause-accepted c =
-    (all_found c.args.module.now (settings_of c.args.flags c.args.capabilities) c.requires c.add_types.new.info c.add_functions.new.info c.add_entry_points.new.info
+    (all_found c.args.module.now (settings_of c.args.flags c.args.capabilities) c.requires c.add_types.new.info c.add_functions.new.info
+    c.add_entry_points.new.info
     c.in_ok-add_types.ensures.types c.in_ok-add_functions.ensures.rest c.in_ok-add_functions.ensures.all c.in_ok-add_functions.ensures.found
     c.in_ok-add_entry_points.ensures.rest c.in_ok-add_entry_points.ensures.all c.in_ok-add_entry_points.ensures.found).2
 
 pub returns-in_err-add_types-clause-refused : goal.returns-in_err-add_types-clause-refused
 returns-in_err-add_types-clause-refused c =
-    passed_on _ c.from_residual.result c.from_residual.ensures.1 (c.in_err-add_types.ensures.refused (settings_of c.args.flags c.args.capabilities))
+    passed_on _ c.from_residual.result c.from_residual.ensures.1
+    (c.in_err-add_types.ensures.refused (settings_of c.args.flags c.args.capabilities))

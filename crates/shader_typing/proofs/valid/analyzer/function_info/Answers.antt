@@ -23,7 +23,8 @@ use Rattle.shader_typing.proofs.valid.analyzer.function_info.Goals as goal
 pub returns-in_err-types-clause-fault : goal.returns-in_err-types-clause-fault
 returns-in_err-types-clause-fault c =
     let facts = c.as_slice-facts.ensures.value ∙ c.in_ok-found.ensures in
-    passed_on _ c.from_residual-in_err-types.result c.from_residual-in_err-types.ensures.1 (c.in_err-types.ensures.named c.args.infos.now facts c.args.flags)
+    passed_on _ c.from_residual-in_err-types.result c.from_residual-in_err-types.ensures.1
+    (c.in_err-types.ensures.named c.args.infos.now facts c.args.flags)
 
 pub returns-in_err-pairs-clause-fault : goal.returns-in_err-pairs-clause-fault
 returns-in_err-pairs-clause-fault c =
@@ -37,16 +38,19 @@ returns-in_err-tally-clause-fault c =
 
 pub returns-in_err-may_kill-clause-fault : goal.returns-in_err-may_kill-clause-fault
 returns-in_err-may_kill-clause-fault c =
-    passed_on _ c.from_residual-in_err-may_kill.result c.from_residual-in_err-may_kill.ensures.1 (c.in_err-may_kill.ensures.fault c.args.capabilities)
+    passed_on _ c.from_residual-in_err-may_kill.result c.from_residual-in_err-may_kill.ensures.1
+    (c.in_err-may_kill.ensures.fault c.args.capabilities)
 
 -- the facts, the statements and the tally are those that are found
-facts_are : (c : goal.After-drop-statements-2) → c.as_slice-facts.result.now ≡ facts_found c.args.«module».now c.args.infos.now c.args.function.now
+facts_are : (c : goal.After-drop-statements-2) → c.as_slice-facts.result.now
+    ≡ facts_found c.args.«module».now c.args.infos.now c.args.function.now
 facts_are c = c.as_slice-facts.ensures.value ∙ c.in_ok-found.ensures
 
 all_are : (c : goal.After-drop-statements-2) → listed c.as_slice-all.result.now ≡ statements c.args.function.now.body
 all_are c = ap listed c.as_slice-all.ensures.value ∙ c.in_ok-statements.ensures
 
-tally_is : (c : goal.After-drop-statements-2) → (c.tally.inside.counts.items, c.tally.inside.uses.items, c.tally.inside.full) ≡ tallied c.args.«module».now c.args.infos.now c.args.function.now
+tally_is : (c : goal.After-drop-statements-2) → (c.tally.inside.counts.items, c.tally.inside.uses.items, c.tally.inside.full)
+    ≡ tallied c.args.«module».now c.args.infos.now c.args.function.now
 tally_is c = c.tally.view_is ∙ c.in_ok-tally.ensures.tallied c.args.infos.now (facts_are c)
 
 pub expression_infos-requires-clause-facts : goal.expression_infos-requires-clause-facts
@@ -54,7 +58,8 @@ expression_infos-requires-clause-facts c =
     let m = c.args.«module».now in
     let infos = c.args.infos.now in
     let f = c.args.function.now in
-    c.in_ok-types.ensures.types.complete ∙ sym (ap length (c.as_slice-facts.ensures.value ∙ c.in_ok-found.ensures) ∙ facts_long m infos f (facts_found m infos f) refl)
+    c.in_ok-types.ensures.types.complete ∙ sym (ap length (c.as_slice-facts.ensures.value ∙ c.in_ok-found.ensures)
+    ∙ facts_long m infos f (facts_found m infos f) refl)
 
 pub expression_infos-requires-clause-counts : goal.expression_infos-requires-clause-counts
 expression_infos-requires-clause-counts c =
@@ -65,11 +70,14 @@ expression_infos-requires-clause-counts c =
     let is = c.tally.view_is ∙ c.in_ok-tally.ensures.tallied infos facts in
     let zeros : List ℕ = replicate (length f.expressions) 0 in
     let long : length (tallied m infos f).0 ≡ length f.expressions =
-    counts_long (facts_found m infos f) (zeros, replicate (length m.global_variables) 0, None) (occurrences f) ∙ length-replicate (length f.expressions) 0 in
+    counts_long (facts_found m infos f) (zeros, replicate (length m.global_variables) 0, None) (occurrences f)
+    ∙ length-replicate (length f.expressions) 0 in
     c.in_ok-types.ensures.types.complete ∙ sym (ap length (c.as_slice.ensures.value ∙ ap (λ (v : Tallied). v.0) is) ∙ long)
 
-counted : (c : goal.After-drop-statements-2) (e : ℕ) → e < length c.args.function.now.expressions → slice_get c.as_slice.result.now e ≡ Some (count_of c.args.function.now e)
-counted c e lt = ap (λ v. slice_get v e) (c.as_slice.ensures.value ∙ ap (λ (v : Tallied). v.0) c.tally.view_is) ∙ c.in_ok-tally.ensures.counts e lt
+counted : (c : goal.After-drop-statements-2) (e : ℕ) → e < length c.args.function.now.expressions →
+    slice_get c.as_slice.result.now e ≡ Some (count_of c.args.function.now e)
+counted c e lt = ap (λ v. slice_get v e) (c.as_slice.ensures.value ∙ ap (λ (v : Tallied). v.0) c.tally.view_is)
+    ∙ c.in_ok-tally.ensures.counts e lt
 
 -- the info that is returned
 abbrev recorded : goal.After-drop-statements-2 → FunctionInfo
@@ -97,11 +105,14 @@ found c =
       origins = made.origins ∙ ap (map (λ (fact : Fact). fact.origin)) (facts_are c);
       expression_needs = made.needs ∙ ap (map (λ (fact : Fact). fact.requirements.0)) (facts_are c);
       result = c.function_uniformity-uniformity.ensures.origin
-          ∙ (ap (λ v. fold (given_by infos v) None (listed c.as_slice-all.result.now)) (facts_are c) ∙ ap (λ v. fold (given_by infos (facts_found m infos f)) None v) (all_are c));
+          ∙ (ap (λ v. fold (given_by infos v) None (listed c.as_slice-all.result.now)) (facts_are c)
+          ∙ ap (λ v. fold (given_by infos (facts_found m infos f)) None v) (all_are c));
       needs = c.function_uniformity-uniformity.ensures.needs
-          ∙ (ap (λ v. fold (asked_by infos v) 0 (listed c.as_slice-all.result.now)) (facts_are c) ∙ ap (λ v. fold (asked_by infos (facts_found m infos f)) 0 v) (all_are c));
+          ∙ (ap (λ v. fold (asked_by infos v) 0 (listed c.as_slice-all.result.now)) (facts_are c)
+          ∙ ap (λ v. fold (asked_by infos (facts_found m infos f)) 0 v) (all_are c));
       kills = c.in_ok-may_kill.ensures.kills;
-      uses = c.in_ok-global_uses.ensures m c.requires.operands (globals_within m f c.requires.handles) (each_fits m infos c.requires.held) (facts_are c)
+      uses = c.in_ok-global_uses.ensures m c.requires.operands (globals_within m f c.requires.handles)
+          (each_fits m infos c.requires.held) (facts_are c)
           (ap (λ (v : Tallied). v.1) (tally_is c));
       pairs = c.in_ok-pairs.ensures.members;
     }
@@ -119,6 +130,9 @@ returns-clause-clean c =
     let f = c.args.function.now in
     let settings = settings_of c.args.flags c.args.capabilities in
     let sound = c.in_ok-types.ensures.sound infos (facts_are c) in
-    no_fault m (infos_of infos) f settings (λ e refusal. sound e c.args.flags (Untyped e refusal) refl) (λ e capability. sound e c.args.flags (MissingCapability e capability) refl)
-    (λ e. sound e c.args.flags (BindingArrayElement e) refl) (c.in_ok-pairs.ensures.placed m settings) (c.in_ok-may_kill.ensures.undisrupted c.args.capabilities)
-    ((full_counts_are_faults m infos f settings).1 c.requires.handles (counts_fit f c.as_slice.result.now (counted c) c.in_ok-expressions.ensures.small))
+    no_fault m (infos_of infos) f settings (λ e refusal. sound e c.args.flags (Untyped e refusal) refl)
+    (λ e capability. sound e c.args.flags (MissingCapability e capability) refl)
+    (λ e. sound e c.args.flags (BindingArrayElement e) refl) (c.in_ok-pairs.ensures.placed m settings)
+    (c.in_ok-may_kill.ensures.undisrupted c.args.capabilities)
+    ((full_counts_are_faults m infos f settings).1 c.requires.handles
+    (counts_fit f c.as_slice.result.now (counted c) c.in_ok-expressions.ensures.small))

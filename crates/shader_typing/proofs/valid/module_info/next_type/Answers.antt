@@ -5,12 +5,16 @@ use Rattle.shader_typing.proofs.valid.module_info.next_type.Goals as goal
 
 pub returns-clause-next : goal.returns-clause-next
 returns-clause-next c =
-    is_next c.args.resolve_context.now c.args.gctx.now.global_expressions.now c.args.types.now (takes_memory c.index-expression.result.now) c.type_of.result
+    is_next c.args.resolve_context.now c.args.gctx.now.global_expressions.now c.args.types.now (takes_memory c.index-expression.result.now)
+    c.type_of.result
     (c.type_of.ensures.told c.args.gctx.now.global_expressions.now
-    (subst (λ v. slice_get c.args.gctx.now.global_expressions.now v ≡ Some c.index-expression.result.now) c.requires.next c.index-expression.ensures)) c.type_of.ensures.fits
+    (subst (λ v. slice_get c.args.gctx.now.global_expressions.now v ≡ Some c.index-expression.result.now) c.requires.next
+    c.index-expression.ensures)) c.type_of.ensures.fits
 
 pub returns-clause-refused : goal.returns-clause-refused
 returns-clause-refused c =
-    is_refusal c.args.resolve_context.now c.args.gctx.now.global_expressions.now c.args.types.now (takes_memory c.index-expression.result.now) c.type_of.result
+    is_refusal c.args.resolve_context.now c.args.gctx.now.global_expressions.now c.args.types.now
+    (takes_memory c.index-expression.result.now) c.type_of.result
     (c.type_of.ensures.told c.args.gctx.now.global_expressions.now
-    (subst (λ v. slice_get c.args.gctx.now.global_expressions.now v ≡ Some c.index-expression.result.now) c.requires.next c.index-expression.ensures))
+    (subst (λ v. slice_get c.args.gctx.now.global_expressions.now v ≡ Some c.index-expression.result.now) c.requires.next
+    c.index-expression.ensures))

@@ -7,4 +7,7 @@ use Rattle.shader_ir.proofs.proc.layouter.Layouter.update.Goals as goal
 pub update_added-requires : goal.update_added-requires
 update_added-requires c =
     let ctx = c.args.ctx in
-    record { sizes = All-drop (λ (type : «Type»). IsTypeSizeInRange ctx type.inner) (length c.args.self.now) ctx.types.now c.requires.sizes }
+    record {
+      sizes = All-drop (λ (type : «Type»). IsTypeSizeInRange ctx type.inner) (length c.args.self.now) ctx.types.now
+          c.requires.sizes;
+    }

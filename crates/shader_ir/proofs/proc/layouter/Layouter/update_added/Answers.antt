@@ -6,7 +6,8 @@ use Rattle.shader_ir.proofs.LayoutLemmas.{added_more, faultless_more, made_fault
 use Rattle.shader_ir.proofs.proc.layouter.Layouter.update_added.Goals as goal
 
 pub layout_over-requires-clause-sizes : goal.layout_over-requires-clause-sizes
-layout_over-requires-clause-sizes c = size_in_range_from c.args.ctx (length c.args.self.now) c.requires.sizes _ c.index.result.now (omega arith) c.index.ensures
+layout_over-requires-clause-sizes c = size_in_range_from c.args.ctx (length c.args.self.now) c.requires.sizes _ c.index.result.now
+    (omega arith) c.index.ensures
 
 pub loop-place-preserved : goal.loop-place-preserved
 loop-place-preserved c =

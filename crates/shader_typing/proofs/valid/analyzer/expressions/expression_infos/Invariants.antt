@@ -8,5 +8,7 @@ invariant-loop-place l =
     (l.place-iterator.count ≡ length l.infos.items)
     × (map (λ (info : ExpressionInfo). info.ty) l.infos.items ++ l.place-iterator.iter.rest.items ≡ l.fn.types.items)
     × (map (λ (info : ExpressionInfo). info.ref_count) l.infos.items ≡ take (length l.infos.items) l.counts)
-    × (map (λ (info : ExpressionInfo). info.uniformity.non_uniform_result) l.infos.items ≡ map (λ (fact : Fact). fact.origin) (take (length l.infos.items) l.facts))
-    × (map (λ (info : ExpressionInfo). info.uniformity.requirements.0) l.infos.items ≡ map (λ (fact : Fact). fact.requirements.0) (take (length l.infos.items) l.facts))
+    × (map (λ (info : ExpressionInfo). info.uniformity.non_uniform_result) l.infos.items
+    ≡ map (λ (fact : Fact). fact.origin) (take (length l.infos.items) l.facts))
+    × (map (λ (info : ExpressionInfo). info.uniformity.requirements.0) l.infos.items
+    ≡ map (λ (fact : Fact). fact.requirements.0) (take (length l.infos.items) l.facts))

@@ -16,7 +16,8 @@ returns-in-Some-clause-fault c = λ capabilities.
     let f = c.args.function.now in
     let settings = settings_of c.args.flags capabilities in
     let checks = c.checks_flow.ensures.on c.if-checks_flow.true in
-    let found = ap (λ v. block_fault (origin_at v) (killing infos) v None f.body) (sym c.requires.facts) ∙ (sym c.sweep_block-exits.ensures.first ∙ c.in-Some.is) in
+    let found = ap (λ v. block_fault (origin_at v) (killing infos) v None f.body) (sym c.requires.facts)
+    ∙ (sym c.sweep_block-exits.ensures.first ∙ c.in-Some.is) in
     subst (IsNamed (StepFault m (infos_of infos) f settings)) (sym c.misplaced_error.ensures)
     (misplaced checks.0 checks.1 ((misplaced_are_faults m infos f settings c.requires.operands).0 c.in-Some.misplaced found))
 
@@ -29,6 +30,7 @@ returns-clause-undisrupted c = λ capabilities.
     elim c.if-checks_flow.branch [
       | then-checks_flow+in_default w ↦
           none_misplaced m infos f settings c.requires.operands
-          (ap (λ v. block_fault (origin_at v) (killing infos) v None f.body) (sym c.requires.facts) ∙ (sym c.sweep_block-exits.ensures.first ∙ w.in_default.is))
+          (ap (λ v. block_fault (origin_at v) (killing infos) v None f.body) (sym c.requires.facts)
+          ∙ (sym c.sweep_block-exits.ensures.first ∙ w.in_default.is))
       | else-checks_flow w ↦ none_checked m infos f settings (λ on governs. c.checks_flow.ensures.off w.if-checks_flow.false (on, governs))
     ]

@@ -16,7 +16,12 @@ returns c =
     ok_more c.uses_of_bits.result c.uses_of_bits.ensures (λ uses is m below within fit facts own.
     subst (HasUses m infos f) (sym (is ∙ c.deref.ensures.value))
     (finished m infos f c.args.facts.now facts below within fit (listed c.args.all.now) c.requires (tallied m infos f)
-    (ap (λ v. fold (occurred v) (replicate (length f.expressions) 0, replicate (length m.global_variables) 0, None) (occurrences f)) (sym facts))
+    (ap (λ v. fold (occurred v) (
+      replicate (length f.expressions) 0,
+      replicate (length m.global_variables) 0,
+      None,
+    ) (occurrences f)) (sym facts))
     c.args.own.items c.deref_mut.result.now c.join_calls.new.uses c.deref_mut-2.result.now c.name_globals.new.uses
     (map (λ (entry : ℕ × Name). entry.0) f.named_expressions) c.args.own.len own c.args.own.ok.0
-    c.deref_mut.ensures.value c.join_calls.auto.uses c.join_calls.ensures c.deref_mut-2.ensures.value c.name_globals.auto.uses refl c.name_globals.ensures))
+    c.deref_mut.ensures.value c.join_calls.auto.uses c.join_calls.ensures c.deref_mut-2.ensures.value c.name_globals.auto.uses refl
+    c.name_globals.ensures))

@@ -10,23 +10,31 @@ use Rattle.shader_typing.proofs.valid.module_info.ModuleInfo.process_function.Go
 
 pub function_info-requires : goal.function_info-requires
 function_info-requires c =
-    analyzable c.args.module.now c.requires.well_formed c.args.place c.function_at-function.result.now c.function_at-function.ensures c.infos_before-infos.result.now
+    analyzable c.args.module.now c.requires.well_formed c.args.place c.function_at-function.result.now c.function_at-function.ensures
+    c.infos_before-infos.result.now
     (subst (AreHeld c.args.module.now) (sym c.infos_before-infos.ensures) c.requires.held.held)
 
 pub returns-in-Ok-clause-steps : goal.returns-in-Ok-clause-steps
-returns-in-Ok-clause-steps c = told_at c.args.module.now (λ infos f. MeetsSteps c.args.module.now (infos_of infos) f (info_of c.in-Ok.info)) c.args.self.now c.args.place
-    c.infos_before-infos.result.now c.function_at-function.result.now c.infos_before-infos.ensures c.function_at-function.ensures c.in-Ok.ensures.steps
+returns-in-Ok-clause-steps c = told_at c.args.module.now (λ infos f. MeetsSteps c.args.module.now (infos_of infos) f (info_of c.in-Ok.info))
+    c.args.self.now c.args.place
+    c.infos_before-infos.result.now c.function_at-function.result.now c.infos_before-infos.ensures c.function_at-function.ensures
+    c.in-Ok.ensures.steps
 
 pub returns-in-Ok-clause-fits : goal.returns-in-Ok-clause-fits
 returns-in-Ok-clause-fits c = told_at c.args.module.now (λ infos f. Fits c.args.module.now f c.in-Ok.info) c.args.self.now c.args.place
-    c.infos_before-infos.result.now c.function_at-function.result.now c.infos_before-infos.ensures c.function_at-function.ensures c.in-Ok.ensures.fits
+    c.infos_before-infos.result.now c.function_at-function.result.now c.infos_before-infos.ensures c.function_at-function.ensures
+    c.in-Ok.ensures.fits
 
 pub returns-in-Ok-clause-clean : goal.returns-in-Ok-clause-clean
 returns-in-Ok-clause-clean c = λ f cause is_f.
-    told_at c.args.module.now (λ infos g. (told : Cause) → StepFault c.args.module.now (infos_of infos) g (settings_of c.args.flags c.args.capabilities) told → ⊥) c.args.self.now c.args.place
-    c.infos_before-infos.result.now c.function_at-function.result.now c.infos_before-infos.ensures c.function_at-function.ensures c.in-Ok.ensures.clean f is_f cause
+    told_at c.args.module.now (λ infos g. (told : Cause) →
+    StepFault c.args.module.now (infos_of infos) g (settings_of c.args.flags c.args.capabilities) told → ⊥) c.args.self.now c.args.place
+    c.infos_before-infos.result.now c.function_at-function.result.now c.infos_before-infos.ensures c.function_at-function.ensures
+    c.in-Ok.ensures.clean f is_f cause
 
 pub returns-in-Err-clause-fault : goal.returns-in-Err-clause-fault
 returns-in-Err-clause-fault c =
-    told_at c.args.module.now (λ infos f. IsNamed (StepFault c.args.module.now (infos_of infos) f (settings_of c.args.flags c.args.capabilities)) c.in-Err.cause) c.args.self.now c.args.place
-    c.infos_before-infos.result.now c.function_at-function.result.now c.infos_before-infos.ensures c.function_at-function.ensures c.in-Err.ensures.fault
+    told_at c.args.module.now (λ infos f. IsNamed (StepFault c.args.module.now (infos_of infos) f
+    (settings_of c.args.flags c.args.capabilities)) c.in-Err.cause) c.args.self.now c.args.place
+    c.infos_before-infos.result.now c.function_at-function.result.now c.infos_before-infos.ensures c.function_at-function.ensures
+    c.in-Err.ensures.fault

@@ -1,0 +1,35 @@
+//! Reads a shader module as JSON, and tells what is found of it.
+#![tactic(auto)]
+
+mod errors;
+mod options;
+mod running;
+mod status;
+
+use crate::options::Options;
+use crate::running::run;
+use crate::status::Status;
+use program_io::{FromReader, ToWriter};
+use std::alloc::AllocError;
+use std::process::ExitCode;
+use std::{env, io};
+
+const USAGE: &str =
+    "usage: report [--json] [--no-control-flow-uniformity] [--non-uniform-indexing=textures,storage-textures] < module.json";
+
+fn main(rt: HostRuntime) -> ExitCode {
+    let Ok(words) = env::args(&rt) else {
+        return ExitCode::from(Status::OutOfMemory.code());
+    };
+    let words: Result<Vec<String>, AllocError> = words.skip(1).collect(rt.alloc());
+    let Ok(words) = words else {
+        return ExitCode::from(Status::OutOfMemory.code());
+    };
+    let Some(options) = Options::from_words(words.as_slice()) else {
+        let _ = eprintln!(rt; "{USAGE}");
+        return ExitCode::from(Status::BadUsage.code());
+    };
+    let mut reader = FromReader::new(rt.reader());
+    let mut writer = ToWriter::new(io::writer(&rt));
+    ExitCode::from(run(rt.alloc(), options, &mut reader, &mut writer).code())
+}

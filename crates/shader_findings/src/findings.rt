@@ -1,0 +1,202 @@
+//! What is recorded of functions.
+
+use crate::chain::{ChainText, Step};
+use crate::lookup::function_at;
+use crate::names::{ExpressionText, argument_name, global_name, numbered_global};
+use crate::place::PlaceText;
+use crate::words::{RequirementsText, UseText};
+use shader_arena::Handle;
+use shader_info::{
+    AnalysisPlace, ExpressionInfo, FunctionInfo, GlobalOrArgument, GlobalUse, Sampling, Uniformity,
+};
+use shader_ir::{Function, Module};
+use std::fmt;
+
+/// A line for each global that is used, with how.
+#[derive(Clone, Copy)]
+struct UsesText<'a> {
+    module: &'a Module,
+    uses: &'a [GlobalUse],
+}
+
+impl fmt::Display for UsesText<'_> {
+    fn fmt<W: fmt::Write>(&self, f: &mut fmt::Formatter<W>) -> fmt::Result {
+        for (place, uses) in self.uses.iter().enumerate() {
+            if uses.known().0 != 0 {
+                let name = numbered_global(self.module, place);
+                write!(f, "  uses {name}:{}\n", UseText(*uses))?;
+            }
+        }
+        Ok(())
+    }
+}
+
+/// An image or a sampler of a function.
+#[derive(Clone, Copy)]
+struct ResourceText<'a> {
+    module: &'a Module,
+    function: Option<&'a Function>,
+    resource: GlobalOrArgument,
+}
+
+impl fmt::Display for ResourceText<'_> {
+    fn fmt<W: fmt::Write>(&self, f: &mut fmt::Formatter<W>) -> fmt::Result {
+        match self.resource {
+            GlobalOrArgument::Global(handle) => write!(f, "{}", global_name(self.module, handle)),
+            GlobalOrArgument::Argument(index) => match self.function {
+                Some(function) => write!(f, "argument {}", argument_name(function, index)),
+                None => write!(f, "argument #{index}"),
+            },
+        }
+    }
+}
+
+/// A line for each pair of a global image and a global sampler.
+#[derive(Clone, Copy)]
+struct PairsText<'a> {
+    module: &'a Module,
+    pairs: &'a [(usize, usize)],
+}
+
+impl fmt::Display for PairsText<'_> {
+    fn fmt<W: fmt::Write>(&self, f: &mut fmt::Formatter<W>) -> fmt::Result {
+        for pair in self.pairs {
+            let image = numbered_global(self.module, pair.0);
+            let sampler = numbered_global(self.module, pair.1);
+            write!(f, "  samples {image} with {sampler}\n")?;
+        }
+        Ok(())
+    }
+}
+
+/// A line for each pair of an image and a sampler one of which is an argument.
+#[derive(Clone, Copy)]
+struct SamplingsText<'a> {
+    module: &'a Module,
+    function: Option<&'a Function>,
+    sampling: &'a [Sampling],
+}
+
+impl<'a> SamplingsText<'a> {
+    /// An image or a sampler.
+    fn resource(self, resource: GlobalOrArgument) -> ResourceText<'a> {
+        ResourceText {
+            module: self.module,
+            function: self.function,
+            resource,
+        }
+    }
+}
+
+impl fmt::Display for SamplingsText<'_> {
+    fn fmt<W: fmt::Write>(&self, f: &mut fmt::Formatter<W>) -> fmt::Result {
+        for pair in self.sampling {
+            let (image, sampler) = (self.resource(pair.image), self.resource(pair.sampler));
+            write!(f, "  samples {image} with {sampler}\n")?;
+        }
+        Ok(())
+    }
+}
+
+/// A line with the expressions that nothing counts, where there are any.
+#[derive(Clone, Copy)]
+struct UncountedText<'a> {
+    function: Option<&'a Function>,
+    expressions: &'a [ExpressionInfo],
+}
+
+impl fmt::Display for UncountedText<'_> {
+    fn fmt<W: fmt::Write>(&self, f: &mut fmt::Formatter<W>) -> fmt::Result {
+        let mut found = false;
+        for (index, expression) in self.expressions.iter().enumerate() {
+            if expression.ref_count == 0 && index <= u32::MAX as usize {
+                let text = ExpressionText {
+                    function: self.function,
+                    handle: Handle::from_index(index as u32),
+                };
+                f.write_str(if found { ", " } else { "  never used: " })?;
+                write!(f, "{text}")?;
+                found = true;
+            }
+        }
+        f.write_str(if found { "\n" } else { "" })
+    }
+}
+
+/// What a body asks of the flow, and whether what a function gives back may differ among invocations.
+#[derive(Clone, Copy)]
+struct FlowText<'a> {
+    module: &'a Module,
+    uniformity: Uniformity,
+    chain: &'a [Step],
+}
+
+impl fmt::Display for FlowText<'_> {
+    fn fmt<W: fmt::Write>(&self, f: &mut fmt::Formatter<W>) -> fmt::Result {
+        if self.uniformity.requirements.known().0 != 0 {
+            let requirements = RequirementsText(self.uniformity.requirements);
+            write!(f, "  needs uniform flow:{requirements}\n")?;
+        }
+        if self.uniformity.non_uniform_result.is_none() {
+            return Ok(());
+        }
+        f.write_str("  result differs among invocations\n")?;
+        let chain = ChainText {
+            module: self.module,
+            steps: self.chain,
+        };
+        write!(f, "{chain}")
+    }
+}
+
+/// What is recorded of the function or entry point at a place.
+///
+/// What an info keeps in sets is given in the order in which it is to be printed: `pairs`, the places of a global image and of a global
+/// sampler, and `sampling`, the pairs with an argument. `chain` is the way from what the function gives back to what makes it differ,
+/// and empty where it isn't known.
+#[derive(Clone, Copy)]
+pub struct FunctionText<'a> {
+    pub module: &'a Module,
+    pub place: AnalysisPlace,
+    pub info: &'a FunctionInfo,
+    pub pairs: &'a [(usize, usize)],
+    pub sampling: &'a [Sampling],
+    pub chain: &'a [Step],
+}
+
+impl fmt::Display for FunctionText<'_> {
+    fn fmt<W: fmt::Write>(&self, f: &mut fmt::Formatter<W>) -> fmt::Result {
+        let (module, function) = (self.module, function_at(self.module, self.place));
+        let place = PlaceText {
+            module,
+            place: self.place,
+        };
+        let uses = UsesText {
+            module,
+            uses: self.info.global_uses.as_slice(),
+        };
+        let pairs = PairsText {
+            module,
+            pairs: self.pairs,
+        };
+        let sampling = SamplingsText {
+            module,
+            function,
+            sampling: self.sampling,
+        };
+        write!(f, "{place}\n{uses}{pairs}{sampling}")?;
+        if self.info.may_kill {
+            f.write_str("  may kill\n")?;
+        }
+        let flow = FlowText {
+            module,
+            uniformity: self.info.uniformity,
+            chain: self.chain,
+        };
+        let uncounted = UncountedText {
+            function,
+            expressions: self.info.expressions.as_slice(),
+        };
+        write!(f, "{flow}{uncounted}")
+    }
+}

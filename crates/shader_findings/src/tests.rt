@@ -1,0 +1,5 @@
+//! The whole text of small modules.
+mod faults;
+mod functions;
+mod samples;
+mod structs;

@@ -1,0 +1,163 @@
+//! Types as they are spelled.
+
+use crate::lookup::type_at;
+use crate::names::{NameText, override_name, type_name};
+use shader_arena::Handle;
+use shader_ir::{ArraySize, Module, TypeInner, mark, vector_size_str};
+use shader_text::ScalarText;
+use std::fmt;
+
+/// A scalar, vector, matrix or atomic; any other type by its number.
+#[derive(Clone, Copy)]
+struct PlainText<'a> {
+    inner: &'a TypeInner,
+    place: usize,
+}
+
+impl fmt::Display for PlainText<'_> {
+    fn fmt<W: fmt::Write>(&self, f: &mut fmt::Formatter<W>) -> fmt::Result {
+        match self.inner {
+            TypeInner::Scalar(scalar) => write!(f, "{}", ScalarText(*scalar)),
+            TypeInner::Vector { size, scalar } => {
+                write!(f, "vec{}<{}>", vector_size_str(*size), ScalarText(*scalar))
+            }
+            TypeInner::Matrix {
+                columns,
+                rows,
+                scalar,
+            } => {
+                let (columns, rows) = (vector_size_str(*columns), vector_size_str(*rows));
+                write!(f, "mat{columns}x{rows}<{}>", ScalarText(*scalar))
+            }
+            TypeInner::Atomic(scalar) => write!(f, "atomic<{}>", ScalarText(*scalar)),
+            _ => write!(f, "#{}", self.place),
+        }
+    }
+}
+
+/// A type as others name it: by its name, as a plain type, or by its number.
+#[derive(Clone, Copy)]
+struct BaseText<'a> {
+    module: &'a Module,
+    ty: Handle<mark::Type>,
+}
+
+impl fmt::Display for BaseText<'_> {
+    fn fmt<W: fmt::Write>(&self, f: &mut fmt::Formatter<W>) -> fmt::Result {
+        let NameText { name, place } = type_name(self.module, self.ty);
+        if !name.is_empty() {
+            return f.write_str(name);
+        }
+        match type_at(self.module, self.ty) {
+            Some(ty) => write!(
+                f,
+                "{}",
+                PlainText {
+                    inner: &ty.inner,
+                    place,
+                }
+            ),
+            None => write!(f, "#{place}"),
+        }
+    }
+}
+
+/// How many elements an array has, behind a comma; nothing where that isn't known before the shader runs.
+#[derive(Clone, Copy)]
+struct SizeText<'a> {
+    module: &'a Module,
+    size: ArraySize,
+}
+
+impl fmt::Display for SizeText<'_> {
+    fn fmt<W: fmt::Write>(&self, f: &mut fmt::Formatter<W>) -> fmt::Result {
+        match self.size {
+            ArraySize::Constant(count) => write!(f, ", {}", count.get()),
+            ArraySize::Pending(handle) => {
+                write!(f, ", override {}", override_name(self.module, handle))
+            }
+            ArraySize::Dynamic => Ok(()),
+        }
+    }
+}
+
+/// A type: its name where it has one, else how it is made. What it is made of is named, and not told again.
+#[derive(Clone, Copy)]
+pub struct TypeText<'a> {
+    pub module: &'a Module,
+    pub ty: Handle<mark::Type>,
+}
+
+impl fmt::Display for TypeText<'_> {
+    fn fmt<W: fmt::Write>(&self, f: &mut fmt::Formatter<W>) -> fmt::Result {
+        let NameText { name, place } = type_name(self.module, self.ty);
+        if !name.is_empty() {
+            return f.write_str(name);
+        }
+        match type_at(self.module, self.ty) {
+            Some(ty) => write!(
+                f,
+                "{}",
+                MadeText {
+                    module: self.module,
+                    inner: &ty.inner,
+                    place,
+                }
+            ),
+            None => write!(f, "#{place}"),
+        }
+    }
+}
+
+/// How a type is made.
+#[derive(Clone, Copy)]
+struct MadeText<'a> {
+    module: &'a Module,
+    inner: &'a TypeInner,
+    place: usize,
+}
+
+impl<'a> MadeText<'a> {
+    /// A type that this one is made of.
+    fn base(self, ty: Handle<mark::Type>) -> BaseText<'a> {
+        BaseText {
+            module: self.module,
+            ty,
+        }
+    }
+
+    /// How many of them.
+    fn size(self, size: ArraySize) -> SizeText<'a> {
+        SizeText {
+            module: self.module,
+            size,
+        }
+    }
+}
+
+impl fmt::Display for MadeText<'_> {
+    fn fmt<W: fmt::Write>(&self, f: &mut fmt::Formatter<W>) -> fmt::Result {
+        match self.inner {
+            TypeInner::Array { base, size, .. } => {
+                write!(f, "array<{}{}>", self.base(*base), self.size(*size))
+            }
+            TypeInner::BindingArray { base, size } => {
+                write!(f, "binding_array<{}{}>", self.base(*base), self.size(*size))
+            }
+            TypeInner::Pointer { base, .. } => write!(f, "ptr<{}>", self.base(*base)),
+            TypeInner::Image { .. } => f.write_str("texture"),
+            TypeInner::Sampler { comparison: false } => f.write_str("sampler"),
+            TypeInner::Sampler { comparison: true } => f.write_str("sampler_comparison"),
+            TypeInner::AccelerationStructure { .. } => f.write_str("acceleration_structure"),
+            TypeInner::RayQuery { .. } => f.write_str("ray_query"),
+            inner => write!(
+                f,
+                "{}",
+                PlainText {
+                    inner,
+                    place: self.place,
+                }
+            ),
+        }
+    }
+}

@@ -1,0 +1,3 @@
+mod PairLemmas
+mod PartLemmas
+mod TakeLemmas

@@ -1,0 +1,16 @@
+//! The JSON of what is recorded of functions, of layouts and of refusals, in the shape that serde's derives give naga's.
+#![tactic(auto)]
+
+mod flags;
+mod functions;
+mod infos;
+mod layouts;
+mod names;
+mod refusals;
+mod types;
+
+pub use functions::{FunctionAnswer, FunctionsText};
+pub use infos::{Place, place_number};
+pub use layouts::{LayoutErrorText, LayoutsText};
+pub use refusals::{RefusalText, fault_name};
+pub use types::ResolutionsText;

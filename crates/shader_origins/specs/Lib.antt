@@ -1,0 +1,4 @@
+pub mod Chains
+pub mod Found
+pub mod Laws
+pub mod Reasons

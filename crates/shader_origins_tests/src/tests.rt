@@ -1,0 +1,3 @@
+mod asked;
+mod chains;
+mod refusals;
