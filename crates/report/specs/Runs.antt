@@ -1,8 +1,10 @@
 -- How a run ends.
-use Rattle.std.specs.Prelude.{◌≡◌, ℕ, Bool, true, false, List, codes}
+use Rattle.std.specs.Prelude.{◌≡◌, ℕ, Bool, true, false, List}
+use Rattle.shader_chains.specs.Faults.{Settings}
 use Rattle.shader_chains.specs.Program.{Module}
 use Rattle.shader_json_answers.specs.Answers.{IsModuleAnswer}
 use Rattle.shader_steps.specs.Causes.{settings_of}
+use Rattle.shader_summaries.specs.Verdicts.{IsVerdict}
 use Rattle.report.specs.Options.{capabilities_of, flags_of}
 use Rattle.report.specs.declared.options.Options.{Options}
 use Rattle.report.specs.declared.status.Status.{Status}
@@ -22,19 +24,19 @@ abbrev pub verdict : Bool → Status
 verdict true = Accepted
 verdict false = Refused
 
--- for people an accepted module is told by a word
-abbrev pub told_text : Bool → Bool → List ℕ → List ℕ
-told_text true accepted text = text
-told_text false true text = codes "accepted\n"
-told_text false false text = text
+-- as JSON the text is the answer to the module; for people it says why the verdict is so, and no clause says in which words
+abbrev TellsOf : Bool → Module → Settings → Bool → List ℕ → Type 0
+TellsOf true m settings accepted text = IsModuleAnswer m settings accepted text
+TellsOf false m settings accepted text = IsVerdict m settings accepted
 
--- what is written is the answer to a module
+abbrev pub IsTold : Options → Module → Bool → List ℕ → Type 0
+IsTold options m accepted text = TellsOf options.is_json m (settings_of (flags_of options) (capabilities_of options)) accepted text
+
+-- what is written is what is told of a module
 pub record IsAnswerOf (options : Options) (m : Module) (status : Status) (written : List ℕ) : Type 0 where
   pub accepted : Bool
-  pub text : List ℕ
-  pub answer : IsModuleAnswer m (settings_of (flags_of options) (capabilities_of options)) accepted text
+  pub told : IsTold options m accepted written
   pub ended : status ≡ verdict accepted
-  pub told : written ≡ told_text options.is_json accepted text
 
 -- what a run claims of statuses 0 and 1
 abbrev pub OnAnswered : Status → Type 0 → Type 0

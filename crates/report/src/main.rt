@@ -3,14 +3,17 @@
 
 mod errors;
 mod options;
+mod progress;
 mod running;
 mod status;
 
 use crate::options::Options;
+use crate::progress::Shown;
 use crate::running::run;
 use crate::status::Status;
 use program_io::{FromReader, ToWriter};
 use std::alloc::AllocError;
+use std::io::IsTerminal;
 use std::process::ExitCode;
 use std::{env, io};
 
@@ -31,5 +34,7 @@ fn main(rt: HostRuntime) -> ExitCode {
     };
     let mut reader = FromReader::new(rt.reader());
     let mut writer = ToWriter::new(io::writer(&rt));
-    ExitCode::from(run(rt.alloc(), options, &mut reader, &mut writer).code())
+    let mut progress = Shown::new(&rt, rt.stderr().is_terminal());
+    let status = run(rt.alloc(), options, &mut reader, &mut writer, &mut progress);
+    ExitCode::from(status.code())
 }

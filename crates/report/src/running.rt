@@ -1,27 +1,30 @@
 //! A run from the first byte read to the last one written.
-ghost use Rattle.std.specs.Prelude.{◌≡◌, ◌≢◌, ◌↔◌, ◌++◌, ◌∷◌, [], ℕ, List, false, IfOk, IsTrue, IsSome, IfSome, take};
+ghost use Rattle.std.specs.Prelude.{◌≡◌, ◌≢◌, ◌↔◌, ◌++◌, ◌∷◌, [], ℕ, List, false, IfOk, IsTrue, IsSome, IfSome, string_bytes, take};
 ghost use Rattle.std.specs.Str.{IsUtf8};
 ghost use Rattle.std.specs.Io.KnownBytes.{Appends, IsAtEnd, Keeps};
 ghost use Rattle.json.specs.Json.{document};
 ghost use Rattle.shader_chains.specs.Program.{Module};
-ghost use Rattle.report.specs.Runs.{IsAnswerOf, OnAnswered, OnUnanswered, told_text};
+ghost use Rattle.report.specs.Runs.{IsAnswerOf, IsTold, OnAnswered, OnUnanswered};
 
 use crate::errors::{error_line, error_object, nesting_object};
 use crate::options::Options;
+use crate::progress::{Progress, Stage};
 use crate::status::Status;
 use program_io::{Failed, InputError, Sink, Source, read_input, write_all};
 use shader_ir::Module;
 use shader_json::{MOST_BYTES, ReadError, read_module};
 use shader_json_answers::answer_module;
+use shader_summaries::summarize;
 use shader_typing::valid::{MOST_LEVELS, nests_within};
 use std::alloc::{AllocError, Global};
 
 /// Reads the whole input, makes the whole answer, and then writes it.
-pub fn run<R: Source, W: Sink>(
+pub fn run<R: Source, W: Sink, P: Progress>(
     alloc: Global,
     options: Options,
     reader: &mut R,
     writer: &mut W,
+    progress: &mut P,
 ) -> Status
     requires reads { R.has_failed reader.old ≡ false }
     requires writes { W.has_failed writer.old ≡ false }
@@ -46,24 +49,48 @@ pub fn run<R: Source, W: Sink>(
         Err(InputError::TooLong) => return refuse(alloc, options, writer, &ReadError::TooLong),
         Err(InputError::OutOfMemory) => return Status::OutOfMemory,
     };
+    progress.begins(Stage::Module(input.len()));
     match read_module(alloc, input.as_slice()) {
-        Ok(module) => answer(alloc, options, &module, writer),
+        Ok(module) => answer(alloc, options, &module, writer, progress),
         Err(error) => refuse(alloc, options, writer, &error),
     }
 }
 
-/// What is told of a module that was answered so.
-fn told<'a>(options: Options, is_accepted: bool, text: &'a [u8]) -> &'a [u8]
-    ensures { result.now ≡ told_text options.is_json is_accepted text.now }
+/// What is told of a module, and whether it is accepted.
+#[derive(Drop)]
+struct Told {
+    text: String,
+    is_accepted: bool,
+}
+
+/// The line of JSON on a module, or the text for people.
+fn told_of(alloc: Global, options: Options, module: &Module) -> Result<Told, AllocError>
+    ensures { IfOk result (λ told. IsTold options «module».now told.is_accepted (string_bytes told.text)) }
 {
-    match (options.is_json, is_accepted) {
-        (false, true) => b"accepted\n",
-        _ => text,
+    let (flags, capabilities) = (options.flags(), options.capabilities());
+    if options.is_json {
+        let answer = answer_module(alloc, module, flags, capabilities)?;
+        Ok(Told {
+            text: answer.text,
+            is_accepted: answer.is_accepted,
+        })
+    } else {
+        let summary = summarize(alloc, module, flags, capabilities)?;
+        Ok(Told {
+            text: summary.text,
+            is_accepted: summary.is_accepted,
+        })
     }
 }
 
 /// The status of a run that answers a module as its last step.
-fn answer<W: Sink>(alloc: Global, options: Options, module: &Module, writer: &mut W) -> Status
+fn answer<W: Sink, P: Progress>(
+    alloc: Global,
+    options: Options,
+    module: &Module,
+    writer: &mut W,
+    progress: &mut P,
+) -> Status
     requires { W.has_failed writer.old ≡ false }
     ensures answer { OnAnswered result ((text : List ℕ) × IsAnswerOf options «module».now result text
         × Appends (W.contents writer.old) (W.contents writer.new) text) }
@@ -74,13 +101,14 @@ fn answer<W: Sink>(alloc: Global, options: Options, module: &Module, writer: &mu
     if !nests_within(module, MOST_LEVELS) {
         return tell_error(writer, nesting_object(alloc));
     }
-    match answer_module(alloc, module, options.flags(), options.capabilities()) {
-        Ok(answer) => {
-            let text = told(options, answer.is_accepted, answer.text.as_bytes());
-            let Ok(()) = write_all(writer, text) else {
+    progress.begins(Stage::Findings);
+    match told_of(alloc, options, module) {
+        Ok(told) => {
+            progress.begins(Stage::Answer(told.text.as_bytes().len()));
+            let Ok(()) = write_all(writer, told.text.as_bytes()) else {
                 return Status::WriteFailed;
             };
-            if answer.is_accepted {
+            if told.is_accepted {
                 Status::Accepted
             } else {
                 Status::Refused

@@ -1,4 +1,4 @@
-//! The way from an expression to what makes it differ among invocations.
+//! The way from a value to what makes it differ among invocations.
 
 use crate::form::ToldText;
 use crate::place::PlaceText;
@@ -7,11 +7,13 @@ use shader_info::AnalysisPlace;
 use shader_ir::{Module, mark};
 use std::fmt;
 
-/// One expression on the way, of the function or entry point at a place.
+/// One step on the way.
 #[derive(Clone, Copy, Debug)]
-pub struct Step {
-    pub place: AnalysisPlace,
-    pub expression: Handle<mark::Expression>,
+pub enum Step {
+    /// An expression of the function or entry point at a place.
+    Expression(AnalysisPlace, Handle<mark::Expression>),
+    /// What the function at a place gives back.
+    Result(AnalysisPlace),
 }
 
 /// An expression and where it stands.
@@ -37,7 +39,54 @@ impl fmt::Display for StandsText<'_> {
     }
 }
 
-/// A line for each step, the source last.
+/// A step.
+#[derive(Clone, Copy)]
+struct StepText<'a> {
+    module: &'a Module,
+    step: Step,
+}
+
+impl fmt::Display for StepText<'_> {
+    fn fmt<W: fmt::Write>(&self, f: &mut fmt::Formatter<W>) -> fmt::Result {
+        let module = self.module;
+        match self.step {
+            Step::Expression(place, handle) => {
+                let text = StandsText {
+                    module,
+                    place,
+                    handle,
+                };
+                write!(f, "{text}")
+            }
+            Step::Result(place) => write!(f, "{}, its result", PlaceText { module, place }),
+        }
+    }
+}
+
+/// A line for each step.
+#[derive(Clone, Copy)]
+struct StepsText<'a> {
+    module: &'a Module,
+    steps: &'a [Step],
+}
+
+impl fmt::Display for StepsText<'_> {
+    fn fmt<W: fmt::Write>(&self, f: &mut fmt::Formatter<W>) -> fmt::Result {
+        for step in self.steps {
+            let text = StepText {
+                module: self.module,
+                step: *step,
+            };
+            write!(f, "    {text}\n")?;
+        }
+        Ok(())
+    }
+}
+
+/// How many steps are printed at either end of a long chain.
+const STEPS_AT_END: usize = 50;
+
+/// A line for each step, the source last; the middle of a long chain is counted.
 #[derive(Clone, Copy)]
 pub struct ChainText<'a> {
     pub module: &'a Module,
@@ -46,14 +95,15 @@ pub struct ChainText<'a> {
 
 impl fmt::Display for ChainText<'_> {
     fn fmt<W: fmt::Write>(&self, f: &mut fmt::Formatter<W>) -> fmt::Result {
-        for step in self.steps {
-            let text = StandsText {
-                module: self.module,
-                place: step.place,
-                handle: step.expression,
-            };
-            write!(f, "    {text}\n")?;
+        let module = self.module;
+        let (first, rest) = self.steps.split_at(STEPS_AT_END.min(self.steps.len()));
+        let (middle, last) = rest.split_at(rest.len().saturating_sub(STEPS_AT_END));
+        let steps = first;
+        write!(f, "{}", StepsText { module, steps })?;
+        if !middle.is_empty() {
+            write!(f, "    .. {} steps more ..\n", middle.len())?;
         }
-        Ok(())
+        let steps = last;
+        write!(f, "{}", StepsText { module, steps })
     }
 }

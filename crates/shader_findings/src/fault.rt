@@ -6,25 +6,48 @@ use crate::place::PlaceText;
 use crate::words::{CapabilitiesText, RequirementsText};
 use shader_arena::Handle;
 use shader_info::{
-    AnalysisError, AnalysisPlace, ExpressionError, FunctionError, UniformityDisruptor,
-    UniformityRequirements,
+    AnalysisError, AnalysisPlace, Capabilities, ExpressionError, FunctionError,
+    UniformityDisruptor, UniformityRequirements,
 };
 use shader_ir::{Module, mark};
 use std::fmt;
 
+/// Resources that are indexed by what differs among invocations, the way from the index to what makes it differ, and what to do.
+#[derive(Clone, Copy)]
+struct IndexedText<'a> {
+    chain: ChainText<'a>,
+    capabilities: Capabilities,
+}
+
+impl fmt::Display for IndexedText<'_> {
+    fn fmt<W: fmt::Write>(&self, f: &mut fmt::Formatter<W>) -> fmt::Result {
+        write!(
+            f,
+            "indexes resources by a value that differs among invocations\n{}  if the device can do that, allow it by{}\n",
+            self.chain,
+            CapabilitiesText(self.capabilities)
+        )
+    }
+}
+
 /// Why an expression is refused, and a line that says what to do where that is clear.
 #[derive(Clone, Copy)]
-struct CauseText<'a>(&'a ExpressionError);
+struct CauseText<'a> {
+    error: &'a ExpressionError,
+    chain: ChainText<'a>,
+}
 
 impl fmt::Display for CauseText<'_> {
     fn fmt<W: fmt::Write>(&self, f: &mut fmt::Formatter<W>) -> fmt::Result {
-        match self.0 {
+        match self.error {
             ExpressionError::Resolve(error) => write!(f, "{error}\n"),
-            ExpressionError::MissingCapabilities(capabilities) => write!(
-                f,
-                "indexes resources by a value that differs among invocations\n  if the device can do that, allow it by{}\n",
-                CapabilitiesText(*capabilities)
-            ),
+            ExpressionError::MissingCapabilities(capabilities) => {
+                let text = IndexedText {
+                    chain: self.chain,
+                    capabilities: *capabilities,
+                };
+                write!(f, "{text}")
+            }
             ExpressionError::ExpectedGlobalOrArgument => f.write_str(
                 "its image or sampler comes neither from a global nor from an argument\n  name a global or an argument there\n",
             ),
@@ -100,7 +123,7 @@ impl fmt::Display for MisplacedText<'_> {
 
 /// Why the analysis refuses a module: the function, the expression, what is wrong there, and what to do where that is clear.
 ///
-/// `chain` is the way from an expression that flow or an index depends on to what makes it differ, and empty where there is none.
+/// `chain` is the way from the expression that `differing` tells to what makes it differ, and empty where it tells none.
 #[derive(Clone, Copy)]
 pub struct ErrorText<'a> {
     pub module: &'a Module,
@@ -147,7 +170,11 @@ impl fmt::Display for ErrorText<'_> {
                     module: self.module,
                     steps: self.chain,
                 };
-                write!(f, "{}: {}{chain}", self.faulty(*handle), CauseText(source))
+                let cause = CauseText {
+                    error: source,
+                    chain,
+                };
+                write!(f, "{}: {cause}", self.faulty(*handle))
             }
             FunctionError::NonUniformControlFlow(requirements, handle, disruptor) => {
                 let text = self.misplaced(*requirements, *disruptor);

@@ -141,9 +141,15 @@ impl fmt::Display for FlowText<'_> {
             return Ok(());
         }
         f.write_str("  result differs among invocations\n")?;
+        // The first step is the result itself.
+        let steps = if self.chain.is_empty() {
+            self.chain
+        } else {
+            &self.chain[1..]
+        };
         let chain = ChainText {
             module: self.module,
-            steps: self.chain,
+            steps,
         };
         write!(f, "{chain}")
     }
@@ -152,8 +158,8 @@ impl fmt::Display for FlowText<'_> {
 /// What is recorded of the function or entry point at a place.
 ///
 /// What an info keeps in sets is given in the order in which it is to be printed: `pairs`, the places of a global image and of a global
-/// sampler, and `sampling`, the pairs with an argument. `chain` is the way from what the function gives back to what makes it differ,
-/// and empty where it isn't known.
+/// sampler, and `sampling`, the pairs with an argument. `chain` is the way from what the function gives back, its
+/// first step, to what makes it differ, and empty where it isn't known.
 #[derive(Clone, Copy)]
 pub struct FunctionText<'a> {
     pub module: &'a Module,

@@ -6,6 +6,7 @@
 #![tactic(auto)]
 
 mod chain;
+mod culprit;
 mod fault;
 mod findings;
 mod form;
@@ -18,6 +19,7 @@ mod types;
 mod words;
 
 pub use chain::{ChainText, Step};
+pub use culprit::differing;
 pub use fault::ErrorText;
 pub use findings::FunctionText;
 pub use module_fault::{LayoutFaultText, ModuleFaultText};
@@ -25,6 +27,3 @@ pub use names::{ExpressionText, NameText};
 pub use place::PlaceText;
 pub use structs::{StructText, StructsText};
 pub use types::TypeText;
-
-#[cfg(test)]
-mod tests;

@@ -1,6 +1,7 @@
 //! Look-ups that are total: each gives something for every handle.
 ghost use Rattle.std.specs.Prelude.{◌≡◌, slice_get};
 ghost use Rattle.std.specs.Option.{option_copied};
+ghost use Rattle.shader_findings.specs.Differing.{function_at};
 
 use shader_arena::{Arena, Handle};
 use shader_info::AnalysisPlace;
@@ -40,7 +41,9 @@ pub fn layout_at(layouts: &Layouter, ty: Handle<mark::Type>) -> Option<TypeLayou
 }
 
 /// The function at a place; global expressions stand in none.
-pub fn function_at(module: &Module, place: AnalysisPlace) -> Option<&Function> {
+pub fn function_at(module: &Module, place: AnalysisPlace) -> Option<&Function>
+    ensures { option_copied result ≡ function_at «module».now place }
+{
     match place {
         AnalysisPlace::ConstExpression(_) => None,
         AnalysisPlace::Function(handle) => item_at(&module.functions, handle.index()),

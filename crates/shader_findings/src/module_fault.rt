@@ -1,6 +1,6 @@
 //! Where a module isn't well formed, and which type has no layout.
 
-use crate::chain::{StandsText, Step};
+use crate::chain::StandsText;
 use crate::names::{constant_name, global_name, override_name, type_name};
 use crate::place::PlaceText;
 use shader_info::AnalysisPlace;
@@ -50,22 +50,22 @@ fn function_place(place: ModulePlace) -> Option<AnalysisPlace> {
 }
 
 /// The expression that a place is.
-fn expression_place(place: ModulePlace) -> Option<Step> {
-    match place {
-        ModulePlace::GlobalExpression(expression) => Some(Step {
-            place: AnalysisPlace::ConstExpression(expression),
-            expression,
-        }),
-        ModulePlace::FunctionExpression(handle, expression) => Some(Step {
-            place: AnalysisPlace::Function(handle),
-            expression,
-        }),
-        ModulePlace::EntryPointExpression(index, expression) => Some(Step {
-            place: AnalysisPlace::EntryPoint(index),
-            expression,
-        }),
-        _ => None,
-    }
+fn expression_at(module: &Module, place: ModulePlace) -> Option<StandsText<'_>> {
+    let (place, handle) = match place {
+        ModulePlace::GlobalExpression(handle) => (AnalysisPlace::ConstExpression(handle), handle),
+        ModulePlace::FunctionExpression(function, handle) => {
+            (AnalysisPlace::Function(function), handle)
+        }
+        ModulePlace::EntryPointExpression(index, handle) => {
+            (AnalysisPlace::EntryPoint(index), handle)
+        }
+        _ => return None,
+    };
+    Some(StandsText {
+        module,
+        place,
+        handle,
+    })
 }
 
 /// What is told behind the name of a function whose statements a place is.
@@ -91,16 +91,8 @@ impl fmt::Display for ModulePlaceText<'_> {
             let function = PlaceText { module, place };
             return write!(f, "{function}{}", part_word(&self.place));
         }
-        match expression_place(self.place) {
-            Some(step) => {
-                let (place, handle) = (step.place, step.expression);
-                let text = StandsText {
-                    module,
-                    place,
-                    handle,
-                };
-                write!(f, "{text}")
-            }
+        match expression_at(module, self.place) {
+            Some(text) => write!(f, "{text}"),
             None => {
                 let place = self.place;
                 write!(f, "{}", DeclarationText { module, place })

@@ -1,6 +1,6 @@
 //! Names, and numbers for what has none.
-ghost use Rattle.std.specs.Prelude.{◌≡◌, Some};
-ghost use Rattle.shader_findings.specs.Names.{given_name, name_text};
+ghost use Rattle.std.specs.Prelude.{◌≡◌};
+ghost use Rattle.shader_findings.specs.Names.{given_name, has_control, named_text};
 
 use crate::lookup::{item_at, type_at};
 use shader_arena::Handle;
@@ -17,7 +17,14 @@ pub fn given(name: &Option<Name>) -> &str
     }
 }
 
-/// A name, or where it is empty the number behind a `#`.
+/// Whether a name has a control character, as one that breaks the line.
+fn has_control(name: &str) -> bool
+    ensures { result ≡ has_control name.now }
+{
+    name.as_bytes().iter().any(|byte| byte.is_ascii_control())
+}
+
+/// A name, in quotes and escaped where it has control characters, or where it is empty the number behind a `#`.
 #[derive(Clone, Copy)]
 pub struct NameText<'a> {
     pub name: &'a str,
@@ -25,11 +32,13 @@ pub struct NameText<'a> {
 }
 
 impl fmt::Display for NameText<'_> {
-    ghost output = { λ text. Some (name_text text.name.now text.place) };
+    ghost output = { λ text. named_text text.name.now text.place };
 
     fn fmt<W: fmt::Write>(&self, f: &mut fmt::Formatter<W>) -> fmt::Result {
         if self.name.is_empty() {
             write!(f, "#{}", self.place)
+        } else if has_control(self.name) {
+            write!(f, "{:?}", self.name)
         } else {
             f.write_str(self.name)
         }
@@ -147,7 +156,7 @@ impl fmt::Display for ExpressionText<'_> {
         if name.is_empty() {
             Ok(())
         } else {
-            write!(f, " {name}")
+            write!(f, " {}", NameText { name, place: 0 })
         }
     }
 }

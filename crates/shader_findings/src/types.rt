@@ -46,7 +46,7 @@ impl fmt::Display for BaseText<'_> {
     fn fmt<W: fmt::Write>(&self, f: &mut fmt::Formatter<W>) -> fmt::Result {
         let NameText { name, place } = type_name(self.module, self.ty);
         if !name.is_empty() {
-            return f.write_str(name);
+            return write!(f, "{}", NameText { name, place });
         }
         match type_at(self.module, self.ty) {
             Some(ty) => write!(
@@ -92,7 +92,7 @@ impl fmt::Display for TypeText<'_> {
     fn fmt<W: fmt::Write>(&self, f: &mut fmt::Formatter<W>) -> fmt::Result {
         let NameText { name, place } = type_name(self.module, self.ty);
         if !name.is_empty() {
-            return f.write_str(name);
+            return write!(f, "{}", NameText { name, place });
         }
         match type_at(self.module, self.ty) {
             Some(ty) => write!(

@@ -3,8 +3,8 @@ use Rattle.std.specs.Prelude.{◌≡◌, ℕ, List}
 use Rattle.typer_answers.specs.declared.answer.Outcome.{Outcome}
 use Rattle.typer_answers.specs.declared.answer.Outcome.TheVariants as outcomes
 use Rattle.typer_answers.specs.Answers.{IsAnswer}
-use Rattle.typer.specs.declared.reading.InputError.{InputError}
-use Rattle.typer.specs.declared.reading.InputError.TheVariants as inputs
+use Rattle.program_io.specs.declared.reading.InputError.{InputError}
+use Rattle.program_io.specs.declared.reading.InputError.TheVariants as inputs
 use Rattle.typer.specs.declared.status.Status.{Status}
 use Rattle.typer.specs.declared.status.Status.TheVariants.{Done, BadLine, ReadFailed, WriteFailed, OutOfMemory, TooLong}
 

@@ -3,18 +3,13 @@
 
 #[cfg(test)]
 mod memory;
-mod reading;
 mod running;
-mod sink;
-mod source;
 mod status;
 #[cfg(test)]
 mod tests;
-mod writing;
 
 use crate::running::run;
-use crate::sink::ToWriter;
-use crate::source::FromReader;
+use program_io::{FromReader, ToWriter};
 use std::io;
 use std::process::ExitCode;
 

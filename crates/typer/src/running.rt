@@ -4,13 +4,13 @@ ghost use Rattle.std.specs.Prelude.{◌≡◌, ◌<◌, ◌↔◌, ℕ, List, fa
 ghost use Rattle.std.specs.Io.KnownBytes.{Appends, Consumes, IsAtEnd, Keeps};
 ghost use Rattle.typer.specs.Runs.{AreAnswer, OnAnswered, OnUnanswered, most_bytes};
 
-use crate::reading::read_input;
-use crate::sink::Sink;
-use crate::source::{Failed, Source};
 use crate::status::Status;
-use crate::writing::write_all;
+use program_io::{Failed, Sink, Source, read_input, write_all};
 use std::alloc::Global;
 use typer_answers::Answer;
+
+/// The most bytes that an input may have.
+const INPUT_LIMIT: usize = 1_048_576;
 
 /// Reads the whole input, makes the whole answer, and then writes it.
 pub fn run<R: Source, W: Sink>(alloc: Global, reader: &mut R, writer: &mut W) -> Status
@@ -34,7 +34,7 @@ pub fn run<R: Source, W: Sink>(alloc: Global, reader: &mut R, writer: &mut W) ->
     ensures too_long { (read : List ℕ) × Consumes (R.remaining reader.old) (R.remaining reader.new) read
         × ((result ≡ Status.TooLong) ↔ (most_bytes < length read)) }
 {
-    let input = match read_input(alloc, reader) {
+    let input = match read_input(alloc, reader, INPUT_LIMIT) {
         Ok(input) => input,
         Err(error) => return Status::from(error),
     };

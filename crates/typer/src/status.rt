@@ -1,4 +1,4 @@
-use crate::reading::InputError;
+use program_io::InputError;
 use typer_answers::Outcome;
 
 /// How a run ended.

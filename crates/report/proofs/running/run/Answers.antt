@@ -2,7 +2,8 @@ use Rattle.std.proofs.Common.{IsSome, subst}
 use Rattle.std.specs.Option.{IfSome}
 use Rattle.std.specs.Str.{IsUtf8}
 use Rattle.json.specs.Json.{document}
-use Rattle.report.proofs.Ends.{surely, whole_input}
+use Rattle.program_io.proofs.Whole.{whole_input}
+use Rattle.report.proofs.Ends.{surely}
 use Rattle.report.proofs.running.run.Goals as goal
 
 pub returns-in-Ok-read_module-clause-json : goal.returns-in-Ok-read_module-clause-json

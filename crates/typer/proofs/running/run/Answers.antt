@@ -4,7 +4,7 @@ use Rattle.std.specs.String.{string_bytes}
 use Rattle.typer.specs.declared.status.Status.{Status}
 use Rattle.typer_answers.specs.Answers.{IsAnswer}
 use Rattle.typer.specs.Runs.{AreAnswer, outcome_status}
-use Rattle.typer.proofs.Appending.{whole_input}
+use Rattle.program_io.proofs.Whole.{whole_input}
 use Rattle.typer.proofs.running.run.Goals as goal
 
 pub returns-clause-beginning : goal.returns-clause-beginning

@@ -1,0 +1,1 @@
+// derivative.wgsl with diagnostic(off, derivative_uniformity);
