@@ -10,7 +10,8 @@ TOP = pathlib.Path(__file__).resolve().parent.parent
 FUNCTION = re.compile(r"( *)(?:pub(?:\(\w+\))? )?(?:final |const )*fn (\w+)")
 # What else an edit may change: a constant, a derive.
 ITEM = re.compile(r" *(pub(\(\w+\))? )?(const|static|struct|enum|impl|trait|type|mod|use|ghost use|macro_rules!)\b(?! fn)")
-OWNER = re.compile(r"(?:impl(?:<.*?>)? (?:(?:\w+::)*(\w+)(?:<.*>)? for )?&?|(?:pub(?:\(\w+\))? )?trait )(\w+)")
+OWNER = re.compile(r"(?:impl(?:<.*?>)? (?:(?:\w+::)*(\w+)(?:<(.*)>)? for )?&?|(?:pub(?:\(\w+\))? )?trait )(\w+)")
+DECLARED = re.compile(r"(?m)^ *(?:pub(?:\(\w+\))? )?(?:struct|enum|trait) (\w+)")
 CYCLE = re.compile(r" *#\[cycle\((\w+)\)\]")
 CONSTANT = re.compile(r"\bconst (\w+): [^=;{]*=([^;]*);")
 
@@ -69,12 +70,26 @@ class Function:
         # Functions that call one another have one proof.
         return self.file, self.ring or (self.owner and self.owner.groups(), self.name)
 
+    def paths(self, homes):
+        """Returns the paths below the crate that the function may have, given the modules that declare types.
+
+        A method stands below its type, and one of a trait in its own module below the names of type, trait and what the trait is of.
+        """
+        modules, below = [self.module], []
+        if self.owner:
+            trait, of, kind = self.owner.groups()
+            words = [it[0].upper() + it[1:] for it in re.findall(r"\w\w+", of or "") if of != kind]
+            below = ["".join([kind, trait or "", *words])]
+            if not trait:
+                modules = sorted(homes.get(kind, ()))
+        return ["::".join([*filter(None, it.split("/")), *below, self.name]) for it in modules]
+
     def is_of(self, folder):
         """Returns whether a folder of proofs/ is the function's: below its module, or below the type whose method it is."""
         *above, name = folder.split("/")
         if self.ring or not self.owner:
             return name == self.ring or (name == self.name and "/".join(above) == self.module)
-        trait, kind = self.owner.groups()
+        trait, _, kind = self.owner.groups()
         is_owned = bool(above) and (above[-1].startswith(kind + trait) if trait else above[-1] == kind)
         return is_owned and name in (self.name, f"+{self.name}")
 
@@ -94,15 +109,17 @@ def function_at(file, lines, place):
 
 
 class Edit:
-    """One wrong body: a file, and the texts that it exchanges there."""
+    """One wrong body: a file, the texts that it exchanges there, and the functions that tell of it, where it says which."""
 
     def __init__(self, path, crate):
         self.name = path.stem
-        self.file, self.pairs, old = "", [], ""
+        self.file, self.pairs, self.asks, old = "", [], [], ""
         for line in path.read_text().splitlines():
             word, _, text = line.partition(": ")
             if word == "file":
                 self.file = text
+            elif word == "asks":
+                self.asks.append(text)
             elif word == "old":
                 old = text
             elif word == "new":
@@ -124,6 +141,15 @@ class Edit:
         for old, new in self.pairs:
             text = text.replace(old, new)
         return text
+
+
+def homes_of(folder):
+    """Returns for each type and trait of a crate the modules that declare one of its name."""
+    homes = {}
+    for file in folder.glob("src/**/*.rt"):
+        for name in DECLARED.findall(file.read_text()):
+            homes.setdefault(name, set()).add(module_of(str(file.relative_to(folder))))
+    return homes
 
 
 def constants_of(text, pairs):
