@@ -12,21 +12,31 @@ use shader_json_values::{Context, Failure, within};
 #[derive(Drop)]
 struct Held(Function);
 
+/// Gives an empty function what these fields have, in an order of its own: a field that can't be read hides those behind it.
+fn fill(
+    context: &mut Context,
+    fields: Fields<'_, '_>,
+    function: &mut Function,
+) -> Result<(), Failure> {
+    let Expressions(expressions) = fields.needed(context, "expressions")?;
+    function.expressions = expressions;
+    let Body(body) = fields.needed(context, "body")?;
+    function.body = body;
+    function.name = fields.optional(context, "name")?;
+    function.arguments = fields.needed(context, "arguments")?;
+    function.result = fields.optional(context, "result")?;
+    function.local_variables = fields.needed(context, "local_variables")?;
+    function.named_expressions = fields.needed(context, "named_expressions")?;
+    function.diagnostic_filter_leaf = fields.optional(context, "diagnostic_filter_leaf")?;
+    Ok(())
+}
+
 impl Read for Held {
     fn read(context: &mut Context, value: &Value<'_>) -> Result<Held, Failure> {
         let fields = Fields::of(context, value)?;
-        let Expressions(expressions) = fields.needed(context, "expressions")?;
-        let Body(body) = fields.needed(context, "body")?;
-        Ok(Held(Function {
-            name: fields.optional(context, "name")?,
-            arguments: fields.needed(context, "arguments")?,
-            result: fields.optional(context, "result")?,
-            local_variables: fields.needed(context, "local_variables")?,
-            expressions,
-            named_expressions: fields.needed(context, "named_expressions")?,
-            body,
-            diagnostic_filter_leaf: fields.optional(context, "diagnostic_filter_leaf")?,
-        }))
+        let mut function = Function::new(context.alloc);
+        fill(context, fields, &mut function)?;
+        Ok(Held(function))
     }
 }
 

@@ -13,24 +13,29 @@ use shader_json_values::{Context, Failure, MOST_BYTES, ReadError, parse};
 use std::alloc::Global;
 use std::str;
 
+/// Gives an empty module what these fields have, in an order of its own: a field that can't be read hides those behind it.
+fn fill(context: &mut Context, fields: Fields<'_, '_>, module: &mut Module) -> Result<(), Failure> {
+    module.types = fields.needed(context, "types")?;
+    let Expressions(global_expressions) = fields.needed(context, "global_expressions")?;
+    module.global_expressions = global_expressions;
+    let Functions(functions) = fields.needed(context, "functions")?;
+    module.functions = functions;
+    let EntryPoints(entry_points) = fields.needed(context, "entry_points")?;
+    module.entry_points = entry_points;
+    module.special_types = fields.needed(context, "special_types")?;
+    module.constants = fields.needed(context, "constants")?;
+    module.overrides = fields.needed(context, "overrides")?;
+    module.global_variables = fields.needed(context, "global_variables")?;
+    module.diagnostic_filters = fields.needed(context, "diagnostic_filters")?;
+    Ok(())
+}
+
 /// The module that a JSON value is.
 fn module(context: &mut Context, value: &Value<'_>) -> Result<Module, Failure> {
     let fields = Fields::of(context, value)?;
-    let types = fields.needed(context, "types")?;
-    let Expressions(global_expressions) = fields.needed(context, "global_expressions")?;
-    let Functions(functions) = fields.needed(context, "functions")?;
-    let EntryPoints(entry_points) = fields.needed(context, "entry_points")?;
-    Ok(Module {
-        types,
-        special_types: fields.needed(context, "special_types")?,
-        constants: fields.needed(context, "constants")?,
-        overrides: fields.needed(context, "overrides")?,
-        global_variables: fields.needed(context, "global_variables")?,
-        global_expressions,
-        functions,
-        entry_points,
-        diagnostic_filters: fields.needed(context, "diagnostic_filters")?,
-    })
+    let mut module = Module::new(context.alloc);
+    fill(context, fields, &mut module)?;
+    Ok(module)
 }
 
 /// The module that a text is.
