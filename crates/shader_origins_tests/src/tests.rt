@@ -1,3 +1,4 @@
 mod asked;
 mod chains;
+mod made;
 mod refusals;

@@ -5,13 +5,23 @@ mod rows;
 mod sets;
 mod texts;
 
+ghost use Rattle.std.specs.Prelude.{All};
+ghost use Rattle.shader_overloads.specs.Remaining.{CallFits};
+
 pub use crate::made::{Made, inner};
 use shader_arena::{Arena, UniqueArena};
 use shader_ir::{
-    Constant, Expression, GlobalCtx, Override, Type, TypeResolution, VectorSize, mark,
+    Constant, Expression, GlobalCtx, MathFunction, Override, Scalar, Type, TypeResolution,
+    VectorSize, mark, types_backward,
 };
-use shader_overloads::{Conclusion, ConstructorSize, Rule};
-use std::alloc::Global;
+use shader_overloads::{
+    AnyOverloadSet, Conclusion, ConstructorSize, MathOverloads, OverloadSet, Rule, SetCall, narrow,
+};
+use std::alloc::{AllocError, Global};
+use std::process::Abort;
+
+/// What a test says that fails for want of memory alone.
+pub const WANT: &str = "want of memory";
 
 pub const SCALAR: ConstructorSize = ConstructorSize::Scalar;
 
@@ -53,15 +63,15 @@ pub fn is_rule(rule: &Rule, first: Made, second: Made, gives: Made) -> bool {
 
 /// A module without types.
 #[derive(Drop)]
-pub struct Arenas {
-    pub types: UniqueArena<Type, mark::Type>,
+struct Arenas {
+    types: UniqueArena<Type, mark::Type>,
     constants: Arena<Constant, mark::Constant>,
     overrides: Arena<Override, mark::Override>,
     global_expressions: Arena<Expression, mark::Expression>,
 }
 
 impl Arenas {
-    pub fn new(alloc: Global) -> Arenas {
+    fn new(alloc: Global) -> Arenas {
         Arenas {
             types: UniqueArena::new(alloc),
             constants: Arena::new(alloc),
@@ -70,7 +80,7 @@ impl Arenas {
         }
     }
 
-    pub fn ctx(&self) -> GlobalCtx<'_> {
+    fn ctx(&self) -> GlobalCtx<'_> {
         GlobalCtx {
             types: &self.types,
             constants: &self.constants,
@@ -78,4 +88,76 @@ impl Arenas {
             global_expressions: &self.global_expressions,
         }
     }
+}
+
+// The tests hold little: where a branch leaves a function, all that it holds has to be proved let go. So what is asked of a set has
+// helpers, and want of memory ends a test at once.
+
+/// The rules of a set, in a module without types.
+pub fn list_rules<S: OverloadSet>(alloc: Global, set: &S) -> Result<Vec<Rule>, AllocError> {
+    let arenas = Arenas::new(alloc);
+    set.overload_list(alloc, arenas.ctx())
+}
+
+/// The same, where want of memory ends the test.
+pub fn listed<S: OverloadSet>(rt: &impl Abort, alloc: Global, set: &S) -> Vec<Rule> {
+    list_rules(alloc, set).expect(rt, WANT)
+}
+
+/// The types that a set allows as the argument of a place, in a module without types.
+pub fn list_allowed<S: OverloadSet>(
+    alloc: Global,
+    set: &S,
+    place: usize,
+) -> Result<Vec<TypeResolution>, AllocError> {
+    let arenas = Arenas::new(alloc);
+    set.allowed_args(alloc, place, arenas.ctx())
+}
+
+/// The same, where want of memory ends the test.
+pub fn allowed<S: OverloadSet>(
+    rt: &impl Abort,
+    alloc: Global,
+    set: &S,
+    place: usize,
+) -> Vec<TypeResolution> {
+    list_allowed(alloc, set, place).expect(rt, WANT)
+}
+
+/// Whether a rule is left, of which the preferred one concludes so.
+pub fn prefers<S: OverloadSet>(rt: &impl Abort, alloc: Global, set: &S, wanted: Made) -> bool {
+    if set.is_empty() {
+        return false;
+    }
+    let rule = set.most_preferred(alloc).expect(rt, WANT);
+    concludes(&rule, wanted)
+}
+
+/// What is left of the set of a builtin after the calls.
+pub fn left_after(
+    rt: &impl Abort,
+    alloc: Global,
+    function: MathFunction,
+    calls: &[SetCall],
+    types: &UniqueArena<Type, mark::Type>,
+) -> Result<AnyOverloadSet, AllocError>
+    requires { All (CallFits types.now) calls.now }
+{
+    assert!(rt; types_backward(types));
+    let set = function.overloads(alloc)?;
+    narrow(alloc, set, calls, types)
+}
+
+/// What is left after the second argument was an integer literal, and all arguments are concrete.
+pub fn narrowed(
+    rt: &impl Abort,
+    alloc: Global,
+    function: MathFunction,
+) -> Result<AnyOverloadSet, AllocError> {
+    let types = UniqueArena::new(alloc);
+    let calls = [
+        SetCall::Arg(1, inner((SCALAR, Scalar::ABSTRACT_INT))),
+        SetCall::ConcreteOnly,
+    ];
+    left_after(rt, alloc, function, &calls, &types)
 }

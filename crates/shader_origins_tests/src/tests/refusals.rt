@@ -4,8 +4,9 @@
 //! still, and prints a line with `was refused`. The first N at which no test prints one is past all requests.
 ghost use Rattle.shader_resolve.specs.WellFormed.{IsWellFormed};
 
-use crate::tests::asked::{WANT, expression, result};
-use crate::tests::chains::calls_of_calls;
+use crate::tests::asked::{are, expression, result};
+use crate::tests::chains::CALLS_OF_CALLS;
+use crate::tests::made::{WANT, module};
 use shader_ir::Module;
 use shader_origins::{Link, Reasons, why_non_uniform};
 use shader_resolve::check_module;
@@ -19,11 +20,11 @@ fn say(rt: &(impl Abort + Print), what: &str) {
 
 /// The module, made again where memory was refused.
 fn made(rt: &(impl Abort + Print), alloc: Global) -> Module {
-    match calls_of_calls(rt, alloc) {
+    match module(rt, alloc, CALLS_OF_CALLS) {
         Ok(module) => module,
         Err(_) => {
             say(rt, "a module");
-            calls_of_calls(rt, alloc).expect(rt, WANT)
+            module(rt, alloc, CALLS_OF_CALLS).expect(rt, WANT)
         }
     }
 }
@@ -33,11 +34,7 @@ fn expects_chain(rt: &impl Abort, chain: &Option<Vec<Link>>) {
     match chain {
         Some(links) => {
             let wanted = [result(2), result(1), result(0), expression(0, 0)];
-            assert!(rt; links.len() == 4);
-            let mut found = links.iter();
-            for link in wanted {
-                assert!(rt; found.next() == Some(&link));
-            }
+            are(rt, links.as_slice(), wanted);
         }
         None => panic!(rt; "no chain"),
     }

@@ -1,65 +1,40 @@
 //! Sets of builtins, narrowed by calls, through the trait.
-use crate::tests::{Arenas, Made, SCALAR, VEC2, concludes, inner, is_rule, is_type};
+use crate::tests::{
+    Made, SCALAR, VEC2, WANT, allowed, inner, is_rule, left_after, listed, narrowed, prefers,
+};
 use shader_arena::UniqueArena;
-use shader_ir::{GlobalCtx, MathFunction, Scalar, Type, TypeResolution, mark, types_backward};
-use shader_overloads::{AnyOverloadSet, MathOverloads, OverloadSet, Rule, SetCall, narrow};
-use std::alloc::{AllocError, Global};
+use shader_ir::{MathFunction, Scalar};
+use shader_overloads::{AnyOverloadSet, MathOverloads, OverloadSet, Rule, SetCall};
+use std::alloc::Global;
 use std::process::Abort;
-use std::test::Fail;
 
-/// What the trait tells of a set that isn't empty.
-#[derive(Drop)]
+/// What the trait is to tell of a set.
+#[derive(Clone, Copy)]
 struct Told {
-    least: usize,
-    greatest: usize,
-    preferred: Rule,
-    rules: Vec<Rule>,
-    second: Vec<TypeResolution>,
+    /// The least number of arguments, and the greatest.
+    arguments: usize,
+    preferred: Made,
+    rules: usize,
+    /// The types that are allowed as the second argument.
+    second: usize,
 }
 
-fn tell<S: OverloadSet>(
-    alloc: Global,
-    set: &S,
-    ctx: GlobalCtx<'_>,
-) -> Result<Option<Told>, AllocError> {
-    if set.is_empty() {
-        return Ok(None);
-    }
-    let copy = set.copy(alloc)?;
-    Ok(Some(Told {
-        least: set.min_arguments(),
-        greatest: set.max_arguments(),
-        preferred: set.most_preferred(alloc)?,
-        rules: copy.overload_list(alloc, ctx)?,
-        second: copy.allowed_args(alloc, 1, ctx)?,
-    }))
-}
-
-/// What is told of the set of a builtin after its second argument was an integer literal, and all arguments are concrete.
-fn narrowed(
-    rt: &impl Abort,
-    alloc: Global,
-    function: MathFunction,
-    types: &UniqueArena<Type, mark::Type>,
-) -> Result<AnyOverloadSet, AllocError> {
-    assert!(rt; types_backward(types));
-    let calls = [
-        SetCall::Arg(1, inner((SCALAR, Scalar::ABSTRACT_INT))),
-        SetCall::ConcreteOnly,
-    ];
-    let set = function.overloads(alloc)?;
-    narrow(alloc, set, &calls, types)
+/// Asserts what the trait tells of a set, whose rules are asked of a copy.
+fn tells<S: OverloadSet>(rt: &impl Abort, alloc: Global, set: &S, wanted: Told) {
+    assert!(rt; !set.is_empty());
+    assert!(rt; set.min_arguments() == wanted.arguments);
+    assert!(rt; set.max_arguments() == wanted.arguments);
+    assert!(rt; prefers(rt, alloc, set, wanted.preferred));
+    let copy = set.copy(alloc).expect(rt, WANT);
+    assert!(rt; listed(rt, alloc, &copy).len() == wanted.rules);
+    assert!(rt; allowed(rt, alloc, &copy, 1).len() == wanted.second);
 }
 
 /// The same, told by the set's own kind.
-fn tell_kind(
-    alloc: Global,
-    set: &AnyOverloadSet,
-    ctx: GlobalCtx<'_>,
-) -> Result<Option<Told>, AllocError> {
-    match set {
-        AnyOverloadSet::List(set) => tell(alloc, set, ctx),
-        AnyOverloadSet::Regular(set) => tell(alloc, set, ctx),
+fn kind_tells(rt: &impl Abort, alloc: Global, set: AnyOverloadSet, wanted: Told) {
+    match &set {
+        AnyOverloadSet::List(set) => tells(rt, alloc, set, wanted),
+        AnyOverloadSet::Regular(set) => tells(rt, alloc, set, wanted),
     }
 }
 
@@ -69,8 +44,8 @@ const EXPONENTS: [Made; 3] = [
     (SCALAR, Scalar::F64),
 ];
 
-fn is_ldexp_of_scalars(told: &Told) -> bool {
-    let [first, second, third] = told.rules.as_slice() else {
+fn are_ldexp_of_scalars(rules: &[Rule]) -> bool {
+    let [first, second, third] = rules else {
         return false;
     };
     let exponent = (SCALAR, Scalar::I32);
@@ -79,39 +54,65 @@ fn is_ldexp_of_scalars(told: &Told) -> bool {
         && is_rule(third, EXPONENTS[2], exponent, EXPONENTS[2])
 }
 
-#[test]
-fn a_list_narrows_by_its_second_argument(rt: HostRuntime) -> Result<(), Fail> {
-    let arenas = Arenas::new(rt.alloc());
-    let left = narrowed(&rt, rt.alloc(), MathFunction::Ldexp, &arenas.types)?;
-    let told = tell_kind(rt.alloc(), &left, arenas.ctx())?.expect(&rt, "a rule is left");
-    assert!(rt; is_ldexp_of_scalars(&told));
-    assert!(rt; concludes(&told.preferred, (SCALAR, Scalar::F32)));
-    assert!(rt; told.least == 2 && told.greatest == 2 && told.second.len() == 3);
-    Ok(())
+/// Whether a copy of the set lists the rules of ldexp of scalars.
+fn is_ldexp_of_scalars<S: OverloadSet>(rt: &impl Abort, alloc: Global, set: &S) -> bool {
+    let copy = set.copy(alloc).expect(rt, WANT);
+    are_ldexp_of_scalars(listed(rt, alloc, &copy).as_slice())
+}
+
+/// The same, told by the set's own kind.
+fn kind_is_ldexp_of_scalars(rt: &impl Abort, alloc: Global, set: AnyOverloadSet) -> bool {
+    match &set {
+        AnyOverloadSet::List(set) => is_ldexp_of_scalars(rt, alloc, set),
+        AnyOverloadSet::Regular(set) => is_ldexp_of_scalars(rt, alloc, set),
+    }
+}
+
+const LDEXP: Told = Told {
+    arguments: 2,
+    preferred: (SCALAR, Scalar::F32),
+    rules: 3,
+    second: 3,
+};
+
+/// What is left after an integer literal as the second argument.
+fn after_literal(rt: &impl Abort, alloc: Global, function: MathFunction) -> AnyOverloadSet {
+    narrowed(rt, alloc, function).expect(rt, WANT)
 }
 
 #[test]
-fn a_regular_set_narrows_by_its_second_argument(rt: HostRuntime) -> Result<(), Fail> {
-    let arenas = Arenas::new(rt.alloc());
-    let left = narrowed(&rt, rt.alloc(), MathFunction::Max, &arenas.types)?;
-    let told = tell_kind(rt.alloc(), &left, arenas.ctx())?.expect(&rt, "a rule is left");
-    assert_eq!(rt; told.rules.len(), 9);
-    assert!(rt; concludes(&told.preferred, (SCALAR, Scalar::I32)));
-    assert!(rt; told.least == 2 && told.greatest == 2 && told.second.len() == 9);
-    Ok(())
+fn a_list_narrows_by_its_second_argument(rt: HostRuntime) {
+    let left = after_literal(&rt, rt.alloc(), MathFunction::Ldexp);
+    kind_tells(&rt, rt.alloc(), left, LDEXP);
+    let left = after_literal(&rt, rt.alloc(), MathFunction::Ldexp);
+    assert!(rt; kind_is_ldexp_of_scalars(&rt, rt.alloc(), left));
 }
 
 #[test]
-fn a_set_of_either_kind_is_told_alike(rt: HostRuntime) -> Result<(), Fail> {
-    let arenas = Arenas::new(rt.alloc());
-    let left = narrowed(&rt, rt.alloc(), MathFunction::Ldexp, &arenas.types)?;
-    let told = tell(rt.alloc(), &left, arenas.ctx())?.expect(&rt, "a rule is left");
-    assert!(rt; is_ldexp_of_scalars(&told));
-    let left = narrowed(&rt, rt.alloc(), MathFunction::Step, &arenas.types)?;
-    let told = tell(rt.alloc(), &left, arenas.ctx())?.expect(&rt, "a rule is left");
-    assert!(rt; concludes(&told.preferred, (SCALAR, Scalar::F32)));
-    assert_eq!(rt; told.rules.len(), 3);
-    Ok(())
+fn a_regular_set_narrows_by_its_second_argument(rt: HostRuntime) {
+    let wanted = Told {
+        arguments: 2,
+        preferred: (SCALAR, Scalar::I32),
+        rules: 9,
+        second: 9,
+    };
+    let left = after_literal(&rt, rt.alloc(), MathFunction::Max);
+    kind_tells(&rt, rt.alloc(), left, wanted);
+}
+
+#[test]
+fn a_set_of_either_kind_is_told_alike(rt: HostRuntime) {
+    let left = after_literal(&rt, rt.alloc(), MathFunction::Ldexp);
+    tells(&rt, rt.alloc(), &left, LDEXP);
+    assert!(rt; is_ldexp_of_scalars(&rt, rt.alloc(), &left));
+    let left = after_literal(&rt, rt.alloc(), MathFunction::Step);
+    let wanted = Told {
+        arguments: 2,
+        preferred: (SCALAR, Scalar::F32),
+        rules: 3,
+        second: 3,
+    };
+    tells(&rt, rt.alloc(), &left, wanted);
 }
 
 /// Builtins with sets of many rules, and how many they have.
@@ -126,39 +127,38 @@ static COUNTS: [(MathFunction, usize); 8] = [
     (MathFunction::Mix, 32),
 ];
 
+/// How many rules the builtin has.
+fn rule_count(rt: &impl Abort, alloc: Global, function: MathFunction) -> usize {
+    let set = function.overloads(alloc).expect(rt, WANT);
+    listed(rt, alloc, &set).len()
+}
+
 #[test]
-fn sets_of_many_rules_are_listed(rt: HostRuntime) -> Result<(), Fail> {
-    let arenas = Arenas::new(rt.alloc());
+fn sets_of_many_rules_are_listed(rt: HostRuntime) {
     for (function, count) in &COUNTS {
-        let set = function.overloads(rt.alloc())?;
-        assert_eq!(rt; set.overload_list(rt.alloc(), arenas.ctx())?.len(), *count);
+        assert!(rt; rule_count(&rt, rt.alloc(), *function) == *count);
     }
-    Ok(())
 }
 
 /// What is left of insertBits after four arguments.
-fn inserted(
-    rt: &impl Abort,
-    alloc: Global,
-    types: &UniqueArena<Type, mark::Type>,
-) -> Result<AnyOverloadSet, AllocError> {
-    assert!(rt; types_backward(types));
+fn inserted(rt: &impl Abort, alloc: Global) -> AnyOverloadSet {
+    let types = UniqueArena::new(alloc);
     let calls = [
         SetCall::Arg(0, inner((VEC2, Scalar::I16))),
         SetCall::Arg(1, inner((VEC2, Scalar::ABSTRACT_INT))),
         SetCall::Arg(2, inner((SCALAR, Scalar::ABSTRACT_INT))),
         SetCall::Arg(3, inner((SCALAR, Scalar::U32))),
     ];
-    let set = MathFunction::InsertBits.overloads(alloc)?;
-    narrow(alloc, set, &calls, types)
+    left_after(rt, alloc, MathFunction::InsertBits, &calls, &types).expect(rt, WANT)
 }
 
 #[test]
-fn a_list_narrows_by_four_arguments(rt: HostRuntime) -> Result<(), Fail> {
-    let arenas = Arenas::new(rt.alloc());
-    let left = inserted(&rt, rt.alloc(), &arenas.types)?;
-    let told = tell_kind(rt.alloc(), &left, arenas.ctx())?.expect(&rt, "a rule is left");
-    assert!(rt; concludes(&told.preferred, (VEC2, Scalar::I16)));
-    assert!(rt; told.rules.len() == 1 && told.least == 4 && told.greatest == 4);
-    Ok(())
+fn a_list_narrows_by_four_arguments(rt: HostRuntime) {
+    let wanted = Told {
+        arguments: 4,
+        preferred: (VEC2, Scalar::I16),
+        rules: 1,
+        second: 1,
+    };
+    kind_tells(&rt, rt.alloc(), inserted(&rt, rt.alloc()), wanted);
 }

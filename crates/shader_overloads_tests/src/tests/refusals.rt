@@ -2,11 +2,11 @@
 //!
 //! With ample memory nothing is refused. Where the allocator refuses the Nth request of a test's process, the test passes still,
 //! and prints a line with `was refused`.
-use crate::tests::{Arenas, SCALAR, VEC2, inner, is_rule};
+use crate::tests::{SCALAR, VEC2, inner, is_rule, list_allowed, list_rules, narrowed};
 use shader_arena::UniqueArena;
 use shader_ir::{MathFunction, Scalar, Type, mark, types_backward};
 use shader_overloads::utils::{list, rule};
-use shader_overloads::{AnyOverloadSet, List, MathOverloads, OverloadSet, Rule, SetCall, narrow};
+use shader_overloads::{AnyOverloadSet, List, MathOverloads, OverloadSet, Rule};
 use std::alloc::{AllocError, Global};
 use std::io::Print;
 use std::process::Abort;
@@ -14,39 +14,35 @@ use std::process::Abort;
 const WANT: &str = "memory, which is refused once";
 
 fn tell<R: Abort + Print>(rt: &R, what: &str) {
-    println!(rt; "{what} was refused").expect(rt, "standard output");
+    rt.println(what).expect(rt, "standard output");
 }
 
 fn rules_of_refract<R: Abort + Print>(rt: &R, alloc: Global) -> AnyOverloadSet {
     match MathFunction::Refract.overloads(alloc) {
         Ok(set) => set,
         Err(AllocError) => {
-            tell(rt, "overloads");
+            tell(rt, "overloads was refused");
             MathFunction::Refract.overloads(alloc).expect(rt, WANT)
         }
     }
 }
 
 fn listed<R: Abort + Print>(rt: &R, alloc: Global, set: &AnyOverloadSet) -> Vec<Rule> {
-    let arenas = Arenas::new(alloc);
-    match set.overload_list(alloc, arenas.ctx()) {
+    match list_rules(alloc, set) {
         Ok(rules) => rules,
         Err(AllocError) => {
-            tell(rt, "overload_list");
-            set.overload_list(alloc, arenas.ctx()).expect(rt, WANT)
+            tell(rt, "overload_list was refused");
+            list_rules(alloc, set).expect(rt, WANT)
         }
     }
 }
 
 fn allowed<R: Abort + Print>(rt: &R, alloc: Global, set: &AnyOverloadSet) -> usize {
-    let arenas = Arenas::new(alloc);
-    match set.allowed_args(alloc, 0, arenas.ctx()) {
+    match list_allowed(alloc, set, 0) {
         Ok(types) => types.len(),
         Err(AllocError) => {
-            tell(rt, "allowed_args");
-            set.allowed_args(alloc, 0, arenas.ctx())
-                .expect(rt, WANT)
-                .len()
+            tell(rt, "allowed_args was refused");
+            list_allowed(alloc, set, 0).expect(rt, WANT).len()
         }
     }
 }
@@ -56,7 +52,7 @@ fn preferred<R: Abort + Print>(rt: &R, alloc: Global, set: &AnyOverloadSet) -> u
     match set.most_preferred(alloc) {
         Ok(rule) => rule.arguments.len(),
         Err(AllocError) => {
-            tell(rt, "most_preferred");
+            tell(rt, "most_preferred was refused");
             set.most_preferred(alloc).expect(rt, WANT).arguments.len()
         }
     }
@@ -64,9 +60,9 @@ fn preferred<R: Abort + Print>(rt: &R, alloc: Global, set: &AnyOverloadSet) -> u
 
 /// Asserts that what a set tells of its first argument and its preferred rule goes on after a refusal.
 fn tells_again<R: Abort + Print>(rt: &R, alloc: Global, set: &AnyOverloadSet, rules: usize) {
-    assert_eq!(rt; listed(rt, alloc, set).len(), rules);
-    assert_eq!(rt; allowed(rt, alloc, set), rules);
-    assert_eq!(rt; preferred(rt, alloc, set), 2);
+    assert!(rt; listed(rt, alloc, set).len() == rules);
+    assert!(rt; allowed(rt, alloc, set) == rules);
+    assert!(rt; preferred(rt, alloc, set) == 2);
 }
 
 #[test]
@@ -115,33 +111,16 @@ fn supplied<R: Abort>(
     set.arg(alloc, 1, &inner((SCALAR, Scalar::ABSTRACT_INT)), types)
 }
 
-/// The same by one call for all arguments, and with none abstract.
-fn narrowed<R: Abort>(
-    rt: &R,
-    alloc: Global,
-    function: MathFunction,
-    types: &UniqueArena<Type, mark::Type>,
-) -> Result<AnyOverloadSet, AllocError> {
-    assert!(rt; types_backward(types));
-    let calls = [
-        SetCall::Arg(1, inner((SCALAR, Scalar::ABSTRACT_INT))),
-        SetCall::ConcreteOnly,
-    ];
-    let set = function.overloads(alloc)?;
-    narrow(alloc, set, &calls, types)
-}
-
 fn made_of<R: Abort>(
     rt: &R,
     alloc: Global,
     function: MathFunction,
     way: Way,
 ) -> Result<AnyOverloadSet, AllocError> {
-    let arenas = Arenas::new(alloc);
     match way {
         Way::Copied => copied(alloc, function),
-        Way::Supplied => supplied(rt, alloc, function, &arenas.types),
-        Way::Narrowed => narrowed(rt, alloc, function, &arenas.types),
+        Way::Supplied => supplied(rt, alloc, function, &UniqueArena::new(alloc)),
+        Way::Narrowed => narrowed(rt, alloc, function),
     }
 }
 
@@ -150,11 +129,11 @@ fn makes_again<R: Abort + Print>(rt: &R, alloc: Global, function: MathFunction, 
     let set = match made_of(rt, alloc, function, way) {
         Ok(set) => set,
         Err(AllocError) => {
-            tell(rt, "a set");
+            tell(rt, "a set was refused");
             made_of(rt, alloc, function, way).expect(rt, WANT)
         }
     };
-    assert_eq!(rt; preferred(rt, alloc, &set), 2);
+    assert!(rt; preferred(rt, alloc, &set) == 2);
 }
 
 #[test]
@@ -174,7 +153,7 @@ fn made_again_if_refused<R: Abort + Print>(rt: &R, alloc: Global) -> Rule {
     match made(alloc) {
         Ok(rule) => rule,
         Err(AllocError) => {
-            tell(rt, "rule");
+            tell(rt, "rule was refused");
             made(alloc).expect(rt, WANT)
         }
     }
@@ -184,7 +163,7 @@ fn copied_again_if_refused<R: Abort + Print>(rt: &R, alloc: Global, rule: &Rule)
     match rule.copy(alloc) {
         Ok(rule) => rule,
         Err(AllocError) => {
-            tell(rt, "copy of a rule");
+            tell(rt, "copy of a rule was refused");
             rule.copy(alloc).expect(rt, WANT)
         }
     }
@@ -221,7 +200,7 @@ fn one_rule_again_if_refused<R: Abort + Print>(
     match one_rule(rt, alloc, is_listed) {
         Ok(set) => set,
         Err(AllocError) => {
-            tell(rt, "a list");
+            tell(rt, "a list was refused");
             one_rule(rt, alloc, is_listed).expect(rt, WANT)
         }
     }

@@ -1,14 +1,16 @@
 //! Regular sets, narrowed by arguments in turn.
+ghost use Rattle.std.specs.Prelude.{◌<◌};
 
 use crate::tests::{
-    Arenas, MAT3X3, MAT4X4, Made, SCALAR, VEC2, VEC3, concludes, inner, is_rule, is_type,
+    MAT3X3, MAT4X4, Made, SCALAR, VEC2, VEC3, WANT, allowed, concludes, inner, is_rule, is_type,
+    listed, prefers,
 };
 use bitflags::Flags;
 use shader_arena::UniqueArena;
 use shader_ir::Scalar;
 use shader_overloads::{ConclusionRule, ConstructorSet, OverloadSet, Regular, Rule, ScalarSet};
-use std::alloc::{AllocError, Global};
-use std::test::Fail;
+use std::alloc::Global;
+use std::process::Abort;
 
 /// Two arguments, and the conclusion where a rule is left.
 static OF_TWO: [(Made, Made, Option<Made>); 17] = [
@@ -71,82 +73,64 @@ static OF_TWO: [(Made, Made, Option<Made>); 17] = [
     ((SCALAR, Scalar::I32), (SCALAR, Scalar::U32), None),
 ];
 
-#[tactic(auto, unfolding(shader_overloads::specs::Constructors::all_constructors))]
+/// The rules whose arguments all have one of the types, which they conclude.
+fn regular(arity: usize, constructors: ConstructorSet, scalars: ScalarSet) -> Regular
+    requires { 0 < arity }
+{
+    Regular::new(arity, constructors, scalars, ConclusionRule::ArgumentType)
+}
+
 fn scalars_of_one() -> Regular {
-    Regular::new(
-        1,
-        ConstructorSet::SCALAR,
-        ScalarSet::NUMERIC,
-        ConclusionRule::ArgumentType,
-    )
+    regular(1, ConstructorSet::SCALAR, ScalarSet::NUMERIC)
 }
 
-#[tactic(auto, unfolding(shader_overloads::specs::Constructors::all_constructors))]
 fn of_one() -> Regular {
-    Regular::new(
-        1,
-        ConstructorSet::SCALAR_OR_VECN,
-        ScalarSet::NUMERIC,
-        ConclusionRule::ArgumentType,
-    )
+    regular(1, ConstructorSet::SCALAR_OR_VECN, ScalarSet::NUMERIC)
 }
 
-#[tactic(auto, unfolding(shader_overloads::specs::Constructors::all_constructors))]
 fn of_two() -> Regular {
-    Regular::new(
-        2,
-        ConstructorSet::SCALAR_OR_VECN,
-        ScalarSet::NUMERIC,
-        ConclusionRule::ArgumentType,
-    )
+    regular(2, ConstructorSet::SCALAR_OR_VECN, ScalarSet::NUMERIC)
 }
 
-/// The rules that take a value of the type as their first argument.
-fn after_one(alloc: Global, set: &Regular, made: Made) -> Result<Regular, AllocError> {
+/// The rules that take a value of the type as their argument of the place.
+fn after(rt: &impl Abort, alloc: Global, set: Regular, place: usize, made: Made) -> Regular {
     let types = UniqueArena::new(alloc);
-    set.arg(alloc, 0, &inner(made), &types)
+    set.arg(alloc, place, &inner(made), &types).expect(rt, WANT)
 }
 
 /// Whether the preferred rule of the set concludes so, or the set is empty where none is wanted.
-fn prefers(alloc: Global, set: &Regular, wanted: Option<Made>) -> Result<bool, AllocError> {
-    if set.is_empty() {
-        return Ok(wanted.is_none());
-    }
-    let rule = set.most_preferred(alloc)?;
+fn is_left(rt: &impl Abort, alloc: Global, set: Regular, wanted: Option<Made>) -> bool {
     match wanted {
-        Some(wanted) => Ok(concludes(&rule, wanted)),
-        None => Ok(false),
+        Some(wanted) => prefers(rt, alloc, &set, wanted),
+        None => set.is_empty(),
     }
 }
 
 #[test]
-fn one_argument_narrows_scalars(rt: HostRuntime) -> Result<(), Fail> {
-    let set = scalars_of_one();
-    let unsigned = after_one(rt.alloc(), &set, (SCALAR, Scalar::U32))?;
-    assert!(rt; prefers(rt.alloc(), &unsigned, Some((SCALAR, Scalar::U32)))?);
-    assert!(rt; after_one(rt.alloc(), &set, (SCALAR, Scalar::BOOL))?.is_empty());
-    Ok(())
+fn one_argument_narrows_scalars(rt: HostRuntime) {
+    let unsigned = after(&rt, rt.alloc(), scalars_of_one(), 0, (SCALAR, Scalar::U32));
+    assert!(rt; is_left(&rt, rt.alloc(), unsigned, Some((SCALAR, Scalar::U32))));
+    let logical = after(&rt, rt.alloc(), scalars_of_one(), 0, (SCALAR, Scalar::BOOL));
+    assert!(rt; is_left(&rt, rt.alloc(), logical, None));
 }
 
 #[test]
-fn one_argument_narrows_vectors(rt: HostRuntime) -> Result<(), Fail> {
-    let set = of_one();
-    let double = after_one(rt.alloc(), &set, (VEC3, Scalar::F64))?;
-    assert!(rt; prefers(rt.alloc(), &double, Some((VEC3, Scalar::F64)))?);
-    assert!(rt; after_one(rt.alloc(), &set, (VEC3, Scalar::BOOL))?.is_empty());
-    assert!(rt; after_one(rt.alloc(), &set, (MAT3X3, Scalar::F32))?.is_empty());
-    Ok(())
+fn one_argument_narrows_vectors(rt: HostRuntime) {
+    let double = after(&rt, rt.alloc(), of_one(), 0, (VEC3, Scalar::F64));
+    assert!(rt; is_left(&rt, rt.alloc(), double, Some((VEC3, Scalar::F64))));
+    let logical = after(&rt, rt.alloc(), of_one(), 0, (VEC3, Scalar::BOOL));
+    assert!(rt; is_left(&rt, rt.alloc(), logical, None));
+    let matrix = after(&rt, rt.alloc(), of_one(), 0, (MAT3X3, Scalar::F32));
+    assert!(rt; is_left(&rt, rt.alloc(), matrix, None));
 }
 
 #[test]
-fn two_arguments_narrow(rt: HostRuntime) -> Result<(), Fail> {
-    for row in &OF_TWO {
-        let types = UniqueArena::new(rt.alloc());
-        let left = after_one(rt.alloc(), &of_two(), row.0)?;
-        let left = left.arg(rt.alloc(), 1, &inner(row.1), &types)?;
-        assert!(rt; prefers(rt.alloc(), &left, row.2)?);
+fn two_arguments_narrow(rt: HostRuntime) {
+    for (first, second, wanted) in &OF_TWO {
+        let left = after(&rt, rt.alloc(), of_two(), 0, *first);
+        let left = after(&rt, rt.alloc(), left, 1, *second);
+        assert!(rt; is_left(&rt, rt.alloc(), left, *wanted));
     }
-    Ok(())
 }
 
 /// The constructors first, and then the scalars.
@@ -157,34 +141,37 @@ static LISTED: [Made; 4] = [
     (VEC3, Scalar::F32),
 ];
 
-#[tactic(auto, unfolding(shader_overloads::specs::Constructors::all_constructors))]
 fn vectors_of_floats() -> Regular {
-    Regular::new(
+    regular(
         2,
         ConstructorSet::VEC2 | ConstructorSet::VEC3,
         ScalarSet::ABSTRACT_FLOAT | ScalarSet::F32,
-        ConclusionRule::ArgumentType,
     )
 }
 
-#[test]
-fn rules_are_listed_by_constructors(rt: HostRuntime) -> Result<(), Fail> {
-    let arenas = Arenas::new(rt.alloc());
-    let rules = vectors_of_floats().overload_list(rt.alloc(), arenas.ctx())?;
-    assert_eq!(rt; rules.len(), 4);
-    for (rule, made) in rules.iter().zip(LISTED.iter()) {
-        assert!(rt; is_rule(rule, *made, *made, *made));
+/// Whether these are rules of two arguments, each of which concludes their type.
+fn are_rules(rules: &[Rule], types: &[Made]) -> bool {
+    for (rule, made) in rules.iter().zip(types.iter()) {
+        if !is_rule(rule, *made, *made, *made) {
+            return false;
+        }
     }
-    Ok(())
+    rules.len() == types.len()
+}
+
+#[test]
+fn rules_are_listed_by_constructors(rt: HostRuntime) {
+    let rules = listed(&rt, rt.alloc(), &vectors_of_floats());
+    assert!(rt; rules.len() == 4);
+    assert!(rt; are_rules(rules.as_slice(), &LISTED));
 }
 
 /// All thirteen constructors and all twelve scalars.
 fn of_all() -> Regular {
-    Regular::new(
+    regular(
         1,
         ConstructorSet::from_bits_retain(0x1fff),
         ScalarSet::from_bits_retain(0xfff),
-        ConclusionRule::ArgumentType,
     )
 }
 
@@ -200,44 +187,26 @@ fn keeps(rule: Option<&Rule>, made: Made) -> bool {
 }
 
 #[test]
-fn all_rules_are_listed(rt: HostRuntime) -> Result<(), Fail> {
-    let arenas = Arenas::new(rt.alloc());
-    let rules = of_all().overload_list(rt.alloc(), arenas.ctx())?;
-    assert_eq!(rt; rules.len(), 156);
+fn all_rules_are_listed(rt: HostRuntime) {
+    let rules = listed(&rt, rt.alloc(), &of_all());
+    assert!(rt; rules.len() == 156);
     assert!(rt; keeps(rules.first(), (SCALAR, Scalar::ABSTRACT_INT)));
     assert!(rt; keeps(rules.last(), (MAT4X4, Scalar::BOOL)));
-    Ok(())
-}
-
-#[tactic(auto, unfolding(shader_overloads::specs::Constructors::all_constructors))]
-fn nothing() -> Regular {
-    Regular::EMPTY
 }
 
 #[test]
-fn a_copy_is_equal(rt: HostRuntime) -> Result<(), Fail> {
-    let arenas = Arenas::new(rt.alloc());
-    let copy = vectors_of_floats().copy(rt.alloc())?;
-    assert_eq!(rt; copy.overload_list(rt.alloc(), arenas.ctx())?.len(), 4);
-    assert!(rt; nothing().is_empty());
-    Ok(())
+fn a_copy_is_equal(rt: HostRuntime) {
+    let copy = vectors_of_floats().copy(rt.alloc()).expect(&rt, WANT);
+    assert!(rt; listed(&rt, rt.alloc(), &copy).len() == 4);
+    assert!(rt; Regular::EMPTY.is_empty());
 }
 
-#[tactic(auto, unfolding(shader_overloads::specs::Constructors::all_constructors))]
 fn of_five() -> Regular {
-    Regular::new(
-        5,
-        ConstructorSet::SCALAR,
-        ScalarSet::F32,
-        ConclusionRule::ArgumentType,
-    )
+    regular(5, ConstructorSet::SCALAR, ScalarSet::F32)
 }
 
 #[test]
-fn a_fifth_argument_is_allowed_and_no_sixth(rt: HostRuntime) -> Result<(), Fail> {
-    let arenas = Arenas::new(rt.alloc());
-    let set = of_five();
-    assert_eq!(rt; set.allowed_args(rt.alloc(), 4, arenas.ctx())?.len(), 1);
-    assert!(rt; set.allowed_args(rt.alloc(), 5, arenas.ctx())?.is_empty());
-    Ok(())
+fn a_fifth_argument_is_allowed_and_no_sixth(rt: HostRuntime) {
+    assert!(rt; allowed(&rt, rt.alloc(), &of_five(), 4).len() == 1);
+    assert!(rt; allowed(&rt, rt.alloc(), &of_five(), 5).is_empty());
 }

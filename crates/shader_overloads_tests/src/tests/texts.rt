@@ -1,12 +1,11 @@
 //! Conclusions in a module, and what is printed.
-use crate::tests::{SCALAR, VEC2, inner};
+use crate::tests::{SCALAR, VEC2, WANT, inner};
 use shader_arena::Handle;
 use shader_ir::{
     Map, MathFunction, PredeclaredType, Scalar, SpecialTypes, TypeResolution, VectorSize,
 };
 use shader_overloads::{Conclusion, MissingSpecialType};
 use std::alloc::Global;
-use std::test::Fail;
 
 fn modf() -> Conclusion {
     Conclusion::for_frexp_modf(MathFunction::Modf, VEC2, Scalar::F32)
@@ -20,19 +19,23 @@ fn nothing_registered(alloc: Global) -> SpecialTypes {
     }
 }
 
-#[test]
-fn a_plain_conclusion_is_free_standing(rt: HostRuntime) -> Result<(), Fail> {
-    let special = nothing_registered(rt.alloc());
-    let plain = Conclusion::Value(inner((SCALAR, Scalar::I32)));
-    match plain.into_resolution(&special) {
-        Ok(found) => assert!(rt; found == TypeResolution::Value(inner((SCALAR, Scalar::I32)))),
-        Err(MissingSpecialType) => assert!(rt; false),
-    }
-    Ok(())
+/// What the conclusion is in a module of these special types.
+fn resolved(
+    conclusion: Conclusion,
+    special: SpecialTypes,
+) -> Result<TypeResolution, MissingSpecialType> {
+    conclusion.into_resolution(&special)
 }
 
 #[test]
-fn a_predeclared_conclusion_is_registered(rt: HostRuntime) -> Result<(), Fail> {
+fn a_plain_conclusion_is_free_standing(rt: HostRuntime) {
+    let plain = Conclusion::Value(inner((SCALAR, Scalar::I32)));
+    let found = resolved(plain, nothing_registered(rt.alloc())).ok();
+    assert!(rt; found == Some(TypeResolution::Value(inner((SCALAR, Scalar::I32)))));
+}
+
+#[test]
+fn a_predeclared_conclusion_is_registered(rt: HostRuntime) {
     let mut special = nothing_registered(rt.alloc());
     let key = PredeclaredType::ModfResult {
         size: Some(VectorSize::Bi),
@@ -40,26 +43,16 @@ fn a_predeclared_conclusion_is_registered(rt: HostRuntime) -> Result<(), Fail> {
     };
     special
         .predeclared_types
-        .insert(key, Handle::from_index(4))?;
-    match modf().into_resolution(&special) {
-        Ok(found) => assert!(rt; found == TypeResolution::Handle(Handle::from_index(4))),
-        Err(MissingSpecialType) => assert!(rt; false),
-    }
-    Ok(())
+        .insert(key, Handle::from_index(4))
+        .expect(&rt, WANT);
+    let found = resolved(modf(), special).ok();
+    assert!(rt; found == Some(TypeResolution::Handle(Handle::from_index(4))));
 }
 
 #[test]
-fn a_missing_type_is_told(rt: HostRuntime) -> Result<(), Fail> {
-    let special = nothing_registered(rt.alloc());
-    match modf().into_resolution(&special) {
-        Ok(_) => assert!(rt; false),
-        Err(error) => {
-            let text = format!(in rt.alloc(); "{error}")?;
-            assert_eq!(rt;
-                text.as_str(),
-                "Special type is not registered within the module"
-            );
-        }
-    }
-    Ok(())
+fn a_missing_type_is_told(rt: HostRuntime) {
+    let found = resolved(modf(), nothing_registered(rt.alloc()));
+    let error = found.err().expect(&rt, "a type that is missing");
+    let text = format!(in rt.alloc(); "{error}").expect(&rt, WANT);
+    assert!(rt; text.as_str() == "Special type is not registered within the module");
 }

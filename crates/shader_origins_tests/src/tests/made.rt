@@ -1,0 +1,159 @@
+//! Modules that are asked, told by values that are copied.
+use shader_arena::Handle;
+use shader_ir::{
+    BinaryOperator, Binding, Block, BuiltIn, EntryPoint, Expression, Function, FunctionArgument,
+    Items, Literal, Module, Name, Scalar, ShaderStage, Statement, Type, TypeInner, mark,
+};
+use std::alloc::{AllocError, Global};
+use std::process::Abort;
+
+/// What a test says that fails for want of memory alone.
+pub const WANT: &str = "want of memory";
+
+/// A function that takes one value.
+#[derive(Clone, Copy)]
+pub enum Kind {
+    /// Gives its argument back.
+    Giving,
+    /// Gives a literal back.
+    Literal,
+    /// Adds a literal to its argument, and to that sum, and gives nothing back.
+    Adding,
+    /// Gives the sum of a literal and of its argument back.
+    Summing,
+    /// Passes a literal to a function, and adds the literal to what that gives back.
+    Asking(u32),
+    /// Passes a literal to a function, whose result it leaves.
+    Leaving(u32),
+}
+
+/// The expression at a place.
+pub fn at(place: u32) -> Handle<mark::Expression> {
+    Handle::from_index(place)
+}
+
+/// A literal, which is the same in all invocations.
+fn number() -> Expression {
+    Expression::Literal(Literal::U32(7))
+}
+
+fn sum(left: u32, right: u32) -> Expression {
+    Expression::Binary {
+        op: BinaryOperator::Add,
+        left: at(left),
+        right: at(right),
+    }
+}
+
+fn expressions(alloc: Global, kind: Kind) -> Result<Vec<Expression>, AllocError> {
+    let taken = Expression::FunctionArgument(0);
+    Ok(match kind {
+        Kind::Giving => vec![in alloc; taken]?,
+        Kind::Literal | Kind::Leaving(_) => vec![in alloc; number()]?,
+        Kind::Adding => vec![in alloc; number(), taken, sum(0, 1), sum(0, 2)]?,
+        Kind::Summing => vec![in alloc; number(), taken, sum(0, 1)]?,
+        Kind::Asking(callee) => {
+            let given = Expression::CallResult(Handle::from_index(callee));
+            vec![in alloc; number(), given, sum(0, 1)]?
+        }
+    })
+}
+
+fn returns(place: u32) -> Statement {
+    Statement::Return {
+        value: Some(at(place)),
+    }
+}
+
+/// Passes the first expression to a function.
+fn call(
+    alloc: Global,
+    function: u32,
+    taken: Option<Handle<mark::Expression>>,
+) -> Result<Statement, AllocError> {
+    Ok(Statement::Call {
+        function: Handle::from_index(function),
+        arguments: Items::from(vec![in alloc; at(0)]?),
+        result: taken,
+    })
+}
+
+fn statements(alloc: Global, kind: Kind) -> Result<Vec<Statement>, AllocError> {
+    Ok(match kind {
+        Kind::Giving | Kind::Literal => vec![in alloc; returns(0)]?,
+        Kind::Adding => Vec::new(alloc),
+        Kind::Summing => vec![in alloc; returns(2)]?,
+        Kind::Asking(callee) => vec![in alloc; call(alloc, callee, Some(at(1)))?]?,
+        Kind::Leaving(callee) => vec![in alloc; call(alloc, callee, None)?]?,
+    })
+}
+
+/// The function, whose argument is bound so.
+fn function(
+    rt: &impl Abort,
+    alloc: Global,
+    kind: Kind,
+    binding: Option<Binding>,
+) -> Result<Function, AllocError> {
+    let mut made = Function::new(alloc);
+    let argument = FunctionArgument {
+        name: None,
+        ty: Handle::from_index(0),
+        binding,
+    };
+    made.arguments = Items::from(vec![in alloc; argument]?);
+    for expression in expressions(alloc, kind)? {
+        assert!(rt; !made.expressions.is_full());
+        made.expressions.append(expression)?;
+    }
+    made.body = Block {
+        statements: statements(alloc, kind)?,
+    };
+    Ok(made)
+}
+
+fn add_type(rt: &impl Abort, module: &mut Module) -> Result<(), AllocError> {
+    let inner = TypeInner::Scalar(Scalar::U32);
+    assert!(rt; !module.types.is_full());
+    module.types.insert(Type { name: None, inner })?;
+    Ok(())
+}
+
+fn add_function(
+    rt: &impl Abort,
+    alloc: Global,
+    module: &mut Module,
+    kind: Kind,
+) -> Result<(), AllocError> {
+    let made = function(rt, alloc, kind, None)?;
+    assert!(rt; !module.functions.is_full());
+    module.functions.append(made)?;
+    Ok(())
+}
+
+/// A module of these functions.
+pub fn module<const N: usize>(
+    rt: &impl Abort,
+    alloc: Global,
+    kinds: [Kind; N],
+) -> Result<Module, AllocError> {
+    let mut module = Module::new(alloc);
+    add_type(rt, &mut module)?;
+    for kind in kinds {
+        add_function(rt, alloc, &mut module, kind)?;
+    }
+    Ok(module)
+}
+
+/// A module of one entry point, which gives back the sum of a literal and of its argument, a built-in.
+pub fn entry(rt: &impl Abort, alloc: Global, built_in: BuiltIn) -> Module {
+    let binding = Some(Binding::BuiltIn(built_in));
+    let entry = EntryPoint {
+        name: Name::from("main".to_string(alloc).expect(rt, WANT)),
+        stage: ShaderStage::Compute,
+        function: function(rt, alloc, Kind::Summing, binding).expect(rt, WANT),
+    };
+    let mut module = module(rt, alloc, []).expect(rt, WANT);
+    module.entry_points = Items::from(vec![in alloc; entry].expect(rt, WANT));
+    module
+}
