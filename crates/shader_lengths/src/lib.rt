@@ -5,8 +5,6 @@ mod error;
 mod indexes;
 pub mod laws;
 mod lengths;
-#[cfg(test)]
-mod tests;
 
 pub use error::IndexableLengthError;
 pub use indexes::known_index_among;

@@ -7,7 +7,7 @@
 ghost use Rattle.std.specs.Prelude.{◌≡◌, IfOk, length};
 
 use crate::tests::Item;
-use crate::{AllocFailed, Arena, Handle, HandleSet, HandleVec, UniqueArena};
+use shader_arena::{AllocFailed, Arena, Handle, HandleSet, HandleVec, UniqueArena};
 use std::alloc::Global;
 use std::io::Print;
 use std::process::Abort;

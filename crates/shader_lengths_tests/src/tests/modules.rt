@@ -19,11 +19,14 @@ pub fn add_type(rt: &impl Abort, module: &mut Module, inner: TypeInner) -> Handl
     added.expect(rt, WANT)
 }
 
-pub fn add_f32(rt: &impl Abort, module: &mut Module) -> Handle<mark::Type> {
-    add_type(rt, module, TypeInner::Scalar(Scalar::F32))
+/// A module of a float, which stands at the first handle.
+pub fn of_f32(rt: &impl Abort, alloc: Global) -> Module {
+    let mut module = Module::new(alloc);
+    add_type(rt, &mut module, TypeInner::Scalar(Scalar::F32));
+    module
 }
 
-pub fn add_expression(
+fn add_expression(
     rt: &impl Abort,
     expressions: &mut Expressions,
     expression: Expression,
@@ -39,51 +42,49 @@ pub fn only(rt: &impl Abort, alloc: Global, expression: Expression) -> Expressio
     expressions
 }
 
-pub fn add_literal(
-    rt: &impl Abort,
-    module: &mut Module,
-    literal: Literal,
-) -> Handle<mark::Expression> {
-    add_expression(
-        rt,
-        &mut module.global_expressions,
-        Expression::Literal(literal),
-    )
+fn add_literal(rt: &impl Abort, module: &mut Module, literal: Literal) -> Handle<mark::Expression> {
+    let literal = Expression::Literal(literal);
+    add_expression(rt, &mut module.global_expressions, literal)
 }
 
-pub fn add_constant(
-    rt: &impl Abort,
-    module: &mut Module,
-    init: Handle<mark::Expression>,
-) -> Handle<mark::Constant> {
+fn add_constant(rt: &impl Abort, module: &mut Module, init: Handle<mark::Expression>) {
     assert!(rt; module.constants.len() < 100);
     let constant = Constant {
         name: None,
         ty: Handle::from_index(0),
         init,
     };
-    module.constants.append(constant).expect(rt, WANT)
+    module.constants.append(constant).expect(rt, WANT);
 }
 
-/// Adds an override, and answers the size of an array that it sizes.
-pub fn add_size(
-    rt: &impl Abort,
-    module: &mut Module,
-    init: Option<Handle<mark::Expression>>,
-) -> ArraySize {
+/// Adds an override of a literal or of no value.
+pub fn add_size(rt: &impl Abort, module: &mut Module, value: Option<Literal>) {
+    let init = match value {
+        Some(literal) => Some(add_literal(rt, module, literal)),
+        None => None,
+    };
     assert!(rt; module.overrides.len() < 100);
     let sizer = Override {
         name: None,
         ty: Handle::from_index(0),
         init,
     };
-    ArraySize::Pending(module.overrides.append(sizer).expect(rt, WANT))
+    module.overrides.append(sizer).expect(rt, WANT);
 }
 
-/// Adds an override of a literal, and answers the size of an array that it sizes.
-pub fn add_sized_by(rt: &impl Abort, module: &mut Module, literal: Literal) -> ArraySize {
-    let init = add_literal(rt, module, literal);
-    add_size(rt, module, Some(init))
+/// A module whose constants are 2, -1 and the first constant, and whose overrides are 6 and one without a value.
+pub fn of_numbers(rt: &impl Abort, alloc: Global) -> Module {
+    let mut module = Module::new(alloc);
+    let two = add_literal(rt, &mut module, Literal::I32(2));
+    add_constant(rt, &mut module, two);
+    let negative = add_literal(rt, &mut module, Literal::I32(-1));
+    add_constant(rt, &mut module, negative);
+    let first = Expression::Constant(Handle::from_index(0));
+    let step = add_expression(rt, &mut module.global_expressions, first);
+    add_constant(rt, &mut module, step);
+    add_size(rt, &mut module, Some(Literal::U16(6)));
+    add_size(rt, &mut module, None);
+    module
 }
 
 /// The size of an array of so many items.
@@ -92,18 +93,18 @@ pub fn counted(rt: &impl Abort, count: u32) -> ArraySize {
 }
 
 /// An array of what stands at the first handle.
-pub fn array(size: &ArraySize) -> TypeInner {
+pub fn array(size: ArraySize) -> TypeInner {
     TypeInner::Array {
         base: Handle::from_index(0),
-        size: *size,
+        size,
         stride: 4,
     }
 }
 
 /// A binding array of what stands at the first handle.
-pub fn binding_array(size: &ArraySize) -> TypeInner {
+pub fn binding_array(size: ArraySize) -> TypeInner {
     TypeInner::BindingArray {
         base: Handle::from_index(0),
-        size: *size,
+        size,
     }
 }
