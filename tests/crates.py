@@ -131,7 +131,7 @@ class Edit:
         # None where the edit changes more than functions.
         self.functions = {it.key(): it for it in found} if all(found) else {}
         self.constants = set() if self.functions else constants_of(text, self.pairs)
-        self.is_refused, self.seconds = False, 0.0
+        self.is_refused, self.is_kept, self.seconds = False, False, 0.0
 
     def fits_in(self, text):
         """Returns whether each old text stands exactly once in a text, as in that of its file that other edits have changed."""
