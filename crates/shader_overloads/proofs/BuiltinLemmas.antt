@@ -1,7 +1,7 @@
 -- What holds of each builtin: the arguments of its rules, and the group that it is in.
-use Rattle.std.proofs.Common.{◌≡◌, ◌∙◌, ap, zero, suc, Bool, true, false, not, List, [], ◌∷◌, Option, Some, None, refl, arith}
+use Rattle.std.proofs.Common.{◌≡◌, zero, suc, Bool, true, false, not, List, [], ◌∷◌, Option, Some, None, refl, arith}
 use Rattle.std.specs.List.{All, list_all}
-use Rattle.std.specs.Option.{MatchOption, option_or}
+use Rattle.std.specs.Option.{option_or}
 use Rattle.std.proofs.lemmas.Bool.{and_parts, both_ways}
 use Rattle.shader_ir.specs.declared.operators.MathFunction.{MathFunction}
 use Rattle.shader_ir.specs.declared.operators.MathFunction.TheVariants as f
@@ -156,11 +156,15 @@ pub groups_joined : (function : MathFunction)
 groups_joined f.Ldexp = refl
 groups_joined _ = refl
 
--- the first of two, where P is what is known when the former gives none
-pub first_of : {P : Type 0} {X : Type 0} (left right found joined : Option X) → found ≡ left
-    → MatchOption found P (λ x. joined ≡ Some x) → (P → joined ≡ right) → joined ≡ option_or left right
-first_of left right None joined first is next = next is ∙ ap (λ o. option_or o right) first
-first_of left right (Some x) joined first is next = is ∙ ap (λ o. option_or o right) first
+-- the rules of the first group that has the builtin are its rules
+pub joined : (function : MathFunction) {floats numbers packings vectors matrices splits : Option (List Rule)}
+    → floats ≡ rules_among float_functions function → numbers ≡ rules_among number_functions function
+    → packings ≡ rules_among packing_functions function → vectors ≡ rules_among geometric_functions function
+    → matrices ≡ rules_among matrix_functions function → splits ≡ rules_among splitting_functions function
+    → option_or (option_or (option_or (option_or (option_or floats numbers) packings) vectors) matrices) splits
+    ≡ rules_if (not (is_listed function)) function
+joined function one two three four five six =
+    rw one (rw two (rw three (rw four (rw five (rw six (groups_joined function))))))
 
 pub some_rules : (function : MathFunction) (test : Bool) (rules : List Rule) → Some rules ≡ rules_if test function →
     rules ≡ rules_of function

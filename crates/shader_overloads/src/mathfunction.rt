@@ -190,16 +190,27 @@ fn splitting_set(function: MathFunction) -> Option<Regular>
 }
 
 /// The set of a builtin that takes all combinations of some constructors and some scalars.
+// By `match`, since closures of `or_else` are calls where several places make sets.
 #[inline(always)]
 fn regular_set(function: MathFunction) -> Option<Regular>
     ensures { result ≡ rules_if (not (is_listed function)) function }
 {
-    float_set(function)
-        .or_else(|| number_set(function))
-        .or_else(|| packing_set(function))
-        .or_else(|| geometric_set(function))
-        .or_else(|| matrix_set(function))
-        .or_else(|| splitting_set(function))
+    match float_set(function) {
+        Some(set) => Some(set),
+        None => match number_set(function) {
+            Some(set) => Some(set),
+            None => match packing_set(function) {
+                Some(set) => Some(set),
+                None => match geometric_set(function) {
+                    Some(set) => Some(set),
+                    None => match matrix_set(function) {
+                        Some(set) => Some(set),
+                        None => splitting_set(function),
+                    },
+                },
+            },
+        },
+    }
 }
 
 /// The overload sets of builtin functions.
@@ -209,6 +220,7 @@ pub trait MathOverloads: Sized {
 }
 
 impl MathOverloads for MathFunction {
+    #[inline(always)]
     fn overloads(self, alloc: Global) -> Result<AnyOverloadSet, AllocError>
         ensures rules { IfOk result (λ set. rules_in set ≡ rules_of self) }
         ensures kind { IfOk result (λ set. ◌≡◌ {A = List «Type» → ℕ → TypeInner → Rule → Bool} (acceptance_in set) (acceptance_of self)) }

@@ -6,7 +6,7 @@ use Rattle.shader_resolve.specs.declared.error.ResolveError.{ResolveError}
 use Rattle.shader_resolve.specs.declared.error.ResolveError.TheVariants.{OutOfMemory}
 use Rattle.shader_ir.specs.declared.expression.Expression.{Expression}
 use Rattle.shader_resolve.specs.Context.{Context}
-use Rattle.shader_resolve.specs.Follows.{Told, Answered, Follows, EachAsked}
+use Rattle.shader_resolve.specs.Follows.{Told, Answered, Follows, EachAsked, MeetsPlain}
 use Rattle.shader_resolve.specs.Outcome.{Outcome, Given, Refused, Meets, WantsMemory}
 use Rattle.shader_resolve.specs.Rows.{Row, Plain, One, Two, row}
 use Rattle.shader_resolve.specs.Typing.{told_key, standing, at_key, outcome_key, row_key, TellsKeys, HasKey, typing}
@@ -22,6 +22,13 @@ row_key-agrees types (One operand answer) keys others same = ap (λ key. at_key 
 row_key-agrees types (Two left right answer) keys others same =
     ap (λ key. at_key key (λ first. at_key (keys right) (λ second. outcome_key types (answer first second)))) same.0
     ∙ ap (λ key. at_key (others left) (λ first. at_key key (λ second. outcome_key types (answer first second)))) same.1
+
+-- a result that meets a row that asks nothing follows it
+pub plain_follows : (memory : Bool) (Post : ℕ → Told → Type 0) (result : Result TypeResolution ResolveError) (asked : Row) →
+    MeetsPlain memory result asked → Follows memory Post result asked
+plain_follows memory Post result (Plain outcome) meets = meets
+plain_follows memory Post result (One operand answer) meets = absurd meets
+plain_follows memory Post result (Two left right answer) meets = absurd meets
 
 at_key-same : (key : Option Key) (first second : TypeResolution → Option Key) → ((told : TypeResolution) → first told ≡ second told) →
     at_key key first ≡ at_key key second

@@ -17,7 +17,7 @@ use shader_ir::{
     TypeResolution, mark,
 };
 use std::alloc::Global;
-use values::scalar_type;
+use values::{copied, scalar_type};
 
 type Resolved = Result<TypeResolution, ResolveError>;
 
@@ -52,6 +52,7 @@ impl<'a> ResolveContext<'a> {
         self.resolve_row(alloc, expr, past)
     }
 
+    #[tactic(auto, using(crate::proofs::FollowLemmas::plain_follows))]
     fn resolve_row<F>(&self, alloc: Global, expr: &Expression, past: F) -> Resolved
     where
         F: Fn(Handle<mark::Expression>) -> Result<&'a TypeResolution, ResolveError>,
@@ -62,9 +63,6 @@ impl<'a> ResolveContext<'a> {
             FitsTold self.now.types told) (row self.now expr.now) }
         ensures { Follows (takes_memory expr.now) (F.post past) result (row self.now expr.now) }
     {
-        if let Some(resolved) = self.leaf_type(expr) {
-            return resolved;
-        }
         match expr {
             Expression::Access { .. }
             | Expression::AccessIndex { .. }
@@ -87,7 +85,10 @@ impl<'a> ResolveContext<'a> {
             Expression::Math { fun, arg, arg1, .. } => self.resolve_math(
                 alloc, *fun, *arg, *arg1, past,
             ),
-            _ => unreachable!(),
+            _ => match self.leaf_type(expr) {
+                Some(resolved) => resolved,
+                None => unreachable!(),
+            },
         }
     }
 
@@ -178,7 +179,7 @@ impl<'a> ResolveContext<'a> {
                 ..
             }
             | Expression::CooperativeMultiplyAdd { c: operand, .. } => {
-                Ok(past(*operand)?.copy(alloc)?)
+                Ok(copied(alloc, past(*operand)?)?)
             }
             Expression::Binary {
                 op: BinaryOperator::Multiply,

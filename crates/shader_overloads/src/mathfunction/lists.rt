@@ -11,6 +11,7 @@ use shader_ir::{MathFunction, Scalar, VectorSize};
 use std::alloc::{AllocError, Global};
 
 /// The list of a builtin that has one.
+#[inline(never)]
 pub fn listed_set(alloc: Global, function: MathFunction) -> Result<list::List, AllocError>
     requires { IsTrue (is_listed function) }
     ensures { IfOk result (λ set. set ≡ rules_of function) }

@@ -73,6 +73,7 @@ impl<'a> ResolveContext<'a> {
     ghost use Rattle.shader_resolve.specs.Outcome.{Meets};
 
     /// The type of a call, by its first argument.
+    #[inline(always)]
     pub(super) fn math_of_one(
         &self,
         alloc: Global,
@@ -88,6 +89,7 @@ impl<'a> ResolveContext<'a> {
     }
 
     /// The type of a call, by its first two arguments.
+    #[inline(always)]
     pub(super) fn math_of_two(
         &self,
         alloc: Global,
@@ -111,6 +113,7 @@ impl<'a> ResolveContext<'a> {
     }
 
     /// What the first rule of a builtin's set concludes.
+    #[inline(always)]
     fn conclude(&self, alloc: Global, fun: MathFunction, left: &AnyOverloadSet) -> Resolved
         ensures { Meets true result (first_conclusion self.now.special_types (rules_in left.now)) }
     {
@@ -121,6 +124,7 @@ impl<'a> ResolveContext<'a> {
         self.conclusion_of(rule)
     }
 
+    #[inline(always)]
     fn conclusion_of(&self, rule: Rule) -> Resolved
         ensures { Meets true result (concluded (resolution_of self.now.special_types rule.conclusion)) }
     {

@@ -4,7 +4,7 @@ ghost use Rattle.shader_resolve.specs.Operations.{cast_type, logical_type, produ
 ghost use Rattle.shader_resolve.specs.Outcome.{IncompatibleOperands, IsRefusal, Meets};
 
 use super::Resolved;
-use super::values::{cooperative_type, matrix_type, scalar_type, vector_type};
+use super::values::{cooperative_type, copied, matrix_type, scalar_type, vector_type};
 use crate::{ResolveContext, ResolveError};
 use shader_ir::{BinaryOperator, Scalar, ScalarKind, TypeInner, TypeResolution};
 use std::alloc::{AllocError, Global};
@@ -18,6 +18,7 @@ impl<'a> ResolveContext<'a> {
     ghost use Rattle.shader_resolve.specs.Outcome.{Meets};
 
     /// The type of a product.
+    #[inline(always)]
     pub(super) fn product(
         &self,
         alloc: Global,
@@ -33,6 +34,7 @@ impl<'a> ResolveContext<'a> {
     }
 
     /// The type of a binary operation that asks its left side alone.
+    #[inline(always)]
     pub(super) fn left_type(
         &self,
         alloc: Global,
@@ -53,7 +55,7 @@ impl<'a> ResolveContext<'a> {
             BinaryOperator::LogicalAnd | BinaryOperator::LogicalOr => {
                 logical(alloc, &op, self.inner(left))
             }
-            _ => Ok(left.copy(alloc)?),
+            _ => Ok(copied(alloc, left)?),
         }
     }
 }
@@ -142,9 +144,9 @@ fn product(
                 ..
             },
         ) => { Ok(vector_type(*columns, *scalar)) }
-        (TypeInner::Scalar(_), _) => Ok(right.copy(alloc)?),
+        (TypeInner::Scalar(_), _) => Ok(copied(alloc, right)?),
         (_, TypeInner::Scalar(_)) | (TypeInner::Vector { .. }, TypeInner::Vector { .. }) => {
-            Ok(left.copy(alloc)?)
+            Ok(copied(alloc, left)?)
         }
         (
             TypeInner::CooperativeMatrix {

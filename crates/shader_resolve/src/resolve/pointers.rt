@@ -13,6 +13,7 @@ impl<'a> ResolveContext<'a> {
     ghost use Rattle.shader_resolve.specs.Rows.{load_type, pointed_scalar, tile_type};
 
     /// What a pointer points to; of an atomic its scalar.
+    #[inline(always)]
     pub(super) fn load(&self, pointer: Handle<mark::Expression>, inner: &TypeInner) -> Resolved
         requires { PointsBelow (length self.now.types) inner.now }
         ensures { Meets false result (load_type pointer self.now.types inner.now) }
@@ -33,6 +34,7 @@ impl<'a> ResolveContext<'a> {
     }
 
     /// The scalar of what a pointer points to.
+    #[inline(always)]
     fn pointed_scalar(&self, inner: &TypeInner) -> Option<Scalar>
         requires { PointsBelow (length self.now.types) inner.now }
         ensures { result ≡ pointed_scalar self.now.types inner.now }
@@ -45,6 +47,7 @@ impl<'a> ResolveContext<'a> {
     }
 
     /// The cooperative matrix that is loaded through a pointer.
+    #[inline(always)]
     pub(super) fn load_tile(
         &self,
         pointer: Handle<mark::Expression>,

@@ -1,7 +1,8 @@
 //! Free-standing types.
-ghost use Rattle.std.specs.Prelude.{◌≡◌};
+ghost use Rattle.std.specs.Prelude.{◌≡◌, IfOk};
 
 use shader_ir::{CooperativeRole, CooperativeSize, Scalar, TypeInner, TypeResolution, VectorSize};
+use std::alloc::{AllocError, Global};
 
 pub fn scalar_type(scalar: Scalar) -> TypeResolution
     ensures { result ≡ TypeResolution.Value (TypeInner.Scalar scalar) }
@@ -39,4 +40,18 @@ pub fn cooperative_type(
         scalar,
         role,
     })
+}
+
+/// Returns an equal resolution. Scalars and vectors, as most operands are, are copied where the call stands.
+#[inline(always)]
+pub fn copied(alloc: Global, resolution: &TypeResolution) -> Result<TypeResolution, AllocError>
+    ensures { IfOk result (λ copy. copy ≡ resolution.now) }
+{
+    match resolution {
+        TypeResolution::Value(TypeInner::Scalar(scalar)) => Ok(scalar_type(*scalar)),
+        TypeResolution::Value(TypeInner::Vector { size, scalar }) => {
+            Ok(vector_type(*size, *scalar))
+        }
+        _ => resolution.copy(alloc),
+    }
 }

@@ -1,20 +1,35 @@
-use Rattle.std.proofs.Common.{rules, ◌∙◌}
-use Rattle.shader_overloads.specs.BuiltinGroups.{float_functions, geometric_functions, matrix_functions}
-use Rattle.shader_overloads.specs.BuiltinGroups.{number_functions, packing_functions, splitting_functions}
-use Rattle.shader_overloads.proofs.BuiltinLemmas.{first_of, groups_joined, rules_among}
+use Rattle.std.proofs.Common.{refl, sym, ◌∙◌}
+use Rattle.shader_overloads.proofs.BuiltinLemmas.{joined}
 use Rattle.shader_overloads.proofs.mathfunction.regular_set.Goals as goal
 
--- each call looks in one group more
-pub returns : goal.returns
-returns c =
-    let f = c.args.function in
-    let numbers = first_of (rules_among float_functions f) (rules_among number_functions f) c.float_set.result c.or_else.result
-    c.float_set.ensures c.or_else.ensures (λ p. search (rules, p)) in
-    let packings = first_of _ (rules_among packing_functions f) c.or_else.result c.or_else-2.result numbers c.or_else-2.ensures
-    (λ p. search (rules, p)) in
-    let vectors = first_of _ (rules_among geometric_functions f) c.or_else-2.result c.or_else-3.result packings c.or_else-3.ensures
-    (λ p. search (rules, p)) in
-    let matrices = first_of _ (rules_among matrix_functions f) c.or_else-3.result c.or_else-4.result vectors c.or_else-4.ensures
-    (λ p. search (rules, p)) in
-    first_of _ (rules_among splitting_functions f) c.or_else-4.result c.or_else-5.result matrices c.or_else-5.ensures
-    (λ p. search (rules, p)) ∙ groups_joined f
+-- none of the groups before has the builtin, and those after it aren't asked
+pub returns-in-Some : goal.returns-in-Some
+returns-in-Some c =
+    joined c.args.function (sym c.in-Some.is ∙ c.float_set.ensures) refl refl refl refl refl
+
+pub returns-in-Some-number_set : goal.returns-in-Some-number_set
+returns-in-Some-number_set c =
+    joined c.args.function (sym c.in-None.is ∙ c.float_set.ensures) (sym c.in-Some-number_set.is ∙ c.number_set.ensures) refl refl refl
+    refl
+
+pub returns-in-Some-packing_set : goal.returns-in-Some-packing_set
+returns-in-Some-packing_set c =
+    joined c.args.function (sym c.in-None.is ∙ c.float_set.ensures) (sym c.in-None-number_set.is ∙ c.number_set.ensures)
+    (sym c.in-Some-packing_set.is ∙ c.packing_set.ensures) refl refl refl
+
+pub returns-in-Some-geometric_set : goal.returns-in-Some-geometric_set
+returns-in-Some-geometric_set c =
+    joined c.args.function (sym c.in-None.is ∙ c.float_set.ensures) (sym c.in-None-number_set.is ∙ c.number_set.ensures)
+    (sym c.in-None-packing_set.is ∙ c.packing_set.ensures) (sym c.in-Some-geometric_set.is ∙ c.geometric_set.ensures) refl refl
+
+pub returns-in-Some-matrix_set : goal.returns-in-Some-matrix_set
+returns-in-Some-matrix_set c =
+    joined c.args.function (sym c.in-None.is ∙ c.float_set.ensures) (sym c.in-None-number_set.is ∙ c.number_set.ensures)
+    (sym c.in-None-packing_set.is ∙ c.packing_set.ensures) (sym c.in-None-geometric_set.is ∙ c.geometric_set.ensures)
+    (sym c.in-Some-matrix_set.is ∙ c.matrix_set.ensures) refl
+
+pub returns-in-None-matrix_set : goal.returns-in-None-matrix_set
+returns-in-None-matrix_set c =
+    joined c.args.function (sym c.in-None.is ∙ c.float_set.ensures) (sym c.in-None-number_set.is ∙ c.number_set.ensures)
+    (sym c.in-None-packing_set.is ∙ c.packing_set.ensures) (sym c.in-None-geometric_set.is ∙ c.geometric_set.ensures)
+    (sym c.in-None-matrix_set.is ∙ c.matrix_set.ensures) c.splitting_set.ensures
