@@ -27,7 +27,8 @@ requirements_text requirements =
     flag_text (codes "WORK_GROUP_BARRIER") (is_set requirements.0 1) false
     ++ flag_text (codes "DERIVATIVE") (is_set requirements.0 2) (is_set requirements.0 1)
     ++ flag_text (codes "IMPLICIT_LEVEL") (is_set requirements.0 4) (is_set requirements.0 1 || is_set requirements.0 2)
-    ++ flag_text (codes "COOP_OPS") (is_set requirements.0 8) (is_set requirements.0 1 || is_set requirements.0 2 || is_set requirements.0 4)
+    ++ flag_text (codes "COOP_OPS") (is_set requirements.0 8)
+    (is_set requirements.0 1 || is_set requirements.0 2 || is_set requirements.0 4)
 
 unfoldable pub uses_text : GlobalUse → List ℕ
 uses_text uses =

@@ -24,7 +24,8 @@ sampling_text pair = codes "{\"image\":" ++ place_text pair.0 ++ codes ",\"sampl
 -- the stages that it runs in, how uniform it is, and whether it may kill
 unfoldable pub state_text : FunctionInfo → List ℕ
 state_text info =
-    codes "{\"available_stages\":\"" ++ (stages_text info.available_stages ++ (codes "\",\"uniformity\":" ++ (uniformity_text info.uniformity
+    codes "{\"available_stages\":\"" ++ (stages_text info.available_stages
+    ++ (codes "\",\"uniformity\":" ++ (uniformity_text info.uniformity
     ++ (codes ",\"may_kill\":" ++ (bool_name info.may_kill ++ codes ",")))))
 
 -- what it does with globals

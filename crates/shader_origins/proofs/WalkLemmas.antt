@@ -93,7 +93,8 @@ module _ (m : Module) (well : IsWellFormed m) where
   falls_to at c has lt = function_below m.functions c (row_of m at) has.0 has.1 lt
 
   -- an expression that differs is within its function
-  value_falls : (at : FunctionPlace) (e : ℕ) → HasOriginAt m (link.Expression at e) → rank m (link.Expression at e) < rank m (link.Result at)
+  value_falls : (at : FunctionPlace) (e : ℕ) → HasOriginAt m (link.Expression at e) →
+      rank m (link.Expression at e) < rank m (link.Result at)
   value_falls at e has =
       let reason = origin_reason m (link.Expression at e) has in
       let inside = within m at e reason.0 reason.1 in

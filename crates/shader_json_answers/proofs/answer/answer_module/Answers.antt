@@ -11,5 +11,6 @@ returns-in-Err c =
     let fault = c.in-Err.fault in
     IfOk-weaker c.faulty.result
     (λ answer. (answer.is_accepted ≡ false) × (string_bytes answer.text ≡ codes "{\"fault\":\"" ++ (fault_name fault ++ codes "\"}\n")))
-    (λ answer. IsModuleAnswer c.args.module.now (settings_of c.args.flags c.args.capabilities) answer.is_accepted (string_bytes answer.text))
+    (λ answer.
+    IsModuleAnswer c.args.module.now (settings_of c.args.flags c.args.capabilities) answer.is_accepted (string_bytes answer.text))
     (λ answer told. inl (record { fault = fault; stands = c.in-Err.ensures.fault; refused = told.0; told = told.1 })) c.faulty.ensures

@@ -12,9 +12,12 @@ returns c =
     let info = c.args.info.now in
     let rest : c.into_iter.result ≡ c.in_ok-pairs.pairs.keys = search rules in
     let numbers =
-    YieldsList-from_map _ sampling_numbers (YieldsList-at c.map.ensures.source (YieldsList-from_rest info.sampling.keys c.iter.ensures.rest))
+    YieldsList-from_map _ sampling_numbers
+    (YieldsList-at c.map.ensures.source (YieldsList-from_rest info.sampling.keys c.iter.ensures.rest))
     c.map.ensures.closure (λ x r q k. search (rules, tests)) in
-    let made = fact_from_collect {E = Unit {0}} (IsFromIterResult sampling_cmp) (Ok c.in_ok-pairs.pairs) c.in_ok-pairs.ensures.ran numbers in
+    let made =
+    fact_from_collect {E = Unit {0}} (IsFromIterResult sampling_cmp) (Ok c.in_ok-pairs.pairs) c.in_ok-pairs.ensures.ran
+    numbers in
     let is : c.in_ok-pairs-2.pairs.items ≡ c.in_ok-pairs.pairs.keys =
     items_from_collect {E = Unit {0}} (Ok c.in_ok-pairs-2.pairs) c.in_ok-pairs-2.ensures.ran
     (YieldsList-from_rest c.in_ok-pairs.pairs.keys rest) in

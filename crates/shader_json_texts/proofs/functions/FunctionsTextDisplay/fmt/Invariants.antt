@@ -7,4 +7,5 @@ use Rattle.shader_json_texts.proofs.functions.FunctionsTextDisplay.fmt.Given as 
 
 abbrev pub invariant-loop-other : goal.invariant-loop-other
 invariant-loop-other g l =
-    IsPlainFormatter l.initial.f → HasWritten g.W.Write.write_str_gives l.initial.f (flat_map (λ t. codes "," ++ answer_text t) (take l.other-index l.others)) l.f
+    IsPlainFormatter l.initial.f →
+    HasWritten g.W.Write.write_str_gives l.initial.f (flat_map (λ t. codes "," ++ answer_text t) (take l.other-index l.others)) l.f

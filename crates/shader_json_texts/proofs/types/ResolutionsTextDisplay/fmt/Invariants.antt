@@ -7,4 +7,6 @@ use Rattle.shader_json_texts.proofs.types.ResolutionsTextDisplay.fmt.Given as go
 
 abbrev pub invariant-loop-other : goal.invariant-loop-other
 invariant-loop-other g l =
-    IsPlainFormatter l.initial.f → HasWritten g.W.Write.write_str_gives l.initial.f (flat_map (λ t. codes "," ++ resolution_text t.now) (take l.other-index l.others)) l.f
+    IsPlainFormatter l.initial.f →
+    HasWritten g.W.Write.write_str_gives l.initial.f
+    (flat_map (λ t. codes "," ++ resolution_text t.now) (take l.other-index l.others)) l.f
