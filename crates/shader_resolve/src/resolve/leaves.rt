@@ -49,6 +49,8 @@ impl<'a> ResolveContext<'a> {
     ghost use Rattle.shader_resolve.specs.Rows.{argument_type, call_type, global_type, local_type, row};
 
     /// The type of an expression whose form asks no operand, if it is of one.
+    // A call that takes the whole context would keep it in memory.
+    #[inline(always)]
     pub(super) fn leaf_type(&self, expr: &Expression) -> Option<Resolved>
         requires { IsInRange self.now expr.now }
         ensures { IsLeafAnswer result expr.now (row self.now expr.now) }
@@ -81,6 +83,7 @@ impl<'a> ResolveContext<'a> {
         })
     }
 
+    #[inline(always)]
     fn argument(&self, index: u32) -> Resolved
         ensures { Meets false result (argument_type index (slice_get self.now.arguments index)) }
     {
@@ -90,6 +93,7 @@ impl<'a> ResolveContext<'a> {
         }
     }
 
+    #[inline(always)]
     fn global(&self, variable: Handle<mark::GlobalVariable>) -> TypeResolution
         requires { variable < length self.now.globals }
         ensures { global_type (slice_get self.now.globals variable) ≡ Given result }
@@ -104,6 +108,7 @@ impl<'a> ResolveContext<'a> {
         }
     }
 
+    #[inline(always)]
     fn local(&self, variable: Handle<mark::LocalVariable>) -> TypeResolution
         requires { variable < length self.now.locals }
         ensures { local_type (slice_get self.now.locals variable) ≡ Given result }
@@ -114,6 +119,7 @@ impl<'a> ResolveContext<'a> {
         })
     }
 
+    #[inline(always)]
     fn call(&self, function: Handle<mark::Function>) -> Resolved
         requires { function < length self.now.functions }
         ensures { Meets false result (call_type (slice_get self.now.functions function)) }
