@@ -117,6 +117,7 @@ fn find_member(members: &[StructMember], index: Option<u32>) -> Result<Part, NoP
 }
 
 /// The type of an access into a value or through a pointer.
+#[inline(always)]
 pub fn access(
     types: &UniqueArena<Type, mark::Type>,
     base: Handle<mark::Expression>,

@@ -18,6 +18,7 @@ use shader_overloads::{AnyOverloadSet, MathOverloads, OverloadSet, Rule};
 use std::alloc::{AllocError, Global};
 
 /// The rules of a builtin that accept its first argument.
+#[inline(always)]
 fn after_one(
     alloc: Global,
     types: &UniqueArena<Type, mark::Type>,
@@ -36,6 +37,7 @@ fn after_one(
 }
 
 /// The rules of a builtin that accept its first two arguments.
+#[inline(always)]
 fn after_two(
     alloc: Global,
     types: &UniqueArena<Type, mark::Type>,

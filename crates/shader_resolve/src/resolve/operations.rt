@@ -71,6 +71,7 @@ fn incompatible(name: Result<String, AllocError>) -> ResolveError
 }
 
 /// The type of a test of each component.
+#[inline(always)]
 pub fn component_test(alloc: Global, operation: &impl Debug, inner: &TypeInner) -> Resolved
     ensures { Meets true result (test_type inner.now) }
 {
@@ -120,6 +121,7 @@ pub fn cast(alloc: Global, kind: ScalarKind, convert: Option<u8>, inner: &TypeIn
 }
 
 /// The type of a product of operands with these shapes and resolutions.
+#[inline(always)]
 fn product(
     alloc: Global,
     left_inner: &TypeInner,
