@@ -15,11 +15,8 @@ impl Read for Code<SampleLevel> {
             ("Exact", Some(data)) => SampleLevel::Exact(data.read(context)?),
             ("Bias", Some(data)) => SampleLevel::Bias(data.read(context)?),
             ("Gradient", Some(data)) => {
-                let fields = data.fields(context)?;
-                SampleLevel::Gradient {
-                    x: fields.needed(context, "x")?,
-                    y: fields.needed(context, "y")?,
-                }
+                let (x, y) = data.pair(context, "x", "y")?;
+                SampleLevel::Gradient { x, y }
             }
             _ => return Err(context.refused("a level to sample at")),
         };
@@ -46,10 +43,16 @@ impl Read for Code<ImageQuery> {
 impl Read for Code<CooperativeData> {
     fn read(context: &mut Context, value: &Value<'_>) -> Result<Code<CooperativeData>, Failure> {
         let fields = Fields::of(context, value)?;
+        let (pointer, stride, row_major) = fields.triple(
+            context,
+            "pointer",
+            "stride",
+            "row_major",
+        )?;
         Ok(Code(CooperativeData {
-            pointer: fields.needed(context, "pointer")?,
-            stride: fields.needed(context, "stride")?,
-            row_major: fields.needed(context, "row_major")?,
+            pointer,
+            stride,
+            row_major,
         }))
     }
 }

@@ -52,17 +52,14 @@ fn leaf(context: &mut Context, name: &str, data: Data<'_, '_>) -> Result<Express
         "LocalVariable" => Ok(Expression::LocalVariable(data.read(context)?)),
         "CallResult" => Ok(Expression::CallResult(data.read(context)?)),
         "AtomicResult" => {
-            let fields = data.fields(context)?;
-            Ok(Expression::AtomicResult {
-                ty: fields.needed(context, "ty")?,
-                comparison: fields.needed(context, "comparison")?,
-            })
+            let (ty, comparison) = data.pair(context, "ty", "comparison")?;
+            Ok(Expression::AtomicResult { ty, comparison })
         }
         "WorkGroupUniformLoadResult" => Ok(Expression::WorkGroupUniformLoadResult {
-            ty: data.fields(context)?.needed(context, "ty")?,
+            ty: data.field(context, "ty")?,
         }),
         "SubgroupOperationResult" => Ok(Expression::SubgroupOperationResult {
-            ty: data.fields(context)?.needed(context, "ty")?,
+            ty: data.field(context, "ty")?,
         }),
         _ => composite(context, name, data),
     }
@@ -72,81 +69,67 @@ fn leaf(context: &mut Context, name: &str, data: Data<'_, '_>) -> Result<Express
 fn composite(context: &mut Context, name: &str, data: Data<'_, '_>) -> Result<Expression, Failure> {
     match name {
         "Compose" => {
-            let fields = data.fields(context)?;
-            Ok(Expression::Compose {
-                ty: fields.needed(context, "ty")?,
-                components: fields.needed(context, "components")?,
-            })
+            let (ty, components) = data.pair(context, "ty", "components")?;
+            Ok(Expression::Compose { ty, components })
         }
         "Access" => {
-            let fields = data.fields(context)?;
-            Ok(Expression::Access {
-                base: fields.needed(context, "base")?,
-                index: fields.needed(context, "index")?,
-            })
+            let (base, index) = data.pair(context, "base", "index")?;
+            Ok(Expression::Access { base, index })
         }
         "AccessIndex" => {
-            let fields = data.fields(context)?;
-            Ok(Expression::AccessIndex {
-                base: fields.needed(context, "base")?,
-                index: fields.needed(context, "index")?,
-            })
+            let (base, index) = data.pair(context, "base", "index")?;
+            Ok(Expression::AccessIndex { base, index })
         }
         "Splat" => {
-            let fields = data.fields(context)?;
-            Ok(Expression::Splat {
-                size: fields.needed(context, "size")?,
-                value: fields.needed(context, "value")?,
+            let (size, value) = data.pair(context, "size", "value")?;
+            Ok(Expression::Splat { size, value })
+        }
+        "Swizzle" => {
+            let (Pattern(pattern), size, vector) = data.triple(
+                context, "pattern", "size", "vector",
+            )?;
+            Ok(Expression::Swizzle {
+                size,
+                vector,
+                pattern,
             })
         }
-        "Swizzle" => swizzle(context, data.fields(context)?),
         _ => image(context, name, data),
     }
-}
-
-/// A swizzle.
-fn swizzle(context: &mut Context, fields: Fields<'_, '_>) -> Result<Expression, Failure> {
-    let Pattern(pattern) = fields.needed(context, "pattern")?;
-    Ok(Expression::Swizzle {
-        size: fields.needed(context, "size")?,
-        vector: fields.needed(context, "vector")?,
-        pattern,
-    })
 }
 
 /// What is taken from an image.
 fn image(context: &mut Context, name: &str, data: Data<'_, '_>) -> Result<Expression, Failure> {
     match name {
         "ImageSample" => sample(context, data.fields(context)?),
-        "ImageLoad" => {
-            let fields = data.fields(context)?;
-            Ok(Expression::ImageLoad {
-                image: fields.needed(context, "image")?,
-                coordinate: fields.needed(context, "coordinate")?,
-                array_index: fields.optional(context, "array_index")?,
-                sample: fields.optional(context, "sample")?,
-                level: fields.optional(context, "level")?,
-            })
-        }
+        "ImageLoad" => load(context, data.fields(context)?),
         "ImageQuery" => {
-            let fields = data.fields(context)?;
-            let Code(query) = fields.needed(context, "query")?;
-            Ok(Expression::ImageQuery {
-                image: fields.needed(context, "image")?,
-                query,
-            })
+            let (Code(query), image) = data.pair(context, "query", "image")?;
+            Ok(Expression::ImageQuery { image, query })
         }
         _ => operation(context, name, data),
     }
 }
 
+/// What is read of an image at a place.
+fn load(context: &mut Context, fields: Fields<'_, '_>) -> Result<Expression, Failure> {
+    let (image, coordinate) = fields.pair(context, "image", "coordinate")?;
+    Ok(Expression::ImageLoad {
+        image,
+        coordinate,
+        array_index: fields.optional(context, "array_index")?,
+        sample: fields.optional(context, "sample")?,
+        level: fields.optional(context, "level")?,
+    })
+}
+
 /// What sampling an image gives.
 fn sample(context: &mut Context, fields: Fields<'_, '_>) -> Result<Expression, Failure> {
     let gather: Option<Code<SwizzleComponent>> = fields.optional(context, "gather")?;
-    let Code(level) = fields.needed(context, "level")?;
+    let (Code(level), image, sampler) = fields.triple(context, "level", "image", "sampler")?;
     Ok(Expression::ImageSample {
-        image: fields.needed(context, "image")?,
-        sampler: fields.needed(context, "sampler")?,
+        image,
+        sampler,
         gather: match gather {
             Some(Code(component)) => Some(component),
             None => None,
@@ -164,73 +147,48 @@ fn sample(context: &mut Context, fields: Fields<'_, '_>) -> Result<Expression, F
 fn operation(context: &mut Context, name: &str, data: Data<'_, '_>) -> Result<Expression, Failure> {
     match name {
         "Unary" => {
-            let fields = data.fields(context)?;
-            let Code(op) = fields.needed(context, "op")?;
-            Ok(Expression::Unary {
-                op,
-                expr: fields.needed(context, "expr")?,
-            })
+            let (Code(op), expr) = data.pair(context, "op", "expr")?;
+            Ok(Expression::Unary { op, expr })
         }
         "Binary" => {
-            let fields = data.fields(context)?;
-            let Code(op) = fields.needed(context, "op")?;
-            Ok(Expression::Binary {
-                op,
-                left: fields.needed(context, "left")?,
-                right: fields.needed(context, "right")?,
-            })
+            let (Code(op), left, right) = data.triple(context, "op", "left", "right")?;
+            Ok(Expression::Binary { op, left, right })
         }
         "Select" => {
-            let fields = data.fields(context)?;
+            let (condition, accept, reject) = data.triple(
+                context,
+                "condition",
+                "accept",
+                "reject",
+            )?;
             Ok(Expression::Select {
-                condition: fields.needed(context, "condition")?,
-                accept: fields.needed(context, "accept")?,
-                reject: fields.needed(context, "reject")?,
+                condition,
+                accept,
+                reject,
             })
         }
-        "Derivative" => derivative(context, data.fields(context)?),
+        "Derivative" => {
+            let (Code(axis), Code(ctrl), expr) = data.triple(context, "axis", "ctrl", "expr")?;
+            Ok(Expression::Derivative { axis, ctrl, expr })
+        }
         _ => function(context, name, data),
     }
-}
-
-/// How a value differs between neighbouring fragments.
-fn derivative(context: &mut Context, fields: Fields<'_, '_>) -> Result<Expression, Failure> {
-    let Code(axis) = fields.needed(context, "axis")?;
-    let Code(ctrl) = fields.needed(context, "ctrl")?;
-    Ok(Expression::Derivative {
-        axis,
-        ctrl,
-        expr: fields.needed(context, "expr")?,
-    })
 }
 
 /// A function of values.
 fn function(context: &mut Context, name: &str, data: Data<'_, '_>) -> Result<Expression, Failure> {
     match name {
         "Relational" => {
-            let fields = data.fields(context)?;
-            let Code(fun) = fields.needed(context, "fun")?;
-            Ok(Expression::Relational {
-                fun,
-                argument: fields.needed(context, "argument")?,
-            })
+            let (Code(fun), argument) = data.pair(context, "fun", "argument")?;
+            Ok(Expression::Relational { fun, argument })
         }
-        "Math" => {
-            let fields = data.fields(context)?;
-            let Code(fun) = fields.needed(context, "fun")?;
-            Ok(Expression::Math {
-                fun,
-                arg: fields.needed(context, "arg")?,
-                arg1: fields.optional(context, "arg1")?,
-                arg2: fields.optional(context, "arg2")?,
-                arg3: fields.optional(context, "arg3")?,
-            })
-        }
+        "Math" => math(context, data.fields(context)?),
         "As" => {
             let fields = data.fields(context)?;
+            let (expr, kind) = fields.pair(context, "expr", "kind")?;
             Ok(Expression::As {
-                expr: fields.needed(context, "expr")?,
-                kind: fields.needed(context, "kind")?,
+                expr,
+                kind,
                 convert: fields.optional(context, "convert")?,
             })
         }
@@ -238,26 +196,32 @@ fn function(context: &mut Context, name: &str, data: Data<'_, '_>) -> Result<Exp
     }
 }
 
+/// A call of a built-in function.
+fn math(context: &mut Context, fields: Fields<'_, '_>) -> Result<Expression, Failure> {
+    let (Code(fun), arg) = fields.pair(context, "fun", "arg")?;
+    Ok(Expression::Math {
+        fun,
+        arg,
+        arg1: fields.optional(context, "arg1")?,
+        arg2: fields.optional(context, "arg2")?,
+        arg3: fields.optional(context, "arg3")?,
+    })
+}
+
 /// What is read from memory, of a ray query, or by a subgroup.
 fn memory(context: &mut Context, name: &str, data: Data<'_, '_>) -> Result<Expression, Failure> {
     match name {
         "Load" => Ok(Expression::Load {
-            pointer: data.fields(context)?.needed(context, "pointer")?,
+            pointer: data.field(context, "pointer")?,
         }),
         "ArrayLength" => Ok(Expression::ArrayLength(data.read(context)?)),
         "RayQueryVertexPositions" => {
-            let fields = data.fields(context)?;
-            Ok(Expression::RayQueryVertexPositions {
-                query: fields.needed(context, "query")?,
-                committed: fields.needed(context, "committed")?,
-            })
+            let (query, committed) = data.pair(context, "query", "committed")?;
+            Ok(Expression::RayQueryVertexPositions { query, committed })
         }
         "RayQueryGetIntersection" => {
-            let fields = data.fields(context)?;
-            Ok(Expression::RayQueryGetIntersection {
-                query: fields.needed(context, "query")?,
-                committed: fields.needed(context, "committed")?,
-            })
+            let (query, committed) = data.pair(context, "query", "committed")?;
+            Ok(Expression::RayQueryGetIntersection { query, committed })
         }
         _ => cooperative(context, name, data),
     }
@@ -273,20 +237,17 @@ fn cooperative(
         "CooperativeLoad" => {
             let fields = data.fields(context)?;
             let Code(tile) = fields.needed(context, "data")?;
+            let (columns, rows, role) = fields.triple(context, "columns", "rows", "role")?;
             Ok(Expression::CooperativeLoad {
-                columns: fields.needed(context, "columns")?,
-                rows: fields.needed(context, "rows")?,
-                role: fields.needed(context, "role")?,
+                columns,
+                rows,
+                role,
                 tile,
             })
         }
         "CooperativeMultiplyAdd" => {
-            let fields = data.fields(context)?;
-            Ok(Expression::CooperativeMultiplyAdd {
-                a: fields.needed(context, "a")?,
-                b: fields.needed(context, "b")?,
-                c: fields.needed(context, "c")?,
-            })
+            let (a, b, c) = data.triple(context, "a", "b", "c")?;
+            Ok(Expression::CooperativeMultiplyAdd { a, b, c })
         }
         _ => Err(context.refused("an expression")),
     }

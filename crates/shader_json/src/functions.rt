@@ -81,10 +81,10 @@ impl Read for EntryPoints {
 /// One entry point.
 fn entry_point(context: &mut Context, value: &Value<'_>) -> Result<EntryPoint, Failure> {
     let fields = Fields::of(context, value)?;
-    let Held(function) = fields.needed(context, "function")?;
+    let (Held(function), name, stage) = fields.triple(context, "function", "name", "stage")?;
     Ok(EntryPoint {
-        name: fields.needed(context, "name")?,
-        stage: fields.needed(context, "stage")?,
+        name,
+        stage,
         function,
     })
 }

@@ -126,17 +126,21 @@ impl Read for Code<RayQueryFunction> {
             ("ConfirmIntersection", None) => RayQueryFunction::ConfirmIntersection,
             ("Terminate", None) => RayQueryFunction::Terminate,
             ("Initialize", Some(data)) => {
-                let fields = data.fields(context)?;
+                let (acceleration_structure, descriptor) = data.pair(
+                    context,
+                    "acceleration_structure",
+                    "descriptor",
+                )?;
                 RayQueryFunction::Initialize {
-                    acceleration_structure: fields.needed(context, "acceleration_structure")?,
-                    descriptor: fields.needed(context, "descriptor")?,
+                    acceleration_structure,
+                    descriptor,
                 }
             }
             ("Proceed", Some(data)) => RayQueryFunction::Proceed {
-                result: data.fields(context)?.needed(context, "result")?,
+                result: data.field(context, "result")?,
             },
             ("GenerateIntersection", Some(data)) => RayQueryFunction::GenerateIntersection {
-                hit_t: data.fields(context)?.needed(context, "hit_t")?,
+                hit_t: data.field(context, "hit_t")?,
             },
             _ => return Err(context.refused("a function of ray queries")),
         };
@@ -152,11 +156,16 @@ impl Read for Code<RayPipelineFunction> {
         let Variant { name, data } = Variant::of(context, value)?;
         let found = match (name, data) {
             ("TraceRay", Some(data)) => {
-                let fields = data.fields(context)?;
+                let (acceleration_structure, descriptor, payload) = data.triple(
+                    context,
+                    "acceleration_structure",
+                    "descriptor",
+                    "payload",
+                )?;
                 RayPipelineFunction::TraceRay {
-                    acceleration_structure: fields.needed(context, "acceleration_structure")?,
-                    descriptor: fields.needed(context, "descriptor")?,
-                    payload: fields.needed(context, "payload")?,
+                    acceleration_structure,
+                    descriptor,
+                    payload,
                 }
             }
             _ => return Err(context.refused("a function of ray pipelines")),

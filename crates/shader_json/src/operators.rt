@@ -194,6 +194,7 @@ impl Read for Code<MathFunction> {
 }
 
 /// What a swizzle takes of a vector.
+#[derive(Drop)]
 pub(crate) struct Pattern(pub [SwizzleComponent; 4]);
 
 impl Read for Pattern {

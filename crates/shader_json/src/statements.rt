@@ -18,6 +18,7 @@ impl Read for Body {
 }
 
 /// What stands for the old value of an atomic. Naga may leave it out, and a module here can't.
+#[derive(Drop)]
 struct OldValue(Handle<mark::Expression>);
 
 impl Read for OldValue {
@@ -166,9 +167,10 @@ fn flow(context: &mut Context, name: &str, data: Data<'_, '_>) -> Result<Stateme
         }
         "Call" => {
             let fields = data.fields(context)?;
+            let (function, arguments) = fields.pair(context, "function", "arguments")?;
             Ok(Statement::Call {
-                function: fields.needed(context, "function")?,
-                arguments: fields.needed(context, "arguments")?,
+                function,
+                arguments,
                 result: fields.optional(context, "result")?,
             })
         }
@@ -180,35 +182,26 @@ fn flow(context: &mut Context, name: &str, data: Data<'_, '_>) -> Result<Stateme
 fn store(context: &mut Context, name: &str, data: Data<'_, '_>) -> Result<Statement, Failure> {
     match name {
         "Store" => {
-            let fields = data.fields(context)?;
-            Ok(Statement::Store {
-                pointer: fields.needed(context, "pointer")?,
-                value: fields.needed(context, "value")?,
-            })
+            let (pointer, value) = data.pair(context, "pointer", "value")?;
+            Ok(Statement::Store { pointer, value })
         }
         "ImageStore" => {
             let fields = data.fields(context)?;
+            let (image, coordinate) = fields.pair(context, "image", "coordinate")?;
             Ok(Statement::ImageStore {
-                image: fields.needed(context, "image")?,
-                coordinate: fields.needed(context, "coordinate")?,
+                image,
+                coordinate,
                 array_index: fields.optional(context, "array_index")?,
                 value: fields.needed(context, "value")?,
             })
         }
         "WorkGroupUniformLoad" => {
-            let fields = data.fields(context)?;
-            Ok(Statement::WorkGroupUniformLoad {
-                pointer: fields.needed(context, "pointer")?,
-                result: fields.needed(context, "result")?,
-            })
+            let (pointer, result) = data.pair(context, "pointer", "result")?;
+            Ok(Statement::WorkGroupUniformLoad { pointer, result })
         }
         "CooperativeStore" => {
-            let fields = data.fields(context)?;
-            let Code(tile) = fields.needed(context, "data")?;
-            Ok(Statement::CooperativeStore {
-                target: fields.needed(context, "target")?,
-                tile,
-            })
+            let (Code(tile), target) = data.pair(context, "data", "target")?;
+            Ok(Statement::CooperativeStore { target, tile })
         }
         _ => atomic(context, name, data),
     }
@@ -219,33 +212,34 @@ fn atomic(context: &mut Context, name: &str, data: Data<'_, '_>) -> Result<State
     match name {
         "Atomic" => {
             let fields = data.fields(context)?;
-            let OldValue(result) = fields.needed(context, "result")?;
-            let Code(fun) = fields.needed(context, "fun")?;
+            let (OldValue(result), Code(fun)) = fields.pair(context, "result", "fun")?;
+            let (pointer, value) = fields.pair(context, "pointer", "value")?;
             Ok(Statement::Atomic {
-                pointer: fields.needed(context, "pointer")?,
+                pointer,
                 fun,
-                value: fields.needed(context, "value")?,
+                value,
                 result,
             })
         }
         "ImageAtomic" => {
             let fields = data.fields(context)?;
-            let Code(fun) = fields.needed(context, "fun")?;
+            let (Code(fun), image, coordinate) = fields.triple(
+                context,
+                "fun",
+                "image",
+                "coordinate",
+            )?;
             Ok(Statement::ImageAtomic {
-                image: fields.needed(context, "image")?,
-                coordinate: fields.needed(context, "coordinate")?,
+                image,
+                coordinate,
                 array_index: fields.optional(context, "array_index")?,
                 fun,
                 value: fields.needed(context, "value")?,
             })
         }
         "RayQuery" => {
-            let fields = data.fields(context)?;
-            let Code(fun) = fields.needed(context, "fun")?;
-            Ok(Statement::RayQuery {
-                query: fields.needed(context, "query")?,
-                fun,
-            })
+            let (Code(fun), query) = data.pair(context, "fun", "query")?;
+            Ok(Statement::RayQuery { query, fun })
         }
         "RayPipelineFunction" => {
             let Code(fun) = data.read(context)?;
@@ -266,12 +260,13 @@ fn subgroup(context: &mut Context, name: &str, data: Data<'_, '_>) -> Result<Sta
             })
         }
         "SubgroupGather" => {
-            let fields = data.fields(context)?;
-            let Code(mode) = fields.needed(context, "mode")?;
+            let (Code(mode), argument, result) = data.triple(
+                context, "mode", "argument", "result",
+            )?;
             Ok(Statement::SubgroupGather {
                 mode,
-                argument: fields.needed(context, "argument")?,
-                result: fields.needed(context, "result")?,
+                argument,
+                result,
             })
         }
         "SubgroupCollectiveOperation" => collective(context, data.fields(context)?),
@@ -281,12 +276,12 @@ fn subgroup(context: &mut Context, name: &str, data: Data<'_, '_>) -> Result<Sta
 
 /// An operation that a whole subgroup computes.
 fn collective(context: &mut Context, fields: Fields<'_, '_>) -> Result<Statement, Failure> {
-    let Code(op) = fields.needed(context, "op")?;
-    let Code(collective_op) = fields.needed(context, "collective_op")?;
+    let (Code(op), Code(collective_op)) = fields.pair(context, "op", "collective_op")?;
+    let (argument, result) = fields.pair(context, "argument", "result")?;
     Ok(Statement::SubgroupCollectiveOperation {
         op,
         collective_op,
-        argument: fields.needed(context, "argument")?,
-        result: fields.needed(context, "result")?,
+        argument,
+        result,
     })
 }

@@ -40,6 +40,37 @@ impl<'v, 'a> Fields<'v, 'a> {
         }
     }
 
+    /// Two fields, the first one read first.
+    ///
+    /// # Errors
+    ///
+    /// A field that is absent, stands twice or can't be read.
+    pub fn pair<A: Read + Drop, B: Read>(
+        self,
+        context: &mut Context,
+        first: &'static str,
+        second: &'static str,
+    ) -> Result<(A, B), Failure> {
+        let first = self.needed(context, first)?;
+        Ok((first, self.needed(context, second)?))
+    }
+
+    /// Three fields, the first one read first.
+    ///
+    /// # Errors
+    ///
+    /// A field that is absent, stands twice or can't be read.
+    pub fn triple<A: Read + Drop, B: Read + Drop, C: Read>(
+        self,
+        context: &mut Context,
+        first: &'static str,
+        second: &'static str,
+        third: &'static str,
+    ) -> Result<(A, B, C), Failure> {
+        let (first, second) = self.pair(context, first, second)?;
+        Ok((first, second, self.needed(context, third)?))
+    }
+
     /// The field of that name, which is nothing where it is absent or null.
     ///
     /// # Errors
@@ -141,6 +172,44 @@ impl<'v, 'a> Data<'v, 'a> {
             }),
             Err(failure) => Err(failure.within(0)),
         }
+    }
+
+    /// The field of a variant with one named one.
+    ///
+    /// # Errors
+    ///
+    /// A value that is no object, and a field that is absent, stands twice or can't be read.
+    pub fn field<T: Read>(self, context: &mut Context, name: &'static str) -> Result<T, Failure> {
+        self.fields(context)?.needed(context, name)
+    }
+
+    /// The fields of a variant with two named ones, the first one read first.
+    ///
+    /// # Errors
+    ///
+    /// A value that is no object, and a field that is absent, stands twice or can't be read.
+    pub fn pair<A: Read + Drop, B: Read>(
+        self,
+        context: &mut Context,
+        first: &'static str,
+        second: &'static str,
+    ) -> Result<(A, B), Failure> {
+        self.fields(context)?.pair(context, first, second)
+    }
+
+    /// The fields of a variant with three named ones, the first one read first.
+    ///
+    /// # Errors
+    ///
+    /// A value that is no object, and a field that is absent, stands twice or can't be read.
+    pub fn triple<A: Read + Drop, B: Read + Drop, C: Read>(
+        self,
+        context: &mut Context,
+        first: &'static str,
+        second: &'static str,
+        third: &'static str,
+    ) -> Result<(A, B, C), Failure> {
+        self.fields(context)?.triple(context, first, second, third)
     }
 }
 

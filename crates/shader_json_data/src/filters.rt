@@ -80,10 +80,8 @@ struct Filter {
 impl Read for Filter {
     fn read(context: &mut Context, value: &Value<'_>) -> Result<Filter, Failure> {
         let fields = Fields::of(context, value)?;
-        Ok(Filter {
-            severity: fields.needed(context, "new_severity")?,
-            rule: fields.needed(context, "triggering_rule")?,
-        })
+        let (severity, rule) = fields.pair(context, "new_severity", "triggering_rule")?;
+        Ok(Filter { severity, rule })
     }
 }
 

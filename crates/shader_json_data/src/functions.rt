@@ -5,7 +5,7 @@ use crate::values::Read;
 use json::Value;
 use shader_arena::Handle;
 use shader_ir::{
-    FunctionArgument, FunctionResult, LocalVariable, NamedExpressions, ShaderStage, mark,
+    FunctionArgument, FunctionResult, LocalVariable, Name, NamedExpressions, ShaderStage, mark,
 };
 use shader_json_values::{Context, Failure, named, within};
 
@@ -52,12 +52,24 @@ impl Read for NamedExpressions {
                 return Err(context.refused("keys that are handles"));
             };
             let name = within(index, Read::read(context, &member.1))?;
-            if names.insert(handle, name)?.is_some() {
-                return Err(context.refused("a key that stands once").within(index));
-            }
+            add_name(context, &mut names, index, handle, name)?;
         }
         Ok(names)
     }
+}
+
+/// Adds the name that the member of this index gives an expression.
+fn add_name(
+    context: &Context,
+    names: &mut NamedExpressions,
+    index: usize,
+    handle: Handle<mark::Expression>,
+    name: Name,
+) -> Result<(), Failure> {
+    if names.insert(handle, name)?.is_some() {
+        return Err(context.refused("a key that stands once").within(index));
+    }
+    Ok(())
 }
 
 /// The handle that a key spells, in decimal without sign or leading zeros.

@@ -9,11 +9,9 @@ use shader_json_values::{Context, Failure};
 impl Read for Constant {
     fn read(context: &mut Context, value: &Value<'_>) -> Result<Constant, Failure> {
         let fields = Fields::of(context, value)?;
-        Ok(Constant {
-            name: fields.optional(context, "name")?,
-            ty: fields.needed(context, "ty")?,
-            init: fields.needed(context, "init")?,
-        })
+        let name = fields.optional(context, "name")?;
+        let (ty, init) = fields.pair(context, "ty", "init")?;
+        Ok(Constant { name, ty, init })
     }
 }
 
@@ -31,10 +29,12 @@ impl Read for Override {
 impl Read for GlobalVariable {
     fn read(context: &mut Context, value: &Value<'_>) -> Result<GlobalVariable, Failure> {
         let fields = Fields::of(context, value)?;
+        let name = fields.optional(context, "name")?;
+        let (space, ty) = fields.pair(context, "space", "ty")?;
         Ok(GlobalVariable {
-            name: fields.optional(context, "name")?,
-            space: fields.needed(context, "space")?,
-            ty: fields.needed(context, "ty")?,
+            name,
+            space,
+            ty,
             init: fields.optional(context, "init")?,
         })
     }

@@ -30,21 +30,15 @@ impl Read for ImageClass {
         match (name, data) {
             ("External", None) => Ok(ImageClass::External),
             ("Sampled", Some(data)) => {
-                let fields = data.fields(context)?;
-                Ok(ImageClass::Sampled {
-                    kind: fields.needed(context, "kind")?,
-                    multi: fields.needed(context, "multi")?,
-                })
+                let (kind, multi) = data.pair(context, "kind", "multi")?;
+                Ok(ImageClass::Sampled { kind, multi })
             }
             ("Depth", Some(data)) => Ok(ImageClass::Depth {
-                multi: data.fields(context)?.needed(context, "multi")?,
+                multi: data.field(context, "multi")?,
             }),
             ("Storage", Some(data)) => {
-                let fields = data.fields(context)?;
-                Ok(ImageClass::Storage {
-                    format: fields.needed(context, "format")?,
-                    access: fields.needed(context, "access")?,
-                })
+                let (format, access) = data.pair(context, "format", "access")?;
+                Ok(ImageClass::Storage { format, access })
             }
             _ => Err(context.refused("a class of images")),
         }

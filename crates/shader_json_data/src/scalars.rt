@@ -22,11 +22,8 @@ impl Read for ScalarKind {
 
 impl Read for Scalar {
     fn read(context: &mut Context, value: &Value<'_>) -> Result<Scalar, Failure> {
-        let fields = Fields::of(context, value)?;
-        Ok(Scalar {
-            kind: fields.needed(context, "kind")?,
-            width: fields.needed(context, "width")?,
-        })
+        let (kind, width) = Fields::of(context, value)?.pair(context, "kind", "width")?;
+        Ok(Scalar { kind, width })
     }
 }
 

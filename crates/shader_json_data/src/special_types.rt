@@ -5,7 +5,7 @@ use crate::values::Read;
 use indexmap::IndexSet;
 use json::Value;
 use shader_arena::Handle;
-use shader_ir::{Map, PredeclaredType, Scalar, SpecialTypes, mark};
+use shader_ir::{Map, PredeclaredType, Scalar, SpecialTypes, VectorSize, mark};
 use shader_json_values::{Context, Failure, within};
 
 /// A result type that a builtin function declares.
@@ -16,23 +16,33 @@ enum Key {
     Dropped(Scalar),
 }
 
+/// A scalar, or a vector of this size.
+struct Shape {
+    size: Option<VectorSize>,
+    scalar: Scalar,
+}
+
+impl Read for Shape {
+    fn read(context: &mut Context, value: &Value<'_>) -> Result<Shape, Failure> {
+        let fields = Fields::of(context, value)?;
+        Ok(Shape {
+            size: fields.optional(context, "size")?,
+            scalar: fields.needed(context, "scalar")?,
+        })
+    }
+}
+
 impl Read for Key {
     fn read(context: &mut Context, value: &Value<'_>) -> Result<Key, Failure> {
         let Variant { name, data } = Variant::of(context, value)?;
         match (name, data) {
             ("ModfResult", Some(data)) => {
-                let fields = data.fields(context)?;
-                Ok(Key::Held(PredeclaredType::ModfResult {
-                    size: fields.optional(context, "size")?,
-                    scalar: fields.needed(context, "scalar")?,
-                }))
+                let Shape { size, scalar } = data.read(context)?;
+                Ok(Key::Held(PredeclaredType::ModfResult { size, scalar }))
             }
             ("FrexpResult", Some(data)) => {
-                let fields = data.fields(context)?;
-                Ok(Key::Held(PredeclaredType::FrexpResult {
-                    size: fields.optional(context, "size")?,
-                    scalar: fields.needed(context, "scalar")?,
-                }))
+                let Shape { size, scalar } = data.read(context)?;
+                Ok(Key::Held(PredeclaredType::FrexpResult { size, scalar }))
             }
             ("AtomicCompareExchangeWeakResult", Some(data)) => {
                 Ok(Key::Dropped(data.read(context)?))

@@ -5,25 +5,31 @@ use crate::values::Read;
 use json::Value;
 use shader_arena::UniqueArena;
 use shader_ir::{AddressSpace, ArraySize, Binding, BuiltIn, StructMember, Type, TypeInner, mark};
-use shader_json_values::{Context, Failure, within};
+use shader_json_values::{Context, Failure, named, within};
+
+/// The address spaces without fields, by name.
+const SPACES: [(&str, AddressSpace); 9] = [
+    ("Function", AddressSpace::Function),
+    ("Private", AddressSpace::Private),
+    ("WorkGroup", AddressSpace::WorkGroup),
+    ("Uniform", AddressSpace::Uniform),
+    ("Handle", AddressSpace::Handle),
+    ("Immediate", AddressSpace::Immediate),
+    ("TaskPayload", AddressSpace::TaskPayload),
+    ("RayPayload", AddressSpace::RayPayload),
+    ("IncomingRayPayload", AddressSpace::IncomingRayPayload),
+];
 
 impl Read for AddressSpace {
     fn read(context: &mut Context, value: &Value<'_>) -> Result<AddressSpace, Failure> {
+        let wanted = "an address space";
         let Variant { name, data } = Variant::of(context, value)?;
         match (name, data) {
-            ("Function", None) => Ok(AddressSpace::Function),
-            ("Private", None) => Ok(AddressSpace::Private),
-            ("WorkGroup", None) => Ok(AddressSpace::WorkGroup),
-            ("Uniform", None) => Ok(AddressSpace::Uniform),
-            ("Handle", None) => Ok(AddressSpace::Handle),
-            ("Immediate", None) => Ok(AddressSpace::Immediate),
-            ("TaskPayload", None) => Ok(AddressSpace::TaskPayload),
-            ("RayPayload", None) => Ok(AddressSpace::RayPayload),
-            ("IncomingRayPayload", None) => Ok(AddressSpace::IncomingRayPayload),
             ("Storage", Some(data)) => Ok(AddressSpace::Storage {
-                access: data.fields(context)?.needed(context, "access")?,
+                access: data.field(context, "access")?,
             }),
-            _ => Err(context.refused("an address space")),
+            (_, Some(_)) => Err(context.refused(wanted)),
+            _ => named(context, value, &SPACES, wanted),
         }
     }
 }
@@ -58,9 +64,7 @@ impl Read for Binding {
         let Variant { name, data } = Variant::of(context, value)?;
         match (name, data) {
             ("BuiltIn", Some(data)) => Ok(Binding::BuiltIn(data.read(context)?)),
-            ("Location", Some(data)) => Ok(Binding::Location(
-                data.fields(context)?.needed(context, "location")?,
-            )),
+            ("Location", Some(data)) => Ok(Binding::Location(data.field(context, "location")?)),
             _ => Err(context.refused("`BuiltIn` or `Location`")),
         }
     }
@@ -93,26 +97,24 @@ fn of_scalars(context: &mut Context, name: &str, data: Data<'_, '_>) -> Result<T
     match name {
         "Scalar" => Ok(TypeInner::Scalar(data.read(context)?)),
         "Vector" => {
-            let fields = data.fields(context)?;
-            Ok(TypeInner::Vector {
-                size: fields.needed(context, "size")?,
-                scalar: fields.needed(context, "scalar")?,
-            })
+            let (size, scalar) = data.pair(context, "size", "scalar")?;
+            Ok(TypeInner::Vector { size, scalar })
         }
         "Matrix" => {
-            let fields = data.fields(context)?;
+            let (columns, rows, scalar) = data.triple(context, "columns", "rows", "scalar")?;
             Ok(TypeInner::Matrix {
-                columns: fields.needed(context, "columns")?,
-                rows: fields.needed(context, "rows")?,
-                scalar: fields.needed(context, "scalar")?,
+                columns,
+                rows,
+                scalar,
             })
         }
         "CooperativeMatrix" => {
             let fields = data.fields(context)?;
+            let (columns, rows, scalar) = fields.triple(context, "columns", "rows", "scalar")?;
             Ok(TypeInner::CooperativeMatrix {
-                columns: fields.needed(context, "columns")?,
-                rows: fields.needed(context, "rows")?,
-                scalar: fields.needed(context, "scalar")?,
+                columns,
+                rows,
+                scalar,
                 role: fields.needed(context, "role")?,
             })
         }
@@ -125,34 +127,26 @@ fn of_scalars(context: &mut Context, name: &str, data: Data<'_, '_>) -> Result<T
 fn of_types(context: &mut Context, name: &str, data: Data<'_, '_>) -> Result<TypeInner, Failure> {
     match name {
         "Pointer" => {
-            let fields = data.fields(context)?;
-            Ok(TypeInner::Pointer {
-                base: fields.needed(context, "base")?,
-                space: fields.needed(context, "space")?,
-            })
+            let (base, space) = data.pair(context, "base", "space")?;
+            Ok(TypeInner::Pointer { base, space })
         }
         "ValuePointer" => {
             let fields = data.fields(context)?;
+            let size = fields.optional(context, "size")?;
+            let (scalar, space) = fields.pair(context, "scalar", "space")?;
             Ok(TypeInner::ValuePointer {
-                size: fields.optional(context, "size")?,
-                scalar: fields.needed(context, "scalar")?,
-                space: fields.needed(context, "space")?,
+                size,
+                scalar,
+                space,
             })
         }
         "Array" => {
-            let fields = data.fields(context)?;
-            Ok(TypeInner::Array {
-                base: fields.needed(context, "base")?,
-                size: fields.needed(context, "size")?,
-                stride: fields.needed(context, "stride")?,
-            })
+            let (base, size, stride) = data.triple(context, "base", "size", "stride")?;
+            Ok(TypeInner::Array { base, size, stride })
         }
         "Struct" => {
-            let fields = data.fields(context)?;
-            Ok(TypeInner::Struct {
-                members: fields.needed(context, "members")?,
-                span: fields.needed(context, "span")?,
-            })
+            let (members, span) = data.pair(context, "members", "span")?;
+            Ok(TypeInner::Struct { members, span })
         }
         _ => resource(context, name, data),
     }
@@ -162,28 +156,25 @@ fn of_types(context: &mut Context, name: &str, data: Data<'_, '_>) -> Result<Typ
 fn resource(context: &mut Context, name: &str, data: Data<'_, '_>) -> Result<TypeInner, Failure> {
     match name {
         "Image" => {
-            let fields = data.fields(context)?;
+            let (dim, arrayed, class) = data.triple(context, "dim", "arrayed", "class")?;
             Ok(TypeInner::Image {
-                dim: fields.needed(context, "dim")?,
-                arrayed: fields.needed(context, "arrayed")?,
-                class: fields.needed(context, "class")?,
+                dim,
+                arrayed,
+                class,
             })
         }
         "Sampler" => Ok(TypeInner::Sampler {
-            comparison: data.fields(context)?.needed(context, "comparison")?,
+            comparison: data.field(context, "comparison")?,
         }),
         "AccelerationStructure" => Ok(TypeInner::AccelerationStructure {
-            vertex_return: data.fields(context)?.needed(context, "vertex_return")?,
+            vertex_return: data.field(context, "vertex_return")?,
         }),
         "RayQuery" => Ok(TypeInner::RayQuery {
-            vertex_return: data.fields(context)?.needed(context, "vertex_return")?,
+            vertex_return: data.field(context, "vertex_return")?,
         }),
         "BindingArray" => {
-            let fields = data.fields(context)?;
-            Ok(TypeInner::BindingArray {
-                base: fields.needed(context, "base")?,
-                size: fields.needed(context, "size")?,
-            })
+            let (base, size) = data.pair(context, "base", "size")?;
+            Ok(TypeInner::BindingArray { base, size })
         }
         _ => Err(context.refused("a type")),
     }
@@ -209,15 +200,26 @@ impl Read for UniqueArena<Type, mark::Type> {
         };
         let mut types = UniqueArena::new(context.alloc);
         for (index, item) in items.iter().enumerate() {
-            let item = within(index, Type::read(context, item))?;
-            if types.is_full() {
-                return Err(context.refused("an array of at most 4294967295 types"));
-            }
-            types.insert(item)?;
-            if types.len() == index {
-                return Err(context.refused("a type that stands once").within(index));
-            }
+            let ty = within(index, Type::read(context, item))?;
+            add_type(context, &mut types, index, ty)?;
         }
         Ok(types)
     }
+}
+
+/// Adds the type of this index.
+fn add_type(
+    context: &Context,
+    types: &mut UniqueArena<Type, mark::Type>,
+    index: usize,
+    ty: Type,
+) -> Result<(), Failure> {
+    if types.is_full() {
+        return Err(context.refused("an array of at most 4294967295 types"));
+    }
+    types.insert(ty)?;
+    if types.len() == index {
+        return Err(context.refused("a type that stands once").within(index));
+    }
+    Ok(())
 }

@@ -129,9 +129,7 @@ impl<M> Read for Handle<M> {
 
 impl<M> Read for Range<M> {
     fn read(context: &mut Context, value: &Value<'_>) -> Result<Range<M>, Failure> {
-        let fields = Fields::of(context, value)?;
-        let start = fields.needed(context, "start")?;
-        let end = fields.needed(context, "end")?;
+        let (start, end) = Fields::of(context, value)?.pair(context, "start", "end")?;
         Ok(Range::new(Handle::from_index(start), Handle::from_index(end)))
     }
 }
