@@ -1,0 +1,3 @@
+pub mod GrownLemmas
+pub mod RegisterLemmas
+pub mod TypedLemmas

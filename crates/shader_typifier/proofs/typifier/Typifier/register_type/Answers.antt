@@ -1,0 +1,29 @@
+use Rattle.std.proofs.Common.{rules, ◌∙◌, ap, length, take, None}
+use Rattle.std.proofs.Math.Seq.{take-length}
+use Rattle.shader_typifier.proofs.RegisterLemmas.{handle_registered, kept, registered, value_registered}
+use Rattle.shader_typifier.proofs.typifier.Typifier.register_type.Goals as goal
+
+pub returns-in_err-inner-in-Value-clause-kept : goal.returns-in_err-inner-in-Value-clause-kept
+returns-in_err-inner-in-Value-clause-kept c = take-length c.args.types.now
+
+pub returns-in_err-insert-in-Value-clause-kept : goal.returns-in_err-insert-in-Value-clause-kept
+returns-in_err-insert-in-Value-clause-kept c = ap (λ v. take (length c.args.types.now) v) c.in_err-insert-in-Value.ensures.err ∙
+    take-length c.args.types.now
+
+pub returns-in-Handle-clause-registered : goal.returns-in-Handle-clause-registered
+returns-in-Handle-clause-registered c =
+    handle_registered c.args.types.now c.args.self.now c.args.handle c.index.result.now c.index.ensures c.in-Handle.ty (search rules)
+
+pub returns-in-Handle-clause-kept : goal.returns-in-Handle-clause-kept
+returns-in-Handle-clause-kept c = take-length c.args.types.now
+
+pub returns-in_ok-insert-in-Value-clause-registered : goal.returns-in_ok-insert-in-Value-clause-registered
+returns-in_ok-insert-in-Value-clause-registered c =
+    value_registered c.insert.new.self c.args.self.now c.args.handle c.index.result.now c.index.ensures c.in-Value.inner
+    c.in_ok-inner-in-Value.inner c.in_ok-insert-in-Value.field-0 (search rules) c.in_ok-inner-in-Value.ensures.copy
+    (registered c.insert.new.self (record { name = None; inner = c.in_ok-inner-in-Value.inner }) c.in_ok-insert-in-Value.field-0
+    c.in_ok-insert-in-Value.ensures.only)
+
+pub returns-in_ok-insert-in-Value-clause-kept : goal.returns-in_ok-insert-in-Value-clause-kept
+returns-in_ok-insert-in-Value-clause-kept c = kept c.args.types.now c.insert.new.self
+    (record { name = None; inner = c.in_ok-inner-in-Value.inner }) c.in_ok-insert-in-Value.ensures.inserted

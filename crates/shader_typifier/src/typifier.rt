@@ -1,0 +1,224 @@
+//! The types of the first expressions of a function.
+ghost use Rattle.std.specs.Prelude.{◌≡◌, ◌↔◌, ◌<◌, ◌≤◌, ◌+◌, [], All, Some, IfErr, IfOk, IsOkAnd, IsTrue, OnErr, OnOk, length, slice_get, take};
+ghost use Rattle.std.specs.Option.{option_and_then};
+ghost use Rattle.shader_arena.specs.Places.{most_items};
+ghost use Rattle.shader_ir.specs.Key.{FitsTypes, inner_of};
+ghost use Rattle.shader_ir.specs.TypeTree.{IsBackward, PointsBelow};
+ghost use Rattle.shader_ir.specs.declared.proc.type_resolution.TypeResolution.{TypeResolution};
+ghost use Rattle.shader_typifier.specs.Grown.{Grows, IsRefusedAs, IsRefusedNext, IsTyped};
+ghost use Rattle.shader_typifier.specs.Registered.{IsRegistered};
+
+use crate::TypifyError;
+use crate::names::{names_in_range, operands_below};
+use shader_arena::{Arena, Handle, UniqueArena};
+use shader_ir::{Expression, Type, TypeInner, TypeResolution, mark};
+use shader_resolve::{ResolveContext, ResolveError};
+use std::alloc::{AllocError, Global};
+use std::marker::Model;
+use std::ops::Index;
+
+/// The types of the first expressions of a function, which a front end holds while it writes the function and asks by handle.
+#[derive(Drop)]
+pub struct Typifier {
+    resolutions: Vec<TypeResolution>,
+}
+
+impl Model for Typifier {
+    ghost use Rattle.std.specs.Prelude.{List};
+    ghost use Rattle.shader_ir.specs.declared.proc.type_resolution.TypeResolution.{TypeResolution};
+
+    ghost Value = { List TypeResolution };
+
+    ghost view = { λ typifier. typifier.resolutions.items };
+}
+
+impl Typifier {
+    /// One that holds no types, which takes no memory.
+    pub fn new(alloc: Global) -> Typifier
+        ensures { result ≡ [] }
+    {
+        Typifier {
+            resolutions: Vec::new(alloc),
+        }
+    }
+
+    /// Forgets all types, for the next function. Their memory is kept.
+    pub fn reset(&mut self)
+        ensures { self.new ≡ [] }
+    {
+        self.resolutions.clear();
+    }
+
+    /// The number of expressions whose types are held.
+    pub fn len(&self) -> usize
+        ensures { result ≡ length self.now }
+    {
+        self.resolutions.len()
+    }
+
+    /// Whether no types are held.
+    pub fn is_empty(&self) -> bool
+        ensures { IsTrue result ↔ (self.now ≡ []) }
+    {
+        self.resolutions.is_empty()
+    }
+
+    /// Whether all types that are held are of this arena, as `grow` asks: each handle is in range, and no free-standing type is a struct.
+    pub fn fits(&self, types: &UniqueArena<Type, mark::Type>) -> bool
+        ensures { IsTrue result ↔ All (FitsTypes types.now) self.now }
+    {
+        self.resolutions
+            .iter()
+            .all(|resolution| resolution.fits(types))
+    }
+
+    /// The shape of the type of an expression.
+    pub fn get<'a>(
+        &'a self,
+        handle: Handle<mark::Expression>,
+        types: &'a UniqueArena<Type, mark::Type>,
+    ) -> &'a TypeInner
+        requires there { handle < length self.now }
+        requires fit { All (FitsTypes types.now) self.now }
+        ensures shape { option_and_then (inner_of types.now) (slice_get self.now handle) ≡ Some result.now }
+        ensures in_range { IsBackward types.now → PointsBelow (length types.now) result.now }
+    {
+        self.resolutions[handle.index()].inner_with(types)
+    }
+
+    /// The type of the next expression.
+    fn next_type(
+        &self,
+        alloc: Global,
+        context: &ResolveContext<'_>,
+        expression: &Expression,
+    ) -> Result<TypeResolution, TypifyError>
+        requires backward { IsBackward context.now.types }
+        requires fit { All (FitsTypes context.now.types) self.now }
+        ensures typed { IfOk result (IsTyped context.now self.now expression.now) }
+        ensures refused { IfErr result (IsRefusedAs context.now self.now expression.now) }
+    {
+        if !names_in_range(context, expression) {
+            return Err(TypifyError::HandleOutOfRange);
+        }
+        if !operands_below(expression, self.len()) {
+            return Err(TypifyError::OperandNotEarlier);
+        }
+        let resolved = context.resolve(
+            alloc,
+            expression,
+            |operand: Handle<mark::Expression>| -> Result<&TypeResolution, ResolveError>
+                requires { operand < length self.now }
+                ensures { IsOkAnd result (λ told. slice_get self.entry.now operand ≡ Some told.now) }
+            { Ok(&self.resolutions[operand.index()]) },
+        );
+        let resolution = match resolved {
+            Ok(resolution) => resolution,
+            Err(failure) => return Err(TypifyError::Resolve(failure)),
+        };
+        if resolution.fits(context.types) {
+            Ok(resolution)
+        } else {
+            Err(TypifyError::HandleOutOfRange)
+        }
+    }
+
+    /// Gives types to the expressions up to and with `handle`, where they have none yet. Those that are held stay.
+    ///
+    /// # Errors
+    ///
+    /// Why the first expression without a type has none: that at place `len`, as the types of those before it are held.
+    pub fn grow(
+        &mut self,
+        alloc: Global,
+        handle: Handle<mark::Expression>,
+        expressions: &Arena<Expression, mark::Expression>,
+        context: &ResolveContext<'_>,
+    ) -> Result<(), TypifyError>
+        requires backward { IsBackward context.now.types }
+        requires fit { All (FitsTypes context.now.types) self.old }
+        requires there { handle < length expressions.now }
+        ensures grown { Grows context.now expressions.now self.old self.new }
+        ensures kept { take (length self.old) self.new ≡ self.old }
+        ensures whole { OnOk result (handle < length self.new) }
+        ensures no_more { length self.old ≤ handle → length self.new ≤ handle + 1 }
+        ensures idle { handle < length self.old → self.new ≡ self.old }
+        ensures refused { IfErr result (IsRefusedNext context.now expressions.now self.new) }
+        ensures fits { All (FitsTypes context.now.types) self.new }
+    {
+        for place in self.len()..handle.index() + 1 {
+            let next = Handle::from_index(place as u32);
+            let resolution = self.next_type(alloc, context, &expressions[next])?;
+            match self.resolutions.push(resolution) {
+                Ok(()) => {}
+                Err(_) => return Err(TypifyError::Resolve(ResolveError::OutOfMemory)),
+            }
+        }
+        Ok(())
+    }
+
+    /// Finds the type of an expression anew, which a front end has exchanged: the types from `handle` on are forgotten, as they may rest on
+    /// it, and the table grows up to and with it.
+    ///
+    /// # Errors
+    ///
+    /// Those of `grow`.
+    pub fn invalidate(
+        &mut self,
+        alloc: Global,
+        handle: Handle<mark::Expression>,
+        expressions: &Arena<Expression, mark::Expression>,
+        context: &ResolveContext<'_>,
+    ) -> Result<(), TypifyError>
+        requires backward { IsBackward context.now.types }
+        requires fit { All (FitsTypes context.now.types) self.old }
+        requires there { handle < length expressions.now }
+        ensures grown { Grows context.now expressions.now (take handle self.old) self.new }
+        ensures whole { OnOk result (handle < length self.new) }
+        ensures no_more { length self.new ≤ handle + 1 }
+        ensures refused { IfErr result (IsRefusedNext context.now expressions.now self.new) }
+        ensures fits { All (FitsTypes context.now.types) self.new }
+    {
+        self.resolutions.truncate(handle.index());
+        self.grow(alloc, handle, expressions, context)
+    }
+
+    /// The handle of an expression's type. A free-standing type goes into the arena without a name, where it isn't there yet.
+    ///
+    /// # Errors
+    ///
+    /// `AllocError` if memory for the arena is refused, which then holds what it held.
+    pub fn register_type(
+        &self,
+        alloc: Global,
+        handle: Handle<mark::Expression>,
+        types: &mut UniqueArena<Type, mark::Type>,
+    ) -> Result<Handle<mark::Type>, AllocError>
+        requires there { handle < length self.now }
+        requires room { length types.old < most_items }
+        ensures registered { IfOk result (λ ty. (resolution : TypeResolution) → slice_get self.now handle ≡ Some resolution →
+            IsRegistered types.new resolution ty) }
+        ensures kept { take (length types.old) types.new ≡ types.old }
+        ensures err { OnErr result (types.new ≡ types.old) }
+    {
+        match &self[handle] {
+            TypeResolution::Handle(ty) => Ok(*ty),
+            TypeResolution::Value(inner) => {
+                let inner = inner.copy(alloc)?;
+                Ok(types.insert(Type { name: None, inner })?)
+            }
+        }
+    }
+}
+
+impl Index<Handle<mark::Expression>> for Typifier {
+    type Output = TypeResolution;
+
+    ghost can_index = { λ typifier handle. handle < length typifier };
+
+    ghost index_gives = { λ typifier handle resolution. slice_get typifier handle ≡ Some resolution };
+
+    fn index(&self, handle: Handle<mark::Expression>) -> &TypeResolution {
+        &self.resolutions[handle.index()]
+    }
+}

@@ -1,0 +1,5 @@
+//! Tests of `shader_typifier` by its public items alone.
+#![tactic(auto)]
+
+#[cfg(test)]
+mod tests;
