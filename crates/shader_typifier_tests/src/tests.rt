@@ -1,6 +1,7 @@
 //! What a table holds after it has grown over expressions, and how it refuses. Tests hold nothing but what is copied.
 mod asked;
 mod made;
+mod refusals;
 
 use asked::asks;
 use made::{Held, Row, Told};

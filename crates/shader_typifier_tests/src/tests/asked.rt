@@ -1,13 +1,13 @@
 //! Asks a table of types.
 //!
-//! With ample memory nothing is refused. Where the allocator refuses the Nth request of a test's process while a table grows, the test
-//! passes still, and prints a line with `was refused`: the types that were held stay, and the call made again goes on behind them.
+//! With ample memory nothing is refused. Where the allocator refuses the Nth request of a test's process, the test passes still, and prints
+//! a line with `was refused`: where a table grows the types that were held stay, and the call made again goes on behind them.
 ghost use Rattle.std.specs.Prelude.{◌<◌, All, length};
 ghost use Rattle.shader_ir.specs.Key.{FitsTypes};
 ghost use Rattle.shader_ir.specs.TypeTree.{IsBackward};
 
 use crate::tests::made::{
-    Expressions, Held, Row, Told, WANT, at, expressions, is_held, is_told, is_want, module,
+    Expressions, Held, Row, Told, WANT, at, expressions, is_held, is_told, is_want, module, say,
 };
 use shader_arena::{Arena, Handle};
 use shader_ir::{FunctionArgument, mark};
@@ -36,7 +36,7 @@ fn grow(
     if !is_want(&told) {
         return told;
     }
-    println!(rt; "a type was refused").expect(rt, "output");
+    say(rt, "a type");
     assert!(rt; typifier.len() >= before);
     typifier.grow(alloc, handle, expressions, context)
 }
@@ -60,7 +60,7 @@ pub fn asks<const N: usize, const M: usize>(
     types: [Held; M],
 ) {
     let mut module = module(rt, alloc);
-    let expressions = expressions(rt, alloc, rows);
+    let expressions = expressions(rt, alloc, &rows);
     let locals = Arena::new(alloc);
     let arguments = [FunctionArgument {
         name: None,

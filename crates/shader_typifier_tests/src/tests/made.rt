@@ -10,6 +10,7 @@ use shader_ir::{
 use shader_resolve::ResolveError;
 use shader_typifier::TypifyError;
 use std::alloc::Global;
+use std::io::Print;
 use std::process::Abort;
 
 /// What a test says that fails for want of memory alone.
@@ -74,27 +75,48 @@ fn expression(row: Row) -> Expression {
     }
 }
 
+/// Says that memory was refused, for the sweep over refused requests.
+pub fn say(rt: &impl Print, what: &str) {
+    match println!(rt; "{what} was refused") {
+        Ok(()) | Err(_) => {}
+    }
+}
+
+/// Adds an expression last, and again where memory was refused.
+fn add(rt: &(impl Abort + Print), expressions: &mut Expressions, expression: Expression) {
+    assert!(rt; expressions.len() < 10);
+    match expressions.append(expression) {
+        Ok(_) => {}
+        Err(failed) => {
+            say(rt, "an expression");
+            expressions.append(failed.value).expect(rt, WANT);
+        }
+    }
+}
+
 /// The expressions, in order.
-pub fn expressions<const N: usize>(rt: &impl Abort, alloc: Global, rows: [Row; N]) -> Expressions {
+pub fn expressions(rt: &(impl Abort + Print), alloc: Global, rows: &[Row]) -> Expressions {
     let mut expressions = Arena::new(alloc);
-    for row in Vec::from_array(alloc, rows).expect(rt, WANT) {
-        assert!(rt; expressions.len() < 10);
-        expressions.append(expression(row)).expect(rt, WANT);
+    for row in rows.iter() {
+        add(rt, &mut expressions, expression(*row));
     }
     expressions
 }
 
 /// A module of one type, a float.
-pub fn module(rt: &impl Abort, alloc: Global) -> Module
+pub fn module(rt: &(impl Abort + Print), alloc: Global) -> Module
     ensures { IsBackward result.types }
 {
     let mut module = Module::new(alloc);
     let inner = TypeInner::Scalar(Scalar::F32);
     assert!(rt; module.types.len() < 10);
-    module
-        .types
-        .insert(Type { name: None, inner })
-        .expect(rt, WANT);
+    match module.types.insert(Type { name: None, inner }) {
+        Ok(_) => {}
+        Err(failed) => {
+            say(rt, "a type");
+            module.types.insert(failed.value).expect(rt, WANT);
+        }
+    }
     assert!(rt; types_backward(&module.types));
     module
 }
