@@ -42,10 +42,9 @@ module _ (context : Context) (expressions : List Expression) (held : List TypeRe
     at None r gl gr told = absurd (cc)
 
 -- what holds at each place of a list, and of one more item, holds at each place of both
-one_more : (P : ℕ → TypeResolution → Type 0) (xs : List TypeResolution) (x : TypeResolution) →
-    ((e : ℕ) (y : TypeResolution) → slice_get xs e ≡ Some y → P e y) → P (length xs) x →
-    (e : ℕ) (y : TypeResolution) → slice_get (xs ++ x ∷ []) e ≡ Some y → P e y
-one_more P xs x each last e y is = at (cases_lt e (length xs)) where
+pub one_more : {T : Type 0} (P : ℕ → T → Type 0) (xs : List T) (x : T) → ((e : ℕ) (y : T) → slice_get xs e ≡ Some y → P e y) →
+    P (length xs) x → (e : ℕ) (y : T) → slice_get (xs ++ x ∷ []) e ≡ Some y → P e y
+one_more {T} P xs x each last e y is = at (cases_lt e (length xs)) where
   here : get_or (xs ++ x ∷ []) e y ≡ y
   here = get_or_from_slice_get (xs ++ x ∷ []) e y y is
 

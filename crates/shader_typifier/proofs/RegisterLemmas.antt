@@ -1,16 +1,23 @@
 -- What is inserted stands at its handle, and what was there stays.
-use Rattle.std.proofs.Common.{◌≡◌, refl, sym, ap, subst, ◌∙◌, ℕ, Bool, true, false, cond, ◌++◌, ◌∷◌, [], List, Some, slice_get, length, take}
-use Rattle.std.proofs.Common.{None}
+use Rattle.std.proofs.Common.{◌≡◌, refl, sym, ap, subst, ◌∙◌, ℕ, Bool, true, false, cond, ◌++◌, ◌∷◌, [], List, Some, slice_get, length}
+use Rattle.std.proofs.Common.{◌<◌, ◌≤◌, arith, length-append, take}
+use Rattle.std.specs.Prelude.{Result, Ok, Err, OnErr}
 use Rattle.std.proofs.Math.Seq.{take-append_seam, take-length}
-use Rattle.std.proofs.lemmas.Option.{same_Some}
+use Rattle.std.proofs.lemmas.Option.{get_or_from_slice_get, same_Some, slice_get_within}
 use Rattle.shader_arena.specs.Unique.{IsOnlyPlaceOf, has_equal, with_item}
+use Rattle.shader_ir.proofs.TypeTreeLemmas.{weaker}
+use Rattle.shader_ir.specs.Key.{FitsTypes, HoldsNoList}
 use Rattle.shader_ir.specs.SameLaws.{type_decides}
+use Rattle.shader_ir.specs.Shapes.{HoldsNoMembers}
+use Rattle.shader_ir.specs.TypeTree.{IsBackward, PointsBelow}
 use Rattle.shader_ir.specs.contracts.types.TypePartialEq.TheImpl as type
 use Rattle.shader_ir.specs.declared.proc.type_resolution.TypeResolution.{TypeResolution}
 use Rattle.shader_ir.specs.declared.proc.type_resolution.TypeResolution.TheVariants.{Handle, Value}
 use Rattle.shader_ir.specs.declared.types.«Type».{«Type»}
 use Rattle.shader_ir.specs.declared.types.TypeInner.{TypeInner}
-use Rattle.shader_typifier.specs.Registered.{IsRegistered}
+use Rattle.shader_typifier.specs.Laws.{RegisteredTypesFit}
+use Rattle.shader_typifier.specs.Registered.{IsMissing, IsRegistered, unnamed, with_resolution}
+use Rattle.shader_typifier.proofs.GrownLemmas.{one_more, types_fit_larger_arenas}
 
 pub registered : (types : List «Type») (value : «Type») (place : ℕ) → IsOnlyPlaceOf type.ghosts.eq types value place →
     slice_get types place ≡ Some value
@@ -20,10 +27,17 @@ chosen : (b : Bool) (types : List «Type») (value : «Type») → take (length 
 chosen true types value = take-length types
 chosen false types value = take-append_seam types (value ∷ [])
 
-pub kept : (types new : List «Type») (value : «Type») → new ≡ with_item type.ghosts.eq types value → take (length types) new ≡ types
+pub kept : (types new : List «Type») (value : «Type») → new ≡ with_item type.ghosts.eq types value →
+    take (length types) new ≡ types
 kept types new value inserted = ap (λ v. take (length types) v) inserted ∙ chosen (has_equal type.ghosts.eq types value) types value
 
-module _ (types : List «Type») (held : List TypeResolution) (place : ℕ) (told : TypeResolution) (at : slice_get held place ≡ Some told) where
+-- what holds anyhow holds after an error
+on_err : {T E P : Type 0} (r : Result T E) → P → OnErr r P
+on_err (Ok value) holds = tt
+on_err (Err why) holds = holds
+
+module _ (types : List «Type») (held : List TypeResolution) (place : ℕ) (told : TypeResolution)
+    (at : slice_get held place ≡ Some told) where
   the_same : (resolution : TypeResolution) → slice_get held place ≡ Some resolution → told ≡ resolution
   the_same resolution is = same_Some told resolution (sym at ∙ is)
 
@@ -31,9 +45,67 @@ module _ (types : List «Type») (held : List TypeResolution) (place : ℕ) (tol
       IsRegistered types resolution ty
   handle_registered ty same resolution is = subst (λ r. IsRegistered types r ty) (sym same ∙ the_same resolution is) refl
 
-  pub value_registered : (inner copy : TypeInner) (ty : ℕ) → told ≡ Value inner → copy ≡ inner →
-      slice_get types ty ≡ Some (record { name = None; inner = copy }) → (resolution : TypeResolution) →
-      slice_get held place ≡ Some resolution → IsRegistered types resolution ty
-  value_registered inner copy ty same copied stands resolution is =
-      subst (λ r. IsRegistered types r ty) (sym same ∙ the_same resolution is)
-      (subst (λ i. slice_get types ty ≡ Some (record { name = None; inner = i })) copied stands)
+  pub handle_added : (ty : ℕ) → told ≡ Handle ty → (resolution : TypeResolution) → slice_get held place ≡ Some resolution →
+      types ≡ with_resolution types resolution
+  handle_added ty same resolution is = subst (λ r. types ≡ with_resolution types r) (sym same ∙ the_same resolution is) refl
+
+  module _ (inner copy : TypeInner) (same : told ≡ Value inner) (copied : copy ≡ inner) (resolution : TypeResolution)
+      (is : slice_get held place ≡ Some resolution) where
+    is_value : Value inner ≡ resolution
+    is_value = sym same ∙ the_same resolution is
+
+    pub value_registered : (ty : ℕ) → slice_get types ty ≡ Some (unnamed copy) → IsRegistered types resolution ty
+    value_registered ty stands =
+        subst (λ r. IsRegistered types r ty) is_value (subst (λ i. slice_get types ty ≡ Some (unnamed i)) copied stands)
+
+    pub value_added : (new : List «Type») → new ≡ with_item type.ghosts.eq types (unnamed copy) → new ≡ with_resolution types resolution
+    value_added new inserted =
+        subst (λ r. new ≡ with_resolution types r) is_value (inserted ∙ ap (λ i. with_item type.ghosts.eq types (unnamed i)) copied)
+
+  -- memory is asked for a missing type alone, where no members are copied
+  abbrev AsksForMissing : Type 0
+  AsksForMissing = (resolution : TypeResolution) → slice_get held place ≡ Some resolution → HoldsNoList resolution →
+      IsMissing types resolution
+
+  module _ {T E : Type 0} (r : Result T E) (inner : TypeInner) (same : told ≡ Value inner) where
+    is_told : (resolution : TypeResolution) → slice_get held place ≡ Some resolution → resolution ≡ Value inner
+    is_told resolution is = sym (the_same resolution is) ∙ same
+
+    pub copy_asks : (HoldsNoMembers inner → ⊥) → OnErr r AsksForMissing
+    copy_asks members = on_err {P = AsksForMissing} r
+        (λ resolution is none. absurd (members (subst (λ v. HoldsNoList v) (is_told resolution is) none)))
+
+    pub insert_asks : (copy : TypeInner) → copy ≡ inner → has_equal type.ghosts.eq types (unnamed copy) ≡ false → OnErr r AsksForMissing
+    insert_asks copy copied absent = on_err {P = AsksForMissing} r (λ resolution is none.
+        subst (λ v. IsMissing types v) (sym (is_told resolution is))
+        (subst (λ i. has_equal type.ghosts.eq types (unnamed i) ≡ false) copied absent))
+
+backward_from : (types : List «Type») →
+    ((place : ℕ) (type : «Type») → slice_get types place ≡ Some type → PointsBelow place type.inner) → IsBackward types
+backward_from types earlier = record {
+  in_range = λ place type at.
+      let lt : place < length types = slice_get_within types place type at in
+      weaker place (length types) type.inner (omega (arith, lt)) (earlier place type at);
+  earlier = earlier;
+}
+
+chosen_backward : (b : Bool) (types : List «Type») (value : «Type») → IsBackward types → PointsBelow (length types) value.inner →
+    IsBackward (cond b types (types ++ value ∷ [])) × (length types ≤ length (cond b types (types ++ value ∷ [])))
+chosen_backward true types value backward below = (backward, omega arith)
+chosen_backward false types value backward below = (
+  backward_from (types ++ value ∷ []) (one_more (λ place t. PointsBelow place t.inner) types value backward.earlier below),
+  omega (arith, length-append types (value ∷ [])),
+)
+
+stays_backward : (types : List «Type») (resolution : TypeResolution) → IsBackward types → FitsTypes types resolution →
+    IsBackward (with_resolution types resolution) × (length types ≤ length (with_resolution types resolution))
+stays_backward types (Handle handle) backward fits = (backward, omega arith)
+stays_backward types (Value inner) backward fits =
+    chosen_backward (has_equal type.ghosts.eq types (unnamed inner)) types (unnamed inner) backward fits.0
+
+pub registered_types_fit : RegisteredTypesFit
+registered_types_fit types held e resolution backward fit at =
+    let lt : e < length held = slice_get_within held e resolution at in
+    let fits = subst (λ r. FitsTypes types r) (get_or_from_slice_get held e resolution resolution at) (fit e resolution lt) in
+    let more = stays_backward types resolution backward fits in
+    (more.0, types_fit_larger_arenas types (with_resolution types resolution) held more.1 fit)

@@ -5,8 +5,10 @@ use Rattle.shader_ir.specs.declared.expression.Expression.{Expression}
 use Rattle.shader_ir.specs.declared.proc.type_resolution.TypeResolution.{TypeResolution}
 use Rattle.shader_ir.specs.declared.types.«Type».{«Type»}
 use Rattle.shader_ir.specs.Key.{FitsTypes}
+use Rattle.shader_ir.specs.TypeTree.{IsBackward}
 use Rattle.shader_resolve.specs.Context.{Context}
 use Rattle.shader_typifier.specs.Grown.{Grows}
+use Rattle.shader_typifier.specs.Registered.{with_resolution}
 
 -- the types are derivable of the first expressions, in order
 abbrev pub AreDerived : Context → List Expression → List TypeResolution → Type 0
@@ -22,3 +24,9 @@ GrownTypesAreDerived = (context : Context) (expressions : List Expression) (old 
 abbrev pub TypesFitLargerArenas : Type 0
 TypesFitLargerArenas = (types more : List «Type») (held : List TypeResolution) → length types ≤ length more →
     All (FitsTypes types) held → All (FitsTypes more) held
+
+-- an arena in which a type of the table was registered has what a table asks of it to grow
+abbrev pub RegisteredTypesFit : Type 0
+RegisteredTypesFit = (types : List «Type») (held : List TypeResolution) (e : ℕ) (resolution : TypeResolution) → IsBackward types →
+    All (FitsTypes types) held → slice_get held e ≡ Some resolution →
+    IsBackward (with_resolution types resolution) × All (FitsTypes (with_resolution types resolution)) held

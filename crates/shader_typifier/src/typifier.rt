@@ -1,12 +1,13 @@
 //! The types of the first expressions of a function.
-ghost use Rattle.std.specs.Prelude.{◌≡◌, ◌↔◌, ◌<◌, ◌≤◌, ◌+◌, [], All, Some, IfErr, IfOk, IsOkAnd, IsTrue, OnErr, OnOk, length, slice_get, take};
+ghost use Rattle.std.specs.Prelude.{◌≡◌, ◌↔◌, ◌<◌, ◌≤◌, ◌+◌, [], All, Some, length, slice_get, take};
+ghost use Rattle.std.specs.Prelude.{IfErr, IfOk, IsOkAnd, IsTrue, OnErr, OnOk};
 ghost use Rattle.std.specs.Option.{option_and_then};
 ghost use Rattle.shader_arena.specs.Places.{most_items};
-ghost use Rattle.shader_ir.specs.Key.{FitsTypes, inner_of};
+ghost use Rattle.shader_ir.specs.Key.{FitsTypes, HoldsNoList, inner_of};
 ghost use Rattle.shader_ir.specs.TypeTree.{IsBackward, PointsBelow};
 ghost use Rattle.shader_ir.specs.declared.proc.type_resolution.TypeResolution.{TypeResolution};
 ghost use Rattle.shader_typifier.specs.Grown.{Grows, IsRefusedAs, IsRefusedNext, IsTyped};
-ghost use Rattle.shader_typifier.specs.Registered.{IsRegistered};
+ghost use Rattle.shader_typifier.specs.Registered.{IsMissing, IsRegistered, with_resolution};
 
 use crate::TypifyError;
 use crate::names::{names_in_range, operands_below};
@@ -143,6 +144,7 @@ impl Typifier {
         ensures whole { OnOk result (handle < length self.new) }
         ensures no_more { length self.old ≤ handle → length self.new ≤ handle + 1 }
         ensures idle { handle < length self.old → self.new ≡ self.old }
+        ensures asked { OnErr result (length self.old ≤ handle) }
         ensures refused { IfErr result (IsRefusedNext context.now expressions.now self.new) }
         ensures fits { All (FitsTypes context.now.types) self.new }
     {
@@ -183,11 +185,12 @@ impl Typifier {
         self.grow(alloc, handle, expressions, context)
     }
 
-    /// The handle of an expression's type. A free-standing type goes into the arena without a name, where it isn't there yet.
+    /// The handle of an expression's type. A free-standing type goes into the arena without a name, where it isn't there yet; nothing
+    /// else is added.
     ///
     /// # Errors
     ///
-    /// `AllocError` if memory for the arena is refused, which then holds what it held.
+    /// `AllocError` if memory for the arena is refused, which then holds what it held. A type that is there asks for none.
     pub fn register_type(
         &self,
         alloc: Global,
@@ -198,8 +201,12 @@ impl Typifier {
         requires room { length types.old < most_items }
         ensures registered { IfOk result (λ ty. (resolution : TypeResolution) → slice_get self.now handle ≡ Some resolution →
             IsRegistered types.new resolution ty) }
+        ensures added { OnOk result ((resolution : TypeResolution) → slice_get self.now handle ≡ Some resolution →
+            types.new ≡ with_resolution types.old resolution) }
         ensures kept { take (length types.old) types.new ≡ types.old }
         ensures err { OnErr result (types.new ≡ types.old) }
+        ensures asks { OnErr result ((resolution : TypeResolution) → slice_get self.now handle ≡ Some resolution → HoldsNoList resolution →
+            IsMissing types.old resolution) }
     {
         match &self[handle] {
             TypeResolution::Handle(ty) => Ok(*ty),

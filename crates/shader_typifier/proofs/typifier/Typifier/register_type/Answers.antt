@@ -1,6 +1,6 @@
 use Rattle.std.proofs.Common.{rules, ◌∙◌, ap, length, take, None}
 use Rattle.std.proofs.Math.Seq.{take-length}
-use Rattle.shader_typifier.proofs.RegisterLemmas.{handle_registered, kept, registered, value_registered}
+use Rattle.shader_typifier.proofs.RegisterLemmas.{copy_asks, handle_added, handle_registered, insert_asks, kept, registered, value_added, value_registered}
 use Rattle.shader_typifier.proofs.typifier.Typifier.register_type.Goals as goal
 
 pub returns-in_err-inner-in-Value-clause-kept : goal.returns-in_err-inner-in-Value-clause-kept
@@ -17,13 +17,33 @@ returns-in-Handle-clause-registered c =
 pub returns-in-Handle-clause-kept : goal.returns-in-Handle-clause-kept
 returns-in-Handle-clause-kept c = take-length c.args.types.now
 
+pub returns-in-Handle-clause-added : goal.returns-in-Handle-clause-added
+returns-in-Handle-clause-added c =
+    handle_added c.args.types.now c.args.self.now c.args.handle c.index.result.now c.index.ensures c.in-Handle.ty (search rules)
+
 pub returns-in_ok-insert-in-Value-clause-registered : goal.returns-in_ok-insert-in-Value-clause-registered
-returns-in_ok-insert-in-Value-clause-registered c =
+returns-in_ok-insert-in-Value-clause-registered c = λ resolution is.
     value_registered c.insert.new.self c.args.self.now c.args.handle c.index.result.now c.index.ensures c.in-Value.inner
-    c.in_ok-inner-in-Value.inner c.in_ok-insert-in-Value.field-0 (search rules) c.in_ok-inner-in-Value.ensures.copy
+    c.in_ok-inner-in-Value.inner (search rules) c.in_ok-inner-in-Value.ensures.copy resolution is c.in_ok-insert-in-Value.field-0
     (registered c.insert.new.self (record { name = None; inner = c.in_ok-inner-in-Value.inner }) c.in_ok-insert-in-Value.field-0
     c.in_ok-insert-in-Value.ensures.only)
+
+pub returns-in_ok-insert-in-Value-clause-added : goal.returns-in_ok-insert-in-Value-clause-added
+returns-in_ok-insert-in-Value-clause-added c = λ resolution is.
+    value_added c.args.types.now c.args.self.now c.args.handle c.index.result.now c.index.ensures c.in-Value.inner
+    c.in_ok-inner-in-Value.inner (search rules) c.in_ok-inner-in-Value.ensures.copy resolution is c.insert.new.self
+    c.in_ok-insert-in-Value.ensures.inserted
 
 pub returns-in_ok-insert-in-Value-clause-kept : goal.returns-in_ok-insert-in-Value-clause-kept
 returns-in_ok-insert-in-Value-clause-kept c = kept c.args.types.now c.insert.new.self
     (record { name = None; inner = c.in_ok-inner-in-Value.inner }) c.in_ok-insert-in-Value.ensures.inserted
+
+pub returns-in_err-inner-in-Value-clause-asks : goal.returns-in_err-inner-in-Value-clause-asks
+returns-in_err-inner-in-Value-clause-asks c =
+    copy_asks c.args.types.now c.args.self.now c.args.handle c.index.result.now c.index.ensures _ c.in-Value.inner (search rules)
+    (λ none. absurd (cc (c.in_err-inner-in-Value.ensures.ok none)))
+
+pub returns-in_err-insert-in-Value-clause-asks : goal.returns-in_err-insert-in-Value-clause-asks
+returns-in_err-insert-in-Value-clause-asks c =
+    insert_asks c.args.types.now c.args.self.now c.args.handle c.index.result.now c.index.ensures _ c.in-Value.inner (search rules)
+    c.in_ok-inner-in-Value.inner c.in_ok-inner-in-Value.ensures.copy c.in_err-insert-in-Value.ensures.absent
