@@ -11,7 +11,7 @@ FUNCTION = re.compile(r"( *)(?:pub(?:\(\w+\))? )?(?:final |const )*fn (\w+)")
 # What else an edit may change: a constant, a derive.
 ITEM = re.compile(r" *(pub(\(\w+\))? )?(const|static|struct|enum|impl|trait|type|mod|use|ghost use|macro_rules!)\b(?! fn)")
 OWNER = re.compile(r"(?:impl(?:<.*?>)? (?:(?:\w+::)*(\w+)(?:<(.*)>)? for )?&?|(?:pub(?:\(\w+\))? )?trait )(\w+)")
-DECLARED = re.compile(r"(?m)^ *(?:pub(?:\(\w+\))? )?(?:struct|enum|trait) (\w+)")
+DECLARED = re.compile(r"(?m)^ *(?:pub(?:\(\w+\))? )?(?:struct|enum|trait) (\w+)(?![\w;])")
 CYCLE = re.compile(r" *#\[cycle\((\w+)\)\]")
 CONSTANT = re.compile(r"\bconst (\w+): [^=;{]*=([^;]*);")
 
@@ -79,7 +79,7 @@ class Function:
         if self.owner:
             trait, of, kind = self.owner.groups()
             words = [it[0].upper() + it[1:] for it in re.findall(r"\w\w+", of or "") if of != kind]
-            below = ["".join([kind, trait or "", *words])]
+            below = ["".join([kind[0].upper() + kind[1:] if trait else kind, trait or "", *words])]
             if not trait:
                 modules = sorted(homes.get(kind, ()))
         return ["::".join([*filter(None, it.split("/")), *below, self.name]) for it in modules]
