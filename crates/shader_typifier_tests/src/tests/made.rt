@@ -42,6 +42,14 @@ pub enum Held {
     FirstType,
 }
 
+/// The place of a type that is registered in an arena of the float alone.
+pub fn place_of(held: Held) -> usize {
+    match held {
+        Held::Float | Held::FirstType => 0,
+        Held::Vector => 1,
+    }
+}
+
 /// How a table answers.
 #[derive(Clone, Copy)]
 pub enum Told {
