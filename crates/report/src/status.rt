@@ -1,3 +1,4 @@
+//! How a run ends, and its exit status.
 /// How a run ended.
 #[derive(Clone, Copy, Debug, PartialEq, Eq)]
 pub enum Status {

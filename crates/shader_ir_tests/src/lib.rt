@@ -1,6 +1,7 @@
 //! Tests of `shader_ir` by its public items alone, of what no clause says.
 #![tactic(auto)]
 
-pub mod shapes;
+#[cfg(test)]
+mod shapes;
 #[cfg(test)]
 mod tests;

@@ -37,7 +37,7 @@ impl<'a> Model for Reasons<'a> {
 impl<'a> Reasons<'a> {
     /// Walks once over each function.
     ///
-    /// A module is well formed where `check_module` answers `Ok`; it may be one that the analysis refuses.
+    /// A module is well formed where `check_module` returns `Ok`; it may be one that the analysis refuses.
     ///
     /// # Errors
     ///

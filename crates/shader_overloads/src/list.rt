@@ -20,7 +20,7 @@ use std::rc::RcSlice;
 
 /// A list of rules, some of which are left, which contracts see as those rules.
 ///
-/// Copies share the rules. Each rule must be preferred to all later ones.
+/// Copies share the rules. Whoever makes a list puts its rules in order of preference; no call asks for that.
 #[derive(Drop)]
 pub struct List {
     set: Masked<ListRows>,

@@ -12,10 +12,10 @@
 //!    makes no difference, nor does one that comes twice. Where `is_empty` is true after an argument, that argument is the one to blame,
 //!    and `allowed_args` of the set before says what would have been taken there.
 //! 2. `concrete_only` leaves out rules with abstract arguments, where a value is needed at run time.
-//! 3. `most_preferred` is the rule that is left first, since each set lists its rules in order of preference: it is the result of the
-//!    resolution, and says to which types the arguments are converted and what the call gives.
+//! 3. `most_preferred` is the rule that is left first, since the sets of builtin functions list their rules in order of preference: it
+//!    is the result of the resolution, and says to which types the arguments are converted and what the call gives.
 //!
-//! `narrow` is step 1 for a list of arguments. Against WGSL two things are simplified, as in naga: a set holds the rules of one
+//! `narrow` does the first two steps for a list of calls. Against WGSL two things are simplified, as in naga: a set holds the rules of one
 //! function and no template parameters, so `vecN<T>` stands once for each size and scalar; and what is preferred is a fixed order of
 //! the rules, of which `shader_overloads_laws` proves that no rule that is left has a smaller rank than the first at any argument.
 //!

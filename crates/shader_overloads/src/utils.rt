@@ -1,4 +1,4 @@
-//! What the lists of rules are made with.
+//! What lists of rules are made with, here and by front ends.
 ghost use Rattle.std.specs.Prelude.{⊤, ◌≡◌, ◌≤◌, IfOk, IsTrue, length, map};
 ghost use Rattle.std.specs.List.{list_all};
 ghost use Rattle.std.specs.Iterator.{YieldsFirst, item_count};

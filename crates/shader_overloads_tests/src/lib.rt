@@ -1,6 +1,7 @@
 //! Tests of `shader_overloads` by its public items alone, of what no clause says.
 #![tactic(auto)]
 
-pub mod made;
+#[cfg(test)]
+mod made;
 #[cfg(test)]
 mod tests;

@@ -1,10 +1,9 @@
 //! Tests of `shader_resolve` by its public items alone.
 #![tactic(auto)]
 
+#[cfg(test)]
 mod alike;
+#[cfg(test)]
 mod held;
 #[cfg(test)]
 mod tests;
-
-pub use alike::loads_alike;
-pub use held::{load_held, resolve_held};

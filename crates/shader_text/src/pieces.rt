@@ -1,3 +1,4 @@
+//! Texts cut at separators.
 use crate::bytes::index_of;
 use std::marker::Model;
 

@@ -11,4 +11,6 @@ pub use shader_info::{
     FunctionInfo, GlobalOrArgument, GlobalUse, NonUniformResult, Sampling, SamplingKey, Uniformity,
     UniformityDisruptor, UniformityRequirements, ValidationFlags,
 };
-pub use shader_resolve::{MOST_LEVELS, ModuleFault, check_module, nests_within};
+pub use shader_resolve::{
+    MOST_LEVELS, ModuleFault, ModulePlace, check_module, find_fault, nests_within,
+};

@@ -1,3 +1,4 @@
+//! How a run ends, and its exit status.
 use program_io::InputError;
 use typer_answers::Outcome;
 

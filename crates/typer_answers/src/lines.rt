@@ -1,3 +1,4 @@
+//! Texts cut at the ends of lines.
 use shader_text::index_of;
 
 /// The lines of a text, from the first on. The last may lack its end.

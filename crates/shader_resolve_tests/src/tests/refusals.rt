@@ -2,7 +2,7 @@
 //!
 //! With ample memory nothing is refused. Where the allocator refuses the Nth request of a test's process, the test passes
 //! still, and prints a line with `was refused`. The first N at which no test prints one is past all requests.
-use crate::resolve_held;
+use crate::held::resolve_held;
 use crate::tests::rows::{at, empty_module, vector};
 use shader_arena::Arena;
 use shader_ir::{

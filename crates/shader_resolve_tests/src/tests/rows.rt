@@ -1,5 +1,5 @@
 //! What the tests of the table of types are made with.
-use crate::resolve_held;
+use crate::held::resolve_held;
 use shader_arena::{Arena, Handle, UniqueArena};
 use shader_ir::{
     AddressSpace, ArraySize, Expression, FunctionArgument, ImageClass, ImageDimension, Items,

@@ -1,6 +1,7 @@
 use Rattle.std.proofs.Common.{rules, ◌∙◌, ap, length, take, None}
 use Rattle.std.proofs.Math.Seq.{take-length}
-use Rattle.shader_typifier.proofs.RegisterLemmas.{copy_asks, handle_added, handle_registered, insert_asks, kept, registered, value_added, value_registered}
+use Rattle.shader_typifier.proofs.RegisterLemmas.{copy_asks, handle_added, handle_registered, insert_asks}
+use Rattle.shader_typifier.proofs.RegisterLemmas.{kept, registered, value_added, value_registered}
 use Rattle.shader_typifier.proofs.typifier.Typifier.register_type.Goals as goal
 
 pub returns-in_err-inner-in-Value-clause-kept : goal.returns-in_err-inner-in-Value-clause-kept
