@@ -3,6 +3,7 @@
 use crate::narrowing::{describe, rules_left};
 use crate::step::calls_from_words;
 use shader_arena::UniqueArena;
+use shader_ir::MathFunction;
 use shader_text::{Pieces, builtin_from_word};
 use std::alloc::{AllocError, Global};
 
@@ -15,6 +16,15 @@ fn reply_to(alloc: Global, line: &[u8]) -> Result<Option<String>, AllocError> {
     let Some(function) = words.next().and_then(|name| builtin_from_word(name)) else {
         return Ok(None);
     };
+    narrowed(alloc, function, words)
+}
+
+/// What is left of the function's rules once the calls that the words stand for are made, if each stands for one.
+fn narrowed(
+    alloc: Global,
+    function: MathFunction,
+    words: Pieces<'_>,
+) -> Result<Option<String>, AllocError> {
     let mut types = UniqueArena::new(alloc);
     let Some(calls) = calls_from_words(alloc, words, &mut types)? else {
         return Ok(None);

@@ -1,6 +1,6 @@
 //! The rules of a builtin that are left, and what is said of them.
 
-ghost use Rattle.std.specs.Prelude.{◌≡◌, All, IfOk};
+ghost use Rattle.std.specs.Prelude.{◌≡◌, ◌≢◌, [], All, IfOk};
 ghost use Rattle.shader_overloads.specs.AnySet.{rules_in};
 ghost use Rattle.shader_overloads.specs.Builtins.{acceptance_of, rules_of};
 ghost use Rattle.shader_overloads.specs.Remaining.{CallFits, remaining};
@@ -33,10 +33,8 @@ pub fn describe(
     left: &AnyOverloadSet,
     types: &UniqueArena<Type, mark::Type>,
 ) -> Result<String, AllocError> {
-    let mut text = String::new(alloc);
     if left.is_empty() {
-        write!(text, "refused")?;
-        return Ok(text);
+        return "refused".to_string(alloc);
     }
     let constants = Arena::new(alloc);
     let overrides = Arena::new(alloc);
@@ -47,6 +45,18 @@ pub fn describe(
         overrides: &overrides,
         global_expressions: &global_expressions,
     };
+    describe_rules(alloc, left, ctx)
+}
+
+/// The rules of a set that isn't empty, with what it says of their arguments.
+fn describe_rules(
+    alloc: Global,
+    left: &AnyOverloadSet,
+    ctx: GlobalCtx<'_>,
+) -> Result<String, AllocError>
+    requires { rules_in left.now ≢ [] }
+{
+    let mut text = String::new(alloc);
     let rules = left.overload_list(alloc, ctx)?;
     let least = left.min_arguments();
     let greatest = left.max_arguments();

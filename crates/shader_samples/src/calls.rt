@@ -1,5 +1,5 @@
 //! An image and a sampler that are handed on from call to call.
-ghost use Rattle.std.specs.Prelude.{◌≡◌, IfOk};
+ghost use Rattle.std.specs.Prelude.{◌≡◌, [], ◌∷◌, IfOk};
 ghost use Rattle.shader_ir.specs.Scalars.{scalar};
 ghost use Rattle.shader_ir.specs.declared.scalar.ScalarKind.TheVariants as kinds;
 ghost use Rattle.shader_ir.specs.declared.types.TypeInner.TheVariants.{Vector};
@@ -64,8 +64,9 @@ fn taking_both(alloc: Global) -> Result<Function, AllocError>
     ]?;
     let value = Some(at(3));
     let statements = vec![in alloc; emit(3, 4), Statement::Return { value }]?;
+    let taken = vec![in alloc; argument(0), argument(1)]?;
     let mut function = function_of(alloc, expressions, statements)?;
-    function.arguments = Items::from(vec![in alloc; argument(0), argument(1)]?);
+    function.arguments = Items::from(taken);
     function.result = Some(FunctionResult {
         ty: Handle::from_index(3),
         binding: None,
@@ -80,8 +81,9 @@ fn taking_the_image(alloc: Global) -> Result<Function, AllocError>
     let expressions = vec![in alloc; Expression::FunctionArgument(0), global(1)]?;
     let arguments = vec![in alloc; at(0), at(1)]?;
     let statements = vec![in alloc; call(0, arguments)]?;
+    let taken = vec![in alloc; argument(0)]?;
     let mut function = function_of(alloc, expressions, statements)?;
-    function.arguments = Items::from(vec![in alloc; argument(0)]?);
+    function.arguments = Items::from(taken);
     Ok(function)
 }
 
@@ -118,10 +120,15 @@ pub fn sampling(alloc: Global) -> Result<Module, AllocError>
         floats(VectorSize::Quad),
     ]?;
     let globals = vec![in alloc; resource(0), resource(1)]?;
-    let functions = vec![in alloc;
-        taking_both(alloc)?,
-        taking_the_image(alloc)?,
-        calling_twice(alloc)?,
-    ]?;
-    module_of(alloc, types, globals, functions)
+    module_of(alloc, types, globals, sampling_functions(alloc)?)
+}
+
+/// The functions of `sampling`.
+fn sampling_functions(alloc: Global) -> Result<Vec<Function>, AllocError>
+    ensures { IfOk result (λ made. made.items ≡ taking_both ∷ taking_the_image ∷ calling_twice ∷ []) }
+{
+    let first = taking_both(alloc)?;
+    let second = taking_the_image(alloc)?;
+    let third = calling_twice(alloc)?;
+    Ok(vec![in alloc; first, second, third]?)
 }

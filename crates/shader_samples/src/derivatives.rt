@@ -131,9 +131,10 @@ pub fn derivative(alloc: Global) -> Result<Module, AllocError>
 pub fn derivative_off(alloc: Global) -> Result<Module, AllocError>
     ensures { IfOk result (λ made. made ≡ derivative_off_module) }
 {
+    let filters = derivatives_off(alloc)?;
     let mut function = function(alloc, on_what_differs(alloc)?)?;
     function.diagnostic_filter_leaf = Some(Handle::from_index(0));
     let mut module = over_two_vectors(alloc, function)?;
-    module.diagnostic_filters = derivatives_off(alloc)?;
+    module.diagnostic_filters = filters;
     Ok(module)
 }

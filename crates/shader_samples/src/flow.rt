@@ -144,9 +144,10 @@ pub fn no_fall(alloc: Global) -> Result<Module, AllocError>
 pub fn exit_off(alloc: Global) -> Result<Module, AllocError>
     ensures { IfOk result (λ made. made ≡ exit_off_module) }
 {
+    let filters = derivatives_off(alloc)?;
     let mut function = switching(alloc, true)?;
     function.diagnostic_filter_leaf = Some(Handle::from_index(0));
     let mut module = over_a_float(alloc, vec![in alloc; function]?)?;
-    module.diagnostic_filters = derivatives_off(alloc)?;
+    module.diagnostic_filters = filters;
     Ok(module)
 }

@@ -8,18 +8,28 @@ ghost use Rattle.shader_samples.specs.Modules.{function_with};
 ghost use Rattle.shader_samples.specs.Samples.{both, counter_named, named_module, number, over_a_counter, stored_module};
 
 use crate::parts::{at, call, function_of, global, module_of, number, storage, store};
-use shader_ir::{Function, Module, Name, Scalar, Statement, TypeInner};
+use shader_arena::Handle;
+use shader_ir::{Function, Map, Module, Name, Scalar, Statement, TypeInner, mark};
 use std::alloc::{AllocError, Global};
+
+/// The name of expression 0.
+fn counter_named(alloc: Global) -> Result<Map<Handle<mark::Expression>, Name>, AllocError>
+    ensures { IfOk result (λ made. made ≡ counter_named) }
+{
+    let mut named = Map::new(alloc);
+    named.insert(at(0), Name::from("counter".to_string(alloc)?))?;
+    Ok(named)
+}
 
 /// `let counter = &g;`, and then these statements, in which `g` is expression 0 and `1u` expression 1.
 fn naming(alloc: Global, statements: Vec<Statement>) -> Result<Function, AllocError>
     ensures { IfOk result (λ made. made ≡ function_with [] None (GlobalVariable 0 ∷ number 1 ∷ []) counter_named
         (body_of statements.items)) }
 {
+    let named = counter_named(alloc)?;
     let expressions = vec![in alloc; global(0), number(1)]?;
     let mut function = function_of(alloc, expressions, statements)?;
-    let name = Name::from("counter".to_string(alloc)?);
-    function.named_expressions.insert(at(0), name)?;
+    function.named_expressions = named;
     Ok(function)
 }
 
@@ -27,9 +37,9 @@ fn naming(alloc: Global, statements: Vec<Statement>) -> Result<Function, AllocEr
 fn naming_alone(alloc: Global) -> Result<Function, AllocError>
     ensures { IfOk result (λ made. made ≡ function_with [] None (GlobalVariable 0 ∷ []) counter_named End) }
 {
+    let named = counter_named(alloc)?;
     let mut function = function_of(alloc, vec![in alloc; global(0)]?, Vec::new(alloc))?;
-    let name = Name::from("counter".to_string(alloc)?);
-    function.named_expressions.insert(at(0), name)?;
+    function.named_expressions = named;
     Ok(function)
 }
 

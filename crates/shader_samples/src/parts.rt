@@ -67,11 +67,26 @@ pub fn module_of(
     requires functions { length functions.items ≤ most_items }
     ensures { IfOk result (λ made. made ≡ module_with (types_after [] types.items) globals.items functions.items) }
 {
+    let functions = arena_of(alloc, functions)?;
+    let globals = arena_of(alloc, globals)?;
+    let types = types_of(alloc, types)?;
+    Ok(module_with(alloc, types, globals, functions))
+}
+
+/// A module that has these and nothing else.
+fn module_with(
+    alloc: Global,
+    types: UniqueArena<Type, mark::Type>,
+    global_variables: Arena<GlobalVariable, mark::GlobalVariable>,
+    functions: Arena<Function, mark::Function>,
+) -> Module
+    ensures { result ≡ module_with types global_variables functions }
+{
     let mut module = Module::new(alloc);
-    module.types = types_of(alloc, types)?;
-    module.global_variables = arena_of(alloc, globals)?;
-    module.functions = arena_of(alloc, functions)?;
-    Ok(module)
+    module.types = types;
+    module.global_variables = global_variables;
+    module.functions = functions;
+    module
 }
 
 /// A function without arguments, result and locals.
