@@ -4,11 +4,11 @@ ghost use Rattle.std.specs.Str.{IsUtf8};
 ghost use Rattle.json.specs.Json.{document};
 ghost use Rattle.shader_json_values.specs.Errors.{Tells, most_bytes};
 
-use crate::expressions::Expressions;
-use crate::functions::{EntryPoints, Functions};
 use json::{Scratch, Value};
 use shader_ir::Module;
 use shader_json_data::Fields;
+use shader_json_expressions::Expressions;
+use shader_json_functions::{EntryPoints, Functions};
 use shader_json_values::{Context, Failure, MOST_BYTES, ReadError, parse};
 use std::alloc::Global;
 use std::str;

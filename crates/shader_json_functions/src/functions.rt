@@ -1,11 +1,11 @@
 //! Functions and entry points.
 
-use crate::expressions::Expressions;
 use crate::statements::Body;
 use json::Value;
 use shader_arena::Arena;
 use shader_ir::{EntryPoint, Function, Items, mark};
 use shader_json_data::{Fields, Read};
+use shader_json_expressions::Expressions;
 use shader_json_values::{Context, Failure, within};
 
 /// One function.
@@ -42,7 +42,7 @@ impl Read for Held {
 
 /// The functions that may be called.
 #[derive(Drop)]
-pub(crate) struct Functions(pub Arena<Function, mark::Function>);
+pub struct Functions(pub Arena<Function, mark::Function>);
 
 impl Read for Functions {
     fn read(context: &mut Context, value: &Value<'_>) -> Result<Functions, Failure> {
@@ -63,7 +63,7 @@ impl Read for Functions {
 
 /// The functions that a pipeline may start at.
 #[derive(Drop)]
-pub(crate) struct EntryPoints(pub Items<EntryPoint>);
+pub struct EntryPoints(pub Items<EntryPoint>);
 
 impl Read for EntryPoints {
     fn read(context: &mut Context, value: &Value<'_>) -> Result<EntryPoints, Failure> {

@@ -5,6 +5,7 @@ use json::{MAX_DEPTH, Value};
 use shader_arena::Handle;
 use shader_ir::{Block, Statement, SwitchCase, mark};
 use shader_json_data::{Data, Fields, Read, Variant};
+use shader_json_expressions::Tile;
 use shader_json_values::{Context, Failure, within};
 
 /// The statements of a function.
@@ -200,7 +201,7 @@ fn store(context: &mut Context, name: &str, data: Data<'_, '_>) -> Result<Statem
             Ok(Statement::WorkGroupUniformLoad { pointer, result })
         }
         "CooperativeStore" => {
-            let (Code(tile), target) = data.pair(context, "data", "target")?;
+            let (Tile(tile), target) = data.pair(context, "data", "target")?;
             Ok(Statement::CooperativeStore { target, tile })
         }
         _ => atomic(context, name, data),

@@ -1,4 +1,4 @@
-//! What expressions and statements are made of, beside handles.
+//! What expressions are made of, beside handles.
 
 /// A value of a crate that is neither this one nor that of the trait `Read`, which needs a type of this crate.
 #[derive(Clone, Copy)]

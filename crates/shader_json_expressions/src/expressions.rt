@@ -1,6 +1,7 @@
 //! Expressions.
 
 use crate::code::Code;
+use crate::expression_parts::Tile;
 use crate::operators::Pattern;
 use json::Value;
 use shader_arena::Arena;
@@ -10,7 +11,7 @@ use shader_json_values::{Context, Failure, within};
 
 /// The expressions of a function or of a module.
 #[derive(Drop)]
-pub(crate) struct Expressions(pub Arena<Expression, mark::Expression>);
+pub struct Expressions(pub Arena<Expression, mark::Expression>);
 
 impl Read for Expressions {
     fn read(context: &mut Context, value: &Value<'_>) -> Result<Expressions, Failure> {
@@ -236,7 +237,7 @@ fn cooperative(
     match name {
         "CooperativeLoad" => {
             let fields = data.fields(context)?;
-            let Code(tile) = fields.needed(context, "data")?;
+            let Tile(tile) = fields.needed(context, "data")?;
             let (columns, rows, role) = fields.triple(context, "columns", "rows", "role")?;
             Ok(Expression::CooperativeLoad {
                 columns,

@@ -40,8 +40,12 @@ impl Read for Code<ImageQuery> {
     }
 }
 
-impl Read for Code<CooperativeData> {
-    fn read(context: &mut Context, value: &Value<'_>) -> Result<Code<CooperativeData>, Failure> {
+/// Where a cooperative matrix lies in memory, which statements name too.
+#[derive(Clone, Copy)]
+pub struct Tile(pub CooperativeData);
+
+impl Read for Tile {
+    fn read(context: &mut Context, value: &Value<'_>) -> Result<Tile, Failure> {
         let fields = Fields::of(context, value)?;
         let (pointer, stride, row_major) = fields.triple(
             context,
@@ -49,7 +53,7 @@ impl Read for Code<CooperativeData> {
             "stride",
             "row_major",
         )?;
-        Ok(Code(CooperativeData {
+        Ok(Tile(CooperativeData {
             pointer,
             stride,
             row_major,

@@ -1,5 +1,5 @@
 use Rattle.std.proofs.Common.{◌+◌, ◌*◌}
-use Rattle.shader_json.proofs.statements.+statement.Given as goal
+use Rattle.shader_json_functions.proofs.statements.+statement.Given as goal
 
 abbrev pub decreases-block : goal.decreases-block
 decreases-block l = 6 * l.depth

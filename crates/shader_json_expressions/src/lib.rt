@@ -1,0 +1,12 @@
+//! The expressions of a module from JSON.
+#![tactic(auto)]
+
+mod code;
+mod expression_parts;
+mod expressions;
+mod floats;
+mod literal;
+mod operators;
+
+pub use expression_parts::Tile;
+pub use expressions::Expressions;
