@@ -22,6 +22,15 @@ fn fill(context: &mut Context, fields: Fields<'_, '_>, module: &mut Module) -> R
     module.functions = functions;
     let EntryPoints(entry_points) = fields.needed(context, "entry_points")?;
     module.entry_points = entry_points;
+    fill_declarations(context, fields, module)
+}
+
+/// Gives an empty module what these fields declare outside functions.
+fn fill_declarations(
+    context: &mut Context,
+    fields: Fields<'_, '_>,
+    module: &mut Module,
+) -> Result<(), Failure> {
     module.special_types = fields.needed(context, "special_types")?;
     module.constants = fields.needed(context, "constants")?;
     module.overrides = fields.needed(context, "overrides")?;
