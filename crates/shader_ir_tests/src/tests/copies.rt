@@ -1,5 +1,5 @@
 //! Copies, with ample memory.
-use crate::tests::samples::{WANT, add};
+use crate::tests::samples::{WANT, add, let_go};
 use shader_arena::{Arena, Handle};
 use shader_ir::{
     AddressSpace, BinaryOperator, Block, Constant, EntryPoint, Expression, Function,
@@ -46,14 +46,27 @@ fn of_a_long_list(rt: HostRuntime) {
     assert!(rt; copy == items);
 }
 
+type Names = Map<Handle<mark::Expression>, Name>;
+
+/// Adds a name that is the first of its expression.
+fn add_name(rt: &impl Abort, names: &mut Names, place: u32, name: Name) {
+    let before = names.insert(at(place), name).expect(rt, WANT);
+    assert!(rt; before.is_none());
+}
+
+/// Asks a map for the name of expression 7 and no other, and lets it go.
+fn expects_names(rt: &impl Abort, names: Names) {
+    assert!(rt; names.len() == 1);
+    assert!(rt; names.get(&at(7)).is_some() && names.get(&at(6)).is_none());
+}
+
 #[test]
 fn of_a_map(rt: HostRuntime) {
     let mut map = Map::new(rt.alloc());
-    let sum = name(&rt, rt.alloc(), "sum");
-    assert!(rt; map.insert(at(7), sum).expect(&rt, WANT).is_none());
+    add_name(&rt, &mut map, 7, name(&rt, rt.alloc(), "sum"));
     let copy = map.copy(rt.alloc()).expect(&rt, WANT);
-    assert!(rt; copy.len() == 1);
-    assert!(rt; copy.get(&at(7)).is_some() && copy.get(&at(6)).is_none());
+    expects_names(&rt, copy);
+    expects_names(&rt, map);
 }
 
 #[test]
@@ -257,25 +270,46 @@ fn function(rt: &impl Abort, alloc: Global) -> Function {
     }
 }
 
+fn is_function_of_one(function: &Function) -> bool {
+    is_named(&function.name, "f") && is_kill(&function.body) && function.expressions.len() == 1
+}
+
+/// Asks a function for what it is made of, and lets it go.
+fn expects_function(rt: &impl Abort, function: Function) {
+    assert!(rt; is_function_of_one(&function));
+}
+
 #[test]
 fn of_a_function(rt: HostRuntime) {
     let function = function(&rt, rt.alloc());
     let copy = function.copy(rt.alloc()).expect(&rt, WANT);
-    assert!(rt; is_named(&copy.name, "f") && is_kill(&copy.body));
-    assert!(rt; copy.expressions.len() == 1);
+    expects_function(&rt, copy);
+    expects_function(&rt, function);
+}
+
+/// An entry point whose function has one expression.
+fn entry_point(rt: &impl Abort, alloc: Global) -> EntryPoint {
+    EntryPoint {
+        name: name(rt, alloc, "main"),
+        stage: ShaderStage::Compute,
+        function: function(rt, alloc),
+    }
+}
+
+/// Asks an entry point for what it is made of, and lets it go.
+fn expects_entry_point(rt: &impl Abort, entry: EntryPoint) {
+    assert!(rt; entry.stage == ShaderStage::Compute);
+    let EntryPoint { name, function, .. } = entry;
+    expects_function(rt, function);
+    assert!(rt; name.as_str() == "main");
 }
 
 #[test]
 fn of_an_entry_point(rt: HostRuntime) {
-    let entry = EntryPoint {
-        name: name(&rt, rt.alloc(), "main"),
-        stage: ShaderStage::Compute,
-        function: function(&rt, rt.alloc()),
-    };
+    let entry = entry_point(&rt, rt.alloc());
     let copy = entry.copy(rt.alloc()).expect(&rt, WANT);
-    assert!(rt; copy.name.as_str() == "main");
-    assert!(rt; copy.stage == ShaderStage::Compute);
-    assert!(rt; copy.function.expressions.len() == 1);
+    expects_entry_point(&rt, copy);
+    expects_entry_point(&rt, entry);
 }
 
 fn special_types(alloc: Global) -> SpecialTypes {
@@ -315,4 +349,6 @@ fn of_a_module(rt: HostRuntime) {
     let module = module_of_one(&rt, rt.alloc());
     let copy = module.copy(rt.alloc()).expect(&rt, WANT);
     assert!(rt; is_module_of_one(&copy));
+    let_go(copy);
+    let_go(module);
 }

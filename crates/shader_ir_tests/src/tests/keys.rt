@@ -35,14 +35,23 @@ fn equal_types_have_one_handle(rt: HostRuntime) {
     assert!(rt; again == first && types.len() == 1);
 }
 
+/// Asks whether types are the same but for their names.
+fn differ_by_name(
+    rt: &impl Abort,
+    types: &Types,
+    left: Handle<mark::Type>,
+    right: Handle<mark::Type>,
+) -> bool {
+    assert!(rt; types.contains_handle(left) && types.contains_handle(right));
+    types[left].inner.is_same(&types[right].inner) && !types[left].is_same(&types[right])
+}
+
 #[test]
 fn types_of_other_names_have_other_handles(rt: HostRuntime) {
     let mut types: Types = UniqueArena::new(rt.alloc());
     let first = add(&rt, &mut types, pair_of_floats());
     let other = add_named(&rt, rt.alloc(), &mut types, "Pair", pair_of_floats());
-    assert!(rt; types.contains_handle(first) && types.contains_handle(other));
-    assert!(rt; types[first].inner.is_same(&types[other].inner));
-    assert!(rt; !types[first].is_same(&types[other]));
+    assert!(rt; differ_by_name(&rt, &types, first, other));
 }
 
 fn are_one(
@@ -100,14 +109,20 @@ fn a_pointer_to_a_vector_is_its_value_pointer(rt: HostRuntime) {
     assert!(rt; compare_types(&pointer, &form, &types) && pointer != form);
 }
 
+/// Whether a pointer to a type has the form of one to a pair of floats, and is the same as it.
+fn is_pointer_to_pair(rt: &impl Abort, types: &Types, base: Handle<mark::Type>) -> bool {
+    assert!(rt; types.contains_handle(base));
+    let pointer = pointer_to(base);
+    let wanted = pointer_to_pair(Scalar::F32);
+    let is_same = pointer.non_struct_equivalent(&wanted, types);
+    is_same && pointer.canonical_form(types) == Some(wanted)
+}
+
 #[test]
 fn a_pointer_to_a_vector_has_a_canonical_form(rt: HostRuntime) {
     let mut types: Types = UniqueArena::new(rt.alloc());
     let pair = add(&rt, &mut types, pair_of_floats());
-    assert!(rt; types.contains_handle(pair));
-    let form = pointer_to(pair).canonical_form(&types);
-    assert!(rt; form == Some(pointer_to_pair(Scalar::F32)));
-    assert!(rt; pointer_to(pair).non_struct_equivalent(&pointer_to_pair(Scalar::F32), &types));
+    assert!(rt; is_pointer_to_pair(&rt, &types, pair));
 }
 
 #[test]
@@ -138,18 +153,33 @@ fn a_value_lends_itself(rt: HostRuntime) {
     assert!(rt; *resolution.inner_with(&types) == pair_of_floats());
 }
 
+/// Whether what an expression resolves to fits, and lets it go.
+fn fits(types: &Types, resolution: TypeResolution) -> bool {
+    resolution.fits(types)
+}
+
+/// Whether an array of a type has its handles in range.
+fn array_in_range(types: &Types, base: Handle<mark::Type>) -> bool {
+    array(base, ArraySize::Dynamic, 8).is_in_range(types)
+}
+
+/// Asks for what fits where one type is held.
+fn fits_one_type(rt: &impl Abort, alloc: Global, types: &Types, held: Handle<mark::Type>) {
+    let past = Handle::from_index(1);
+    assert!(rt; fits(types, TypeResolution::Handle(held)));
+    assert!(rt; !fits(types, TypeResolution::Handle(past)));
+    assert!(rt; array_in_range(types, held));
+    let outside = array(past, ArraySize::Dynamic, 8);
+    assert!(rt; !fits(types, TypeResolution::Value(outside)));
+    let unnamed = structure(Vec::new(alloc), 0);
+    assert!(rt; !fits(types, TypeResolution::Value(unnamed)));
+}
+
 #[test]
 fn what_fits_has_its_handles_in_range(rt: HostRuntime) {
     let mut types: Types = UniqueArena::new(rt.alloc());
     let held = add(&rt, &mut types, pair_of_floats());
-    let past = Handle::from_index(1);
-    assert!(rt; TypeResolution::Handle(held).fits(&types));
-    assert!(rt; !TypeResolution::Handle(past).fits(&types));
-    assert!(rt; array(held, ArraySize::Dynamic, 8).is_in_range(&types));
-    let outside = array(past, ArraySize::Dynamic, 8);
-    assert!(rt; !TypeResolution::Value(outside).fits(&types));
-    let unnamed = structure(Vec::new(rt.alloc()), 0);
-    assert!(rt; !TypeResolution::Value(unnamed).fits(&types));
+    fits_one_type(&rt, rt.alloc(), &types, held);
 }
 
 #[test]

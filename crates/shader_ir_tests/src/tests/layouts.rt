@@ -1,5 +1,7 @@
 //! Rows of layouts, and of types that have none.
-use crate::tests::samples::{Arenas, WANT, add, array, counted, matrix, pair, structure, vector};
+use crate::tests::samples::{
+    Arenas, Types, WANT, add, array, counted, matrix, pair, structure, vector,
+};
 use shader_arena::Handle;
 use shader_ir::{
     AddressSpace, ArraySize, CooperativeRole, CooperativeSize, GlobalCtx, LayoutError,
@@ -69,6 +71,7 @@ fn expects(rt: &impl Abort, alloc: Global, inner: TypeInner, wanted: Option<Figu
     let ty = add(rt, &mut arenas.types, inner);
     let mut layouter = Layouter::new(alloc);
     let found = laid_out(rt, &mut layouter, arenas.ctx(), ty);
+    arenas.let_go();
     assert!(rt; found == wanted);
 }
 
@@ -82,17 +85,32 @@ fn lays_out_added(rt: &impl Abort, layouter: &mut Layouter, ctx: GlobalCtx<'_>) 
     }
 }
 
+/// The layout of a type that is added and laid out.
+fn added(
+    rt: &impl Abort,
+    arenas: &mut Arenas,
+    layouter: &mut Layouter,
+    inner: TypeInner,
+) -> Figures {
+    let ty = add(rt, &mut arenas.types, inner);
+    lays_out_added(rt, layouter, arenas.ctx());
+    held(rt, layouter, ty)
+}
+
+/// Adds f32 and then a vector, and lays out each at once.
+fn adds_a_vector(rt: &impl Abort, arenas: &mut Arenas, layouter: &mut Layouter) {
+    added(rt, arenas, layouter, TypeInner::Scalar(Scalar::F32));
+    let floats = vector(VectorSize::Tri, Scalar::F32);
+    let found = added(rt, arenas, layouter, floats);
+    assert!(rt; Some(found) == row(12, 16, 16));
+}
+
 #[test]
 fn of_types_as_they_are_added(rt: HostRuntime) {
     let mut arenas = Arenas::new(rt.alloc());
     let mut layouter = Layouter::new(rt.alloc());
-    add(&rt, &mut arenas.types, TypeInner::Scalar(Scalar::F32));
-    lays_out_added(&rt, &mut layouter, arenas.ctx());
-    let floats = vector(VectorSize::Tri, Scalar::F32);
-    let ty = add(&rt, &mut arenas.types, floats);
-    lays_out_added(&rt, &mut layouter, arenas.ctx());
-    let found = held(&rt, &layouter, ty);
-    assert!(rt; Some(found) == row(12, 16, 16));
+    adds_a_vector(&rt, &mut arenas, &mut layouter);
+    arenas.let_go();
 }
 
 #[test]
@@ -214,6 +232,7 @@ fn a_width_is_refused_again_and_again(rt: HostRuntime) {
     let mut layouter = Layouter::new(rt.alloc());
     refuses_width(&rt, &mut layouter, arenas.ctx());
     refuses_width(&rt, &mut layouter, arenas.ctx());
+    arenas.let_go();
 }
 
 #[test]
@@ -224,6 +243,7 @@ fn a_cleared_layouter_begins_again(rt: HostRuntime) {
     layouter.clear();
     assert!(rt; layouter.len() == 0);
     refuses_width(&rt, &mut layouter, arenas.ctx());
+    arenas.let_go();
 }
 
 /// Refuses a type of the context, and none before it.
@@ -246,6 +266,7 @@ fn an_array_of_itself_is_refused(rt: HostRuntime) {
     let ty = add(&rt, &mut arenas.types, floats(ArraySize::Dynamic, 4));
     let inner = LayoutErrorInner::InvalidArrayElementType(ty);
     refuses(&rt, rt.alloc(), arenas.ctx(), ty, inner);
+    arenas.let_go();
 }
 
 #[test]
@@ -257,29 +278,46 @@ fn a_struct_of_a_later_type_is_refused(rt: HostRuntime) {
     let ty = add(&rt, &mut arenas.types, two);
     let inner = LayoutErrorInner::InvalidStructMemberType(1, later);
     refuses(&rt, rt.alloc(), arenas.ctx(), ty, inner);
+    arenas.let_go();
+}
+
+/// Lays out types of which none is refused, and lets them go.
+fn layouter_of(rt: &impl Abort, alloc: Global, arenas: Arenas) -> Layouter {
+    let mut layouter = Layouter::new(alloc);
+    assert!(rt; refusal(rt, &mut layouter, arenas.ctx()).is_none());
+    arenas.let_go();
+    layouter
+}
+
+/// Asks a layouter of one layout for what it prints.
+fn prints_one(rt: &impl Abort, alloc: Global, layouter: &Layouter) {
+    let told = format!(in alloc; "{layouter:?}").expect(rt, WANT);
+    assert!(rt; told.as_str() == "Layouter(1 types)");
 }
 
 #[test]
 fn a_layouter_prints_how_many_layouts_it_holds(rt: HostRuntime) {
     let mut arenas = Arenas::new(rt.alloc());
     add(&rt, &mut arenas.types, TypeInner::Scalar(Scalar::F32));
-    let mut layouter = Layouter::new(rt.alloc());
-    assert!(rt; refusal(&rt, &mut layouter, arenas.ctx()).is_none());
-    let told = format!(in rt.alloc(); "{layouter:?}").expect(&rt, WANT);
-    assert!(rt; told.as_str() == "Layouter(1 types)");
+    let layouter = layouter_of(&rt, rt.alloc(), arenas);
+    prints_one(&rt, rt.alloc(), &layouter);
+}
+
+/// Adds f32, and 65536 arrays of it.
+fn add_many(rt: &impl Abort, types: &mut Types) {
+    add(rt, types, TypeInner::Scalar(Scalar::F32));
+    for count in 1..65_537 {
+        assert!(rt; !types.is_full());
+        let inner = floats(counted(rt, count), 4);
+        let added = types.insert(Type { name: None, inner });
+        added.expect(rt, WANT);
+    }
 }
 
 #[test]
 fn of_more_types_than_16_bits_count(rt: HostRuntime) {
     let mut arenas = Arenas::new(rt.alloc());
-    add(&rt, &mut arenas.types, TypeInner::Scalar(Scalar::F32));
-    for count in 1..65_537 {
-        assert!(rt; !arenas.types.is_full());
-        let inner = floats(counted(&rt, count), 4);
-        let added = arenas.types.insert(Type { name: None, inner });
-        added.expect(&rt, WANT);
-    }
-    let mut layouter = Layouter::new(rt.alloc());
-    assert!(rt; refusal(&rt, &mut layouter, arenas.ctx()).is_none());
+    add_many(&rt, &mut arenas.types);
+    let layouter = layouter_of(&rt, rt.alloc(), arenas);
     assert_eq!(rt; layouter.len(), 65_537);
 }

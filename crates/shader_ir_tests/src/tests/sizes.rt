@@ -1,7 +1,7 @@
 //! Rows of sizes.
 use crate::tests::samples::{Arenas, add, array, structure};
 use shader_arena::Handle;
-use shader_ir::{ArraySize, Scalar, TypeInner, sizes_in_range};
+use shader_ir::{ArraySize, GlobalCtx, Scalar, TypeInner, sizes_in_range};
 
 #[test]
 fn a_span_above_the_limit_is_no_size(rt: HostRuntime) {
@@ -9,6 +9,7 @@ fn a_span_above_the_limit_is_no_size(rt: HostRuntime) {
     let large = structure(Vec::new(rt.alloc()), 1073741825);
     assert!(rt; large.is_size_in_range(arenas.ctx()));
     assert_eq!(rt; large.try_size(arenas.ctx()), None);
+    arenas.let_go();
 }
 
 #[test]
@@ -16,18 +17,26 @@ fn a_scalar_has_its_width(rt: HostRuntime) {
     let arenas = Arenas::new(rt.alloc());
     let float = TypeInner::Scalar(Scalar::F32);
     assert_eq!(rt; float.size(arenas.ctx()), 4);
+    arenas.let_go();
+}
+
+/// The size of an array whose count is the override at 0, if it is in range.
+fn size_of_pending(ctx: GlobalCtx<'_>) -> Option<Option<u32>> {
+    let first = Handle::from_index(0);
+    let pending = array(first, ArraySize::Pending(Handle::from_index(0)), 4);
+    if !pending.is_size_in_range(ctx) {
+        return None;
+    }
+    Some(pending.try_size(ctx))
 }
 
 #[test]
 fn an_array_of_no_known_count_has_no_items(rt: HostRuntime) {
     let mut arenas = Arenas::new(rt.alloc());
-    let first = Handle::from_index(0);
-    let pending = array(first, ArraySize::Pending(Handle::from_index(0)), 4);
-    assert!(rt; !pending.is_size_in_range(arenas.ctx()));
+    assert!(rt; size_of_pending(arenas.ctx()).is_none());
     arenas.add_override(&rt, None);
-    let ctx = arenas.ctx();
-    assert!(rt; pending.is_size_in_range(ctx));
-    assert_eq!(rt; pending.try_size(ctx), Some(0));
+    assert!(rt; size_of_pending(arenas.ctx()) == Some(Some(0)));
+    arenas.let_go();
 }
 
 #[test]
@@ -41,4 +50,5 @@ fn sizes_are_in_range_where_all_overrides_are(rt: HostRuntime) {
     let unknown = array(base, ArraySize::Pending(Handle::from_index(1)), 4);
     add(&rt, &mut arenas.types, unknown);
     assert!(rt; !sizes_in_range(arenas.ctx()));
+    arenas.let_go();
 }
