@@ -60,5 +60,9 @@ pub fn loads_alike<'a>(
     equal_operand_types_give_equal_types(&past, &other);
     let first = context.resolve(alloc, &load, past);
     let second = context.resolve(alloc, &load, other);
-    are_alike(types, &first, &second)
+    let alike = are_alike(types, &first, &second);
+    drop(load);
+    drop(first);
+    drop(second);
+    alike
 }

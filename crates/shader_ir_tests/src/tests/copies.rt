@@ -1,5 +1,5 @@
 //! Copies, with ample memory.
-use crate::tests::samples::{WANT, add, let_go};
+use crate::tests::samples::{WANT, add};
 use shader_arena::{Arena, Handle};
 use shader_ir::{
     AddressSpace, BinaryOperator, Block, Constant, EntryPoint, Expression, Function,
@@ -349,6 +349,6 @@ fn of_a_module(rt: HostRuntime) {
     let module = module_of_one(&rt, rt.alloc());
     let copy = module.copy(rt.alloc()).expect(&rt, WANT);
     assert!(rt; is_module_of_one(&copy));
-    let_go(copy);
-    let_go(module);
+    drop(copy);
+    drop(module);
 }

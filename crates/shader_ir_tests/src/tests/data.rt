@@ -1,5 +1,5 @@
 //! Names, lists, maps, counts and sets of bits, and what a module lends.
-use crate::tests::samples::{WANT, add, let_go};
+use crate::tests::samples::{WANT, add};
 use bitflags::Flags;
 use shader_arena::Handle;
 use shader_ir::{
@@ -132,5 +132,5 @@ fn a_module_lends_its_arenas(rt: HostRuntime) {
     let mut module = Module::new(rt.alloc());
     add(&rt, &mut module.types, TypeInner::Scalar(Scalar::F32));
     assert!(rt; lends_one_type(module.to_ctx()));
-    let_go(module);
+    drop(module);
 }

@@ -43,7 +43,7 @@ fn an_index_is_known_by_one_step(rt: HostRuntime) {
     expects(&rt, &arenas, two, KnownIndex::Known(2));
     expects(&rt, &arenas, step, KnownIndex::Known(2));
     expects(&rt, &arenas, two_steps, KnownIndex::NotInteger);
-    arenas.let_go();
+    drop(arenas);
 }
 
 /// Looks for the size that an override of the initial expression gives.
@@ -69,7 +69,7 @@ fn a_size_is_a_known_number(rt: HostRuntime) {
     expects_size(&rt, &mut arenas, Some(step), Ok(2));
     expects_size(&rt, &mut arenas, Some(two_steps), unknown);
     expects_size(&rt, &mut arenas, None, unknown);
-    arenas.let_go();
+    drop(arenas);
 }
 
 #[test]
@@ -80,5 +80,5 @@ fn a_size_is_positive(rt: HostRuntime) {
     let refused = Err(ResolveArraySizeError::ExpectedPositiveArrayLength);
     expects_size(&rt, &mut arenas, Some(none), refused);
     expects_size(&rt, &mut arenas, Some(negative), refused);
-    arenas.let_go();
+    drop(arenas);
 }

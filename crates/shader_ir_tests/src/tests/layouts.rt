@@ -71,7 +71,7 @@ fn expects(rt: &impl Abort, alloc: Global, inner: TypeInner, wanted: Option<Figu
     let ty = add(rt, &mut arenas.types, inner);
     let mut layouter = Layouter::new(alloc);
     let found = laid_out(rt, &mut layouter, arenas.ctx(), ty);
-    arenas.let_go();
+    drop(arenas);
     assert!(rt; found == wanted);
 }
 
@@ -110,7 +110,7 @@ fn of_types_as_they_are_added(rt: HostRuntime) {
     let mut arenas = Arenas::new(rt.alloc());
     let mut layouter = Layouter::new(rt.alloc());
     adds_a_vector(&rt, &mut arenas, &mut layouter);
-    arenas.let_go();
+    drop(arenas);
 }
 
 #[test]
@@ -232,7 +232,7 @@ fn a_width_is_refused_again_and_again(rt: HostRuntime) {
     let mut layouter = Layouter::new(rt.alloc());
     refuses_width(&rt, &mut layouter, arenas.ctx());
     refuses_width(&rt, &mut layouter, arenas.ctx());
-    arenas.let_go();
+    drop(arenas);
 }
 
 #[test]
@@ -243,7 +243,7 @@ fn a_cleared_layouter_begins_again(rt: HostRuntime) {
     layouter.clear();
     assert!(rt; layouter.len() == 0);
     refuses_width(&rt, &mut layouter, arenas.ctx());
-    arenas.let_go();
+    drop(arenas);
 }
 
 /// Refuses a type of the context, and none before it.
@@ -266,7 +266,7 @@ fn an_array_of_itself_is_refused(rt: HostRuntime) {
     let ty = add(&rt, &mut arenas.types, floats(ArraySize::Dynamic, 4));
     let inner = LayoutErrorInner::InvalidArrayElementType(ty);
     refuses(&rt, rt.alloc(), arenas.ctx(), ty, inner);
-    arenas.let_go();
+    drop(arenas);
 }
 
 #[test]
@@ -278,14 +278,14 @@ fn a_struct_of_a_later_type_is_refused(rt: HostRuntime) {
     let ty = add(&rt, &mut arenas.types, two);
     let inner = LayoutErrorInner::InvalidStructMemberType(1, later);
     refuses(&rt, rt.alloc(), arenas.ctx(), ty, inner);
-    arenas.let_go();
+    drop(arenas);
 }
 
 /// Lays out types of which none is refused, and lets them go.
 fn layouter_of(rt: &impl Abort, alloc: Global, arenas: Arenas) -> Layouter {
     let mut layouter = Layouter::new(alloc);
     assert!(rt; refusal(rt, &mut layouter, arenas.ctx()).is_none());
-    arenas.let_go();
+    drop(arenas);
     layouter
 }
 

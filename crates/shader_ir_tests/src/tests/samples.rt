@@ -4,8 +4,8 @@ ghost use Rattle.shader_ir.specs.TypeTree.{IsBackward, PointsBelow};
 
 use shader_arena::{Arena, Handle, UniqueArena};
 use shader_ir::{
-    ArraySize, Constant, Count, Expression, GlobalCtx, Literal, Module, Override, Type, TypeInner,
-    mark, types_backward,
+    ArraySize, Constant, Count, Expression, GlobalCtx, Literal, Override, Type, TypeInner, mark,
+    types_backward,
 };
 use std::alloc::Global;
 use std::process::Abort;
@@ -23,9 +23,6 @@ pub fn add(rt: &impl Abort, types: &mut Types, inner: TypeInner) -> Handle<mark:
     let added = types.insert(Type { name: None, inner });
     added.expect(rt, WANT)
 }
-
-/// Lets a module go, for all tests of modules, as it takes long to prove.
-pub fn let_go(_module: Module) {}
 
 /// The size of an array of so many items.
 pub fn counted(rt: &impl Abort, count: u32) -> ArraySize {
@@ -74,7 +71,7 @@ impl Arenas {
     }
 
     /// Lets the arenas go, for all tests of them, as it takes long to prove.
-    pub fn let_go(self) {}
+    pub fn drop(self) {}
 
     pub fn ctx(&self) -> GlobalCtx<'_> {
         GlobalCtx {

@@ -9,7 +9,7 @@ fn a_span_above_the_limit_is_no_size(rt: HostRuntime) {
     let large = structure(Vec::new(rt.alloc()), 1073741825);
     assert!(rt; large.is_size_in_range(arenas.ctx()));
     assert_eq!(rt; large.try_size(arenas.ctx()), None);
-    arenas.let_go();
+    drop(arenas);
 }
 
 #[test]
@@ -17,7 +17,7 @@ fn a_scalar_has_its_width(rt: HostRuntime) {
     let arenas = Arenas::new(rt.alloc());
     let float = TypeInner::Scalar(Scalar::F32);
     assert_eq!(rt; float.size(arenas.ctx()), 4);
-    arenas.let_go();
+    drop(arenas);
 }
 
 /// The size of an array whose count is the override at 0, if it is in range.
@@ -36,7 +36,7 @@ fn an_array_of_no_known_count_has_no_items(rt: HostRuntime) {
     assert!(rt; size_of_pending(arenas.ctx()).is_none());
     arenas.add_override(&rt, None);
     assert!(rt; size_of_pending(arenas.ctx()) == Some(Some(0)));
-    arenas.let_go();
+    drop(arenas);
 }
 
 #[test]
@@ -50,5 +50,5 @@ fn sizes_are_in_range_where_all_overrides_are(rt: HostRuntime) {
     let unknown = array(base, ArraySize::Pending(Handle::from_index(1)), 4);
     add(&rt, &mut arenas.types, unknown);
     assert!(rt; !sizes_in_range(arenas.ctx()));
-    arenas.let_go();
+    drop(arenas);
 }

@@ -1,11 +1,10 @@
 //! Modules with one fault each.
-use crate::tests::rows::{WANT, empty_module};
+use crate::tests::rows::{WANT, add_type, empty_module};
 use shader_arena::{Arena, Handle, Range, UniqueArena};
 use shader_ir::{
     AddressSpace, ArraySize, Block, Count, DiagnosticFilterNode, DiagnosticRule, EntryPoint,
     Expression, Function, FunctionArgument, Items, Map, Module, Name, Scalar, Severity,
-    ShaderStage, SpecialTypes, Statement, SwitchCase, SwitchValue, Type, TypeInner, UnaryOperator,
-    mark,
+    ShaderStage, SpecialTypes, Statement, SwitchCase, SwitchValue, TypeInner, UnaryOperator, mark,
 };
 use shader_resolve::{ModuleFault, ModulePlace, check_module, find_fault};
 use std::alloc::Global;
@@ -37,14 +36,6 @@ pub fn add_function(rt: &impl Abort, module: &mut Module, function: Function) {
     module.functions.append(function).expect(rt, WANT);
 }
 
-fn add_type(rt: &impl Abort, module: &mut Module, inner: TypeInner) {
-    assert!(rt; module.types.len() < 1000);
-    module
-        .types
-        .insert(Type { name: None, inner })
-        .expect(rt, WANT);
-}
-
 /// A module with one function, which has one expression.
 fn with_expression(rt: &impl Abort, alloc: Global, expression: Expression) -> Module {
     let mut made = empty_module(alloc);
@@ -59,12 +50,14 @@ fn with_expression(rt: &impl Abort, alloc: Global, expression: Expression) -> Mo
 fn accepts(rt: &impl Abort, module: Module) {
     assert!(rt; check_module(&module) == Ok(()));
     assert!(rt; find_fault(&module).is_none());
+    drop(module)
 }
 
 /// Asserts which fault a module has, and where.
 fn expects(rt: &impl Abort, module: Module, place: ModulePlace, fault: ModuleFault) {
     assert!(rt; check_module(&module) == Err(fault));
     assert!(rt; find_fault(&module) == Some((place, fault)));
+    drop(module)
 }
 
 /// The first function, or the second.

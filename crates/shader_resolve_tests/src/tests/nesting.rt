@@ -14,6 +14,7 @@ fn nests(rt: &impl Abort, module: Module, levels: usize) {
     assert!(rt; nests_within(&module, usize::MAX));
     assert!(rt; !nests_within(&module, levels.saturating_sub(1)));
     assert!(rt; !nests_within(&module, 0));
+    drop(module)
 }
 
 /// Asserts how deep the one body of a module nests.
@@ -94,7 +95,9 @@ fn between(rt: &impl Abort, alloc: Global, levels: usize) -> Vec<Statement> {
 
 #[test]
 fn a_module_without_bodies_has_no_levels(rt: HostRuntime) {
-    assert!(rt; nests_within(&empty_module(rt.alloc()), 0));
+    let module = empty_module(rt.alloc());
+    assert!(rt; nests_within(&module, 0));
+    drop(module)
 }
 
 #[test]

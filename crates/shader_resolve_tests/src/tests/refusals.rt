@@ -3,7 +3,7 @@
 //! With ample memory nothing is refused. Where the allocator refuses the Nth request of a test's process, the test passes
 //! still, and prints a line with `was refused`. The first N at which no test prints one is past all requests.
 use crate::held::resolve_held;
-use crate::tests::rows::{at, empty_module, vector};
+use crate::tests::rows::{at, empty_module, is_want, vector};
 use shader_arena::Arena;
 use shader_ir::{
     BinaryOperator, Expression, MathFunction, Scalar, ScalarKind, TypeInner, TypeResolution,
@@ -26,9 +26,10 @@ fn answer_in<R: Abort + Print>(
     expr: &Expression,
 ) -> Result<Answer, Fail> {
     let first = resolve_held(context, alloc, held, expr);
-    if first != Some(Err(ResolveError::OutOfMemory)) {
+    if !is_want(&first) {
         return Ok(first);
     }
+    drop(first);
     println!(rt; "a type was refused")?;
     Ok(resolve_held(context, alloc, held, expr))
 }
@@ -43,7 +44,12 @@ fn answer<R: Abort + Print>(
     let module = empty_module(alloc);
     let locals = Arena::new(alloc);
     let context = ResolveContext::with_locals(&module, &locals, &[]);
-    answer_in(rt, &context, alloc, &held, &expr)
+    let told = answer_in(rt, &context, alloc, &held, &expr);
+    drop(held);
+    drop(expr);
+    drop(locals);
+    drop(module);
+    told
 }
 
 fn is_incompatible(answer: Answer, words: &str) -> bool {
@@ -61,7 +67,11 @@ fn is_invalid(answer: Answer, words: &str) -> bool {
 }
 
 fn is_type(answer: Answer, wanted: TypeResolution) -> bool {
-    answer == Some(Ok(wanted))
+    let wanted = Some(Ok(wanted));
+    let same = answer == wanted;
+    drop(answer);
+    drop(wanted);
+    same
 }
 
 fn call(fun: MathFunction) -> Expression {

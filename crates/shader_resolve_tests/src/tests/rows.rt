@@ -59,7 +59,11 @@ impl<'a, R: Abort> Rows<'a, R> {
         wanted: Resolved,
     ) {
         let context = ResolveContext::with_locals(&module, &locals, &arguments);
-        self.expects_by(&context, &held, expr, wanted)
+        self.expects_by(&context, &held, expr, wanted);
+        drop(held);
+        drop(arguments);
+        drop(locals);
+        drop(module)
     }
 
     /// The same in a context. Want of memory is no answer, but ends the test.
@@ -71,11 +75,12 @@ impl<'a, R: Abort> Rows<'a, R> {
         wanted: Resolved,
     ) {
         let answer = resolve_held(context, self.alloc, held, &expr);
-        assert!(self.rt;
-            answer != Some(Err(ResolveError::OutOfMemory)),
-            "want of memory"
-        );
-        assert!(self.rt; answer == Some(wanted));
+        drop(expr);
+        assert!(self.rt; !is_want(&answer), "want of memory");
+        let wanted = Some(wanted);
+        assert!(self.rt; answer == wanted);
+        drop(answer);
+        drop(wanted)
     }
 
     /// Asserts that the operands don't go together under the operation's name.
@@ -103,6 +108,11 @@ impl<'a, R: Abort> Rows<'a, R> {
             Err(ResolveError::BuiltinArgumentsInvalid(words)),
         )
     }
+}
+
+/// Whether an answer is want of memory.
+pub fn is_want(answer: &Option<Resolved>) -> bool {
+    matches!(answer, Some(Err(ResolveError::OutOfMemory)))
 }
 
 pub fn at(place: u32) -> Handle<mark::Expression> {

@@ -6,10 +6,20 @@ use shader_resolve::{ModuleFault, ResolveError};
 use std::alloc::Global;
 use std::process::Abort;
 
+/// Asserts the text of an error.
+fn tells(rt: &impl Abort, alloc: Global, error: &ResolveError, text: &str) {
+    let told = error.to_string(alloc).expect(rt, WANT);
+    assert!(rt; told.as_str() == text);
+}
+
+/// Asserts the text of an error, and that a copy of it is equal to it and has the same.
 fn expects(rt: &impl Abort, alloc: Global, error: ResolveError, text: &str) {
-    assert!(rt; error.to_string(alloc).expect(rt, WANT).as_str() == text);
+    tells(rt, alloc, &error, text);
     let copy = error.copy(alloc).expect(rt, WANT);
-    assert!(rt; copy == error && copy.to_string(alloc).expect(rt, WANT).as_str() == text);
+    assert!(rt; copy == error);
+    tells(rt, alloc, &copy, text);
+    drop(copy);
+    drop(error)
 }
 
 #[test]

@@ -29,7 +29,7 @@ at_place types index place type same within is = subst (λ there. slice_get type
 pub returns : goal.returns
 returns c =
     let types_are = ap (λ context. context.types) c.context.view_is in
-    c.are_alike.ensures
+    c.are_alike-alike.ensures
     (subst (λ types. AreAlike types false c.resolve-first.result c.resolve-second.result) (sym types_are)
     (c.equal_operand_types_give_equal_types.ensures c.args.context.now (form.Load c.args.pointer) c.resolve-first.result
     c.resolve-second.result
