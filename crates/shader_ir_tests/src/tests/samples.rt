@@ -70,9 +70,6 @@ impl Arenas {
         }
     }
 
-    /// Lets the arenas go, for all tests of them, as it takes long to prove.
-    pub fn drop(self) {}
-
     pub fn ctx(&self) -> GlobalCtx<'_> {
         GlobalCtx {
             types: &self.types,
