@@ -96,7 +96,9 @@ impl Arenas {
 /// The rules of a set, in a module without types.
 pub fn list_rules<S: OverloadSet>(alloc: Global, set: &S) -> Result<Vec<Rule>, AllocError> {
     let arenas = Arenas::new(alloc);
-    set.overload_list(alloc, arenas.ctx())
+    let rules = set.overload_list(alloc, arenas.ctx());
+    drop(arenas);
+    rules
 }
 
 /// The same, where want of memory ends the test.
@@ -111,7 +113,9 @@ pub fn list_allowed<S: OverloadSet>(
     place: usize,
 ) -> Result<Vec<TypeResolution>, AllocError> {
     let arenas = Arenas::new(alloc);
-    set.allowed_args(alloc, place, arenas.ctx())
+    let types = set.allowed_args(alloc, place, arenas.ctx());
+    drop(arenas);
+    types
 }
 
 /// The same, where want of memory ends the test.
@@ -130,7 +134,9 @@ pub fn prefers<S: OverloadSet>(rt: &impl Abort, alloc: Global, set: &S, wanted: 
         return false;
     }
     let rule = set.most_preferred(alloc).expect(rt, WANT);
-    concludes(&rule, wanted)
+    let is_wanted = concludes(&rule, wanted);
+    drop(rule);
+    is_wanted
 }
 
 /// What is left of the set of a builtin after the calls.
@@ -159,5 +165,7 @@ pub fn narrowed(
         SetCall::Arg(1, inner((SCALAR, Scalar::ABSTRACT_INT))),
         SetCall::ConcreteOnly,
     ];
-    left_after(rt, alloc, function, &calls, &types)
+    let left = left_after(rt, alloc, function, &calls, &types);
+    drop(types);
+    left
 }

@@ -5,8 +5,8 @@ ghost use Rattle.shader_ir.specs.TypeTree.{IsBackward, PointsBelow};
 
 use shader_arena::{Arena, Handle, UniqueArena};
 use shader_ir::{
-    AddressSpace, ArraySize, Count, GlobalCtx, Items, Layouter, Scalar, StructMember, Type,
-    TypeInner, TypeResolution, VectorSize, compare_types, mark, sizes_in_range, types_backward,
+    AddressSpace, ArraySize, GlobalCtx, Items, Layouter, Scalar, StructMember, Type, TypeInner,
+    TypeResolution, VectorSize, compare_types, mark, sizes_in_range, types_backward,
 };
 use std::alloc::{AllocError, Global};
 

@@ -123,7 +123,10 @@ fn checked(
     let first: Handle<mark::Function> = Handle::from_index(0);
     assert!(rt; module.functions.contains_handle(first));
     let function = &module.functions[first];
-    find_checked_indexes(alloc, module, function, &infos[first], policies).expect(rt, WANT)
+    let found = find_checked_indexes(alloc, module, function, &infos[first], policies);
+    let checked = found.expect(rt, WANT);
+    drop(infos);
+    checked
 }
 
 /// The checked indexes of entry point 0.
@@ -138,7 +141,10 @@ fn checked_at_entry(
     assert!(rt; module.entry_points.len() > 0);
     let function = &module.entry_points[0].function;
     let info = infos.get_entry_point(0);
-    find_checked_indexes(alloc, module, function, info, policies).expect(rt, WANT)
+    let found = find_checked_indexes(alloc, module, function, info, policies);
+    let checked = found.expect(rt, WANT);
+    drop(infos);
+    checked
 }
 
 /// The types of which function 1 needs a local.
@@ -153,7 +159,10 @@ fn locals(
     let caller: Handle<mark::Function> = Handle::from_index(1);
     assert!(rt; module.functions.contains_handle(caller));
     let function = &module.functions[caller];
-    oob_local_types(alloc, module, function, &infos[caller], policies).expect(rt, WANT)
+    let found = oob_local_types(alloc, module, function, &infos[caller], policies);
+    let types = found.expect(rt, WANT);
+    drop(infos);
+    types
 }
 
 /// The lengths that the indexes into an expression of function 0 have to be compared with.
@@ -174,6 +183,7 @@ fn expects_compared<const N: usize>(
         assert!(rt; length_of_base(base, module, info).is_ok());
         assert!(rt; access_needs_check(base, index, module, expressions, info) == length);
     }
+    drop(infos);
 }
 
 /// The checked indexes of a function with these expressions are those at these places.
@@ -184,8 +194,10 @@ pub fn expects_checked<const N: usize, const M: usize>(
     policies: BoundsCheckPolicies,
     wanted: [u32; M],
 ) {
-    let module = module_over(rt, rt.alloc(), over, forms).expect(rt, WANT);
-    expects_members(rt, &checked(rt, rt.alloc(), &module, policies), wanted);
+    let module = module_over(rt, rt.alloc(), over, forms);
+    let found = checked(rt, rt.alloc(), &module, policies);
+    drop(module);
+    expects_members(rt, &found, wanted);
 }
 
 /// Those of an entry point with these expressions are.
@@ -196,8 +208,9 @@ pub fn expects_checked_at_entry<const N: usize, const M: usize>(
     policies: BoundsCheckPolicies,
     wanted: [u32; M],
 ) {
-    let module = entry_point_over(rt, rt.alloc(), over, forms).expect(rt, WANT);
+    let module = entry_point_over(rt, rt.alloc(), over, forms);
     let found = checked_at_entry(rt, rt.alloc(), &module, policies);
+    drop(module);
     expects_members(rt, &found, wanted);
 }
 
@@ -213,7 +226,9 @@ pub fn expects_locals<const N: usize, const M: usize>(
 ) {
     let made = module_calling(rt, rt.alloc(), over, forms, passed, place);
     let module = made.expect(rt, WANT);
-    expects_types(rt, &locals(rt, rt.alloc(), &module, policies), wanted);
+    let found = locals(rt, rt.alloc(), &module, policies);
+    drop(module);
+    expects_types(rt, &found, wanted);
 }
 
 /// Each index into an expression of a function with these expressions has to be compared with this length.
@@ -224,6 +239,7 @@ pub fn expects_lengths<const N: usize, const M: usize>(
     base: u32,
     wanted: [(GuardedIndex, Option<IndexableLength>); M],
 ) {
-    let module = module_over(rt, rt.alloc(), over, forms).expect(rt, WANT);
+    let module = module_over(rt, rt.alloc(), over, forms);
     expects_compared(rt, rt.alloc(), &module, base, wanted);
+    drop(module);
 }

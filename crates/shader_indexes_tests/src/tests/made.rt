@@ -156,11 +156,13 @@ fn function<const N: usize>(
     forms: [Form; N],
     statements: Vec<Statement>,
 ) -> Result<Function, AllocError> {
+    let arguments = vec![in alloc; argument(NUMBER)]?;
+    let locals = locals(alloc, over)?;
     let expressions = expressions(alloc, forms)?;
     assert!(rt; expressions.len() < 100);
     let mut function = function_of(alloc, expressions, statements)?;
-    function.arguments = Items::from(vec![in alloc; argument(NUMBER)]?);
-    function.local_variables = locals(alloc, over)?;
+    function.arguments = Items::from(arguments);
+    function.local_variables = locals;
     Ok(function)
 }
 
@@ -181,19 +183,23 @@ fn override_of(init: Option<Handle<mark::Expression>>) -> Override {
     }
 }
 
-/// Gives the module the constants that `Form` tells, override 0 of 4 and override 1 without a value.
-fn add_numbers(alloc: Global, module: &mut Module) -> Result<(), AllocError> {
+/// The values of the constants that `Form` tells, and of override 0.
+fn values(alloc: Global) -> Result<Arena<Expression, mark::Expression>, AllocError> {
     let two = Expression::Literal(Literal::I32(2));
     let negative = Expression::Literal(Literal::I32(-1));
     let named = Expression::Constant(Handle::from_index(0));
-    module.global_expressions = arena_of(alloc, vec![in alloc; two, negative, named, number(4)]?)?;
-    module.constants = arena_of(
-        alloc,
-        vec![in alloc; constant(0), constant(1), constant(2)]?,
-    )?;
+    arena_of(alloc, vec![in alloc; two, negative, named, number(4)]?)
+}
+
+fn constants(alloc: Global) -> Result<Arena<Constant, mark::Constant>, AllocError> {
+    let constants = vec![in alloc; constant(0), constant(1), constant(2)]?;
+    arena_of(alloc, constants)
+}
+
+/// Override 0 of 4, and override 1 without a value.
+fn overrides(alloc: Global) -> Result<Arena<Override, mark::Override>, AllocError> {
     let overrides = vec![in alloc; override_of(Some(at(3))), override_of(None)]?;
-    module.overrides = arena_of(alloc, overrides)?;
-    Ok(())
+    arena_of(alloc, overrides)
 }
 
 fn module(
@@ -202,12 +208,17 @@ fn module(
     over: Over,
     functions: Vec<Function>,
 ) -> Result<Module, AllocError> {
+    let globals = globals(alloc, over)?;
+    let values = values(alloc)?;
+    let constants = constants(alloc)?;
+    let overrides = overrides(alloc)?;
     let types = types(rt, alloc)?;
-    assert!(rt; types.len() < 100);
-    assert!(rt; functions.len() < 100);
+    assert!(rt; types.len() < 100 && functions.len() < 100);
     let mut module = module_of(alloc, types, Vec::new(alloc), functions)?;
-    module.global_variables = globals(alloc, over)?;
-    add_numbers(alloc, &mut module)?;
+    module.global_variables = globals;
+    module.global_expressions = values;
+    module.constants = constants;
+    module.overrides = overrides;
     Ok(module)
 }
 
@@ -217,9 +228,10 @@ pub fn module_over<const N: usize>(
     alloc: Global,
     over: Over,
     forms: [Form; N],
-) -> Result<Module, AllocError> {
-    let function = function(rt, alloc, over, forms, Vec::new(alloc))?;
-    module(rt, alloc, over, vec![in alloc; function]?)
+) -> Module {
+    let function = function(rt, alloc, over, forms, Vec::new(alloc)).expect(rt, WANT);
+    let functions = vec![in alloc; function].expect(rt, WANT);
+    module(rt, alloc, over, functions).expect(rt, WANT)
 }
 
 /// A module of an entry point with these expressions.
@@ -228,15 +240,16 @@ pub fn entry_point_over<const N: usize>(
     alloc: Global,
     over: Over,
     forms: [Form; N],
-) -> Result<Module, AllocError> {
+) -> Module {
     let entry_point = EntryPoint {
-        name: Name::from("main".to_string(alloc)?),
+        name: Name::from("main".to_string(alloc).expect(rt, WANT)),
         stage: ShaderStage::Fragment,
-        function: function(rt, alloc, over, forms, Vec::new(alloc))?,
+        function: function(rt, alloc, over, forms, Vec::new(alloc)).expect(rt, WANT),
     };
-    let mut module = module(rt, alloc, over, Vec::new(alloc))?;
-    module.entry_points = Items::from(vec![in alloc; entry_point]?);
-    Ok(module)
+    let entry_points = vec![in alloc; entry_point].expect(rt, WANT);
+    let mut module = module(rt, alloc, over, Vec::new(alloc)).expect(rt, WANT);
+    module.entry_points = Items::from(entry_points);
+    module
 }
 
 fn called(alloc: Global, passed: Passed) -> Result<Statement, AllocError> {
@@ -250,17 +263,11 @@ fn block(alloc: Global, statement: Statement) -> Result<Block, AllocError> {
     })
 }
 
-fn empty(alloc: Global) -> Block {
-    Block {
-        statements: Vec::new(alloc),
-    }
-}
-
 /// A switch on expression 1, whose default case has the statement.
 fn switch(alloc: Global, statement: Statement) -> Result<Statement, AllocError> {
     let first = SwitchCase {
         value: SwitchValue::U32(0),
-        body: empty(alloc),
+        body: Block::new(alloc),
         fall_through: true,
     };
     let second = SwitchCase {
@@ -299,11 +306,11 @@ fn placed(alloc: Global, statement: Statement, place: Place) -> Result<Statement
             let inner = Statement::Block(block(alloc, statement)?);
             Ok(Statement::Block(block(alloc, inner)?))
         }
-        Place::Accept => Ok(branch(block(alloc, statement)?, empty(alloc))),
-        Place::Reject => Ok(branch(empty(alloc), block(alloc, statement)?)),
+        Place::Accept => Ok(branch(block(alloc, statement)?, Block::new(alloc))),
+        Place::Reject => Ok(branch(Block::new(alloc), block(alloc, statement)?)),
         Place::Case => switch(alloc, statement),
-        Place::LoopBody => Ok(repeat(block(alloc, statement)?, empty(alloc))),
-        Place::Continuing => Ok(repeat(empty(alloc), block(alloc, statement)?)),
+        Place::LoopBody => Ok(repeat(block(alloc, statement)?, Block::new(alloc))),
+        Place::Continuing => Ok(repeat(Block::new(alloc), block(alloc, statement)?)),
     }
 }
 
@@ -315,6 +322,12 @@ fn callee(alloc: Global) -> Result<Function, AllocError> {
     Ok(function)
 }
 
+/// A body with a call at the place.
+fn calling(alloc: Global, passed: Passed, place: Place) -> Result<Vec<Statement>, AllocError> {
+    let statement = placed(alloc, called(alloc, passed)?, place)?;
+    Ok(vec![in alloc; statement]?)
+}
+
 /// A module whose function 1 has these expressions and calls function 0 at the place.
 pub fn module_calling<const N: usize>(
     rt: &impl Abort,
@@ -324,9 +337,8 @@ pub fn module_calling<const N: usize>(
     passed: Passed,
     place: Place,
 ) -> Result<Module, AllocError> {
-    let statement = placed(alloc, called(alloc, passed)?, place)?;
-    let statements = vec![in alloc; statement]?;
-    let caller = function(rt, alloc, over, forms, statements)?;
-    let callee = callee(alloc)?;
-    module(rt, alloc, over, vec![in alloc; callee, caller]?)
+    let mut functions = vec![in alloc; callee(alloc)?]?;
+    let statements = calling(alloc, passed, place)?;
+    functions.push(function(rt, alloc, over, forms, statements)?)?;
+    module(rt, alloc, over, functions)
 }

@@ -54,6 +54,8 @@ fn expects_at(rt: &impl Abort, alloc: Global, ty: TypeResolution, base: u32, wan
     let types = UniqueArena::new(alloc);
     let base = Handle::from_index(base);
     assert!(rt; POLICIES.choose_policy(base, &types, &info) == wanted);
+    drop(types);
+    drop(info);
 }
 
 /// Asks for the policy of an access to what has this type.

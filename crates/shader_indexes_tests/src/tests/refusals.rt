@@ -119,4 +119,6 @@ fn of_searches(rt: HostRuntime) {
     let module = made(&rt, rt.alloc());
     let infos = analyzed(&rt, rt.alloc(), &module);
     search(&rt, rt.alloc(), &module, &infos);
+    drop(infos);
+    drop(module);
 }

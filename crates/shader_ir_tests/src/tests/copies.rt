@@ -1,6 +1,6 @@
 //! Copies, with ample memory.
 use crate::tests::samples::{WANT, add};
-use shader_arena::{Arena, Handle};
+use shader_arena::Handle;
 use shader_ir::{
     AddressSpace, BinaryOperator, Block, Constant, EntryPoint, Expression, Function,
     FunctionArgument, GlobalVariable, Items, LocalVariable, Map, Module, Name, Override, Scalar,
@@ -255,19 +255,13 @@ fn of_a_branch(rt: HostRuntime) {
 
 /// A function of one expression.
 fn function(rt: &impl Abort, alloc: Global) -> Function {
-    let mut expressions = Arena::new(alloc);
-    assert!(rt; expressions.len() < 100);
-    expressions.append(compose(rt, alloc)).expect(rt, WANT);
-    Function {
-        name: Some(name(rt, alloc, "f")),
-        arguments: Items::from(Vec::new(alloc)),
-        result: None,
-        local_variables: Arena::new(alloc),
-        expressions,
-        named_expressions: Map::new(alloc),
-        body: block_of(rt, alloc, Statement::Kill),
-        diagnostic_filter_leaf: None,
-    }
+    let mut function = Function::new(alloc);
+    function.name = Some(name(rt, alloc, "f"));
+    function.body = block_of(rt, alloc, Statement::Kill);
+    assert!(rt; function.expressions.len() < 100);
+    let added = function.expressions.append(compose(rt, alloc));
+    added.expect(rt, WANT);
+    function
 }
 
 fn is_function_of_one(function: &Function) -> bool {

@@ -271,21 +271,15 @@ fn other_expressions_have_no_operands(rt: HostRuntime) {
     expects(&rt, Expression::SubgroupBallotResult, &[]);
 }
 
-fn empty(alloc: Global) -> Block {
-    Block {
-        statements: Vec::new(alloc),
-    }
-}
-
 #[test]
 fn operands_of_a_branch(rt: HostRuntime) {
-    let mut accept = empty(rt.alloc());
+    let mut accept = Block::new(rt.alloc());
     let inside = Statement::Return { value: Some(at(7)) };
     accept.statements.push(inside).expect(&rt, WANT);
     let branch = Statement::If {
         condition: at(3),
         accept,
-        reject: empty(rt.alloc()),
+        reject: Block::new(rt.alloc()),
     };
     expects_of(&rt, branch, &[(3, READ)]);
 }
@@ -297,13 +291,13 @@ fn operands_of_a_switch(rt: HostRuntime) {
         cases: Vec::new(rt.alloc()),
     };
     expects_of(&rt, switch, &[(3, READ)]);
-    expects_of(&rt, Statement::Block(empty(rt.alloc())), &[]);
+    expects_of(&rt, Statement::Block(Block::new(rt.alloc())), &[]);
 }
 
 fn looped(alloc: Global, break_if: Option<Handle<mark::Expression>>) -> Statement {
     Statement::Loop {
-        body: empty(alloc),
-        continuing: empty(alloc),
+        body: Block::new(alloc),
+        continuing: Block::new(alloc),
         break_if,
     }
 }

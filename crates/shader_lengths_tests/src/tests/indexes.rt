@@ -10,6 +10,8 @@ fn expects(rt: &(impl Abort + AllocGlobal), expression: Expression, wanted: Know
     let module = of_numbers(rt, rt.alloc());
     let expressions = only(rt, rt.alloc(), expression);
     assert!(rt; known_index_among(&expressions, Handle::from_index(0), &module) == wanted);
+    drop(expressions);
+    drop(module);
 }
 
 #[test]
@@ -55,4 +57,6 @@ fn numbers_are_read_among_the_expressions_given(rt: HostRuntime) {
     assert!(rt; known_index_among(globals, first, &module) == KnownIndex::Known(2));
     let absent = Handle::from_index(1);
     assert!(rt; known_index_among(&locals, absent, &module) == KnownIndex::NotInteger);
+    drop(locals);
+    drop(module);
 }

@@ -41,6 +41,7 @@ fn expects_in(rt: &impl Abort, module: &Module, inner: &TypeInner, wanted: &Answ
 fn expects(rt: &(impl Abort + AllocGlobal), inner: TypeInner, wanted: Answer) {
     let module = of_f32(rt, rt.alloc());
     expects_in(rt, &module, &inner, &wanted);
+    drop(module);
 }
 
 /// Asks the pointer to the type.
@@ -51,6 +52,7 @@ fn expects_of_pointer(rt: &(impl Abort + AllocGlobal), inner: TypeInner, wanted:
         space: AddressSpace::Private,
     };
     expects_in(rt, &module, &to_it, &wanted);
+    drop(module);
 }
 
 fn vector() -> TypeInner {
@@ -96,6 +98,7 @@ fn binding_arrays_have_their_items(rt: HostRuntime) {
 fn a_size_is_a_length(rt: HostRuntime) {
     let module = of_f32(&rt, rt.alloc());
     assert!(rt; counted(&rt, 4).to_indexable_length(&module) == known(4));
+    drop(module);
 }
 
 fn value_pointer(size: Option<VectorSize>) -> TypeInner {
@@ -160,6 +163,7 @@ fn expects_sized(
     let handle = add_type(rt, &mut module, array(pending()));
     assert!(rt; base_length(&TypeResolution::Handle(handle), &module) == wanted);
     assert!(rt; sizes_known(&module) == is_known);
+    drop(module);
 }
 
 #[test]
@@ -184,6 +188,7 @@ fn sizes_of_binding_arrays_are_asked_for(rt: HostRuntime) {
     let absent = ArraySize::Pending(Handle::from_index(7));
     add_type(&rt, &mut module, binding_array(absent));
     assert!(rt; !sizes_known(&module));
+    drop(module);
 }
 
 fn prints(rt: &(impl Abort + AllocGlobal), value: &impl Display, wanted: &str) {

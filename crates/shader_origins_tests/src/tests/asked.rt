@@ -46,6 +46,9 @@ fn why(rt: &(impl Abort + AllocGlobal), module: Module, link: Link) -> Option<Ve
     let chain = why_non_uniform(rt.alloc(), &module, link).expect(rt, WANT);
     assert!(rt; chain == again);
     assert!(rt; reasons.may_differ(&link) == chain.is_some());
+    drop(again);
+    drop(reasons);
+    drop(module);
     chain
 }
 

@@ -1,5 +1,5 @@
 //! Modules that are asked, told by values that are copied.
-use shader_arena::Handle;
+use shader_arena::{Arena, Handle, UniqueArena};
 use shader_ir::{
     BinaryOperator, Binding, Block, BuiltIn, EntryPoint, Expression, Function, FunctionArgument,
     Items, Literal, Module, Name, Scalar, ShaderStage, Statement, Type, TypeInner, mark,
@@ -88,6 +88,20 @@ fn statements(alloc: Global, kind: Kind) -> Result<Vec<Statement>, AllocError> {
     })
 }
 
+/// The items in an arena.
+fn arena_of<T: Drop, M>(
+    rt: &impl Abort,
+    alloc: Global,
+    items: Vec<T>,
+) -> Result<Arena<T, M>, AllocError> {
+    let mut arena = Arena::new(alloc);
+    for item in items {
+        assert!(rt; !arena.is_full());
+        arena.append(item)?;
+    }
+    Ok(arena)
+}
+
 /// The function, whose argument is bound so.
 fn function(
     rt: &impl Abort,
@@ -95,40 +109,40 @@ fn function(
     kind: Kind,
     binding: Option<Binding>,
 ) -> Result<Function, AllocError> {
-    let mut made = Function::new(alloc);
     let argument = FunctionArgument {
         name: None,
         ty: Handle::from_index(0),
         binding,
     };
-    made.arguments = Items::from(vec![in alloc; argument]?);
-    for expression in expressions(alloc, kind)? {
-        assert!(rt; !made.expressions.is_full());
-        made.expressions.append(expression)?;
-    }
-    made.body = Block {
-        statements: statements(alloc, kind)?,
-    };
+    let arguments = vec![in alloc; argument]?;
+    let statements = statements(alloc, kind)?;
+    let expressions = arena_of(rt, alloc, expressions(alloc, kind)?)?;
+    let mut made = Function::new(alloc);
+    made.arguments = Items::from(arguments);
+    made.expressions = expressions;
+    made.body = Block { statements };
     Ok(made)
 }
 
-fn add_type(rt: &impl Abort, module: &mut Module) -> Result<(), AllocError> {
+/// One type.
+fn types(rt: &impl Abort, alloc: Global) -> Result<UniqueArena<Type, mark::Type>, AllocError> {
+    let mut types = UniqueArena::new(alloc);
     let inner = TypeInner::Scalar(Scalar::U32);
-    assert!(rt; !module.types.is_full());
-    module.types.insert(Type { name: None, inner })?;
-    Ok(())
+    assert!(rt; !types.is_full());
+    types.insert(Type { name: None, inner })?;
+    Ok(types)
 }
 
-fn add_function(
+fn functions<const N: usize>(
     rt: &impl Abort,
     alloc: Global,
-    module: &mut Module,
-    kind: Kind,
-) -> Result<(), AllocError> {
-    let made = function(rt, alloc, kind, None)?;
-    assert!(rt; !module.functions.is_full());
-    module.functions.append(made)?;
-    Ok(())
+    kinds: [Kind; N],
+) -> Result<Vec<Function>, AllocError> {
+    let mut functions = Vec::new(alloc);
+    for kind in kinds {
+        functions.push(function(rt, alloc, kind, None)?)?;
+    }
+    Ok(functions)
 }
 
 /// A module of these functions.
@@ -137,11 +151,11 @@ pub fn module<const N: usize>(
     alloc: Global,
     kinds: [Kind; N],
 ) -> Result<Module, AllocError> {
+    let types = types(rt, alloc)?;
+    let functions = arena_of(rt, alloc, functions(rt, alloc, kinds)?)?;
     let mut module = Module::new(alloc);
-    add_type(rt, &mut module)?;
-    for kind in kinds {
-        add_function(rt, alloc, &mut module, kind)?;
-    }
+    module.types = types;
+    module.functions = functions;
     Ok(module)
 }
 

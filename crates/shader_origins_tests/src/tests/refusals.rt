@@ -84,6 +84,7 @@ fn of_questions(rt: HostRuntime) {
     let module = made(&rt, rt.alloc());
     assert!(rt; check_module(&module).is_ok());
     asks(&rt, rt.alloc(), &module);
+    drop(module);
 }
 
 #[test]
@@ -92,4 +93,6 @@ fn of_reasons(rt: HostRuntime) {
     assert!(rt; check_module(&module).is_ok());
     let found = reasons(&rt, rt.alloc(), &module);
     asks_again(&rt, rt.alloc(), &found);
+    drop(found);
+    drop(module);
 }

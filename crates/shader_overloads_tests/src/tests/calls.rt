@@ -19,6 +19,22 @@ struct Told {
     second: usize,
 }
 
+/// How many rules a set has.
+fn rule_count<S: OverloadSet>(rt: &impl Abort, alloc: Global, set: &S) -> usize {
+    let rules = listed(rt, alloc, set);
+    let count = rules.len();
+    drop(rules);
+    count
+}
+
+/// How many types it allows as the second argument.
+fn allowed_count<S: OverloadSet>(rt: &impl Abort, alloc: Global, set: &S) -> usize {
+    let types = allowed(rt, alloc, set, 1);
+    let count = types.len();
+    drop(types);
+    count
+}
+
 /// Asserts what the trait tells of a set, whose rules are asked of a copy.
 fn tells<S: OverloadSet>(rt: &impl Abort, alloc: Global, set: &S, wanted: Told) {
     assert!(rt; !set.is_empty());
@@ -26,8 +42,9 @@ fn tells<S: OverloadSet>(rt: &impl Abort, alloc: Global, set: &S, wanted: Told) 
     assert!(rt; set.max_arguments() == wanted.arguments);
     assert!(rt; prefers(rt, alloc, set, wanted.preferred));
     let copy = set.copy(alloc).expect(rt, WANT);
-    assert!(rt; listed(rt, alloc, &copy).len() == wanted.rules);
-    assert!(rt; allowed(rt, alloc, &copy, 1).len() == wanted.second);
+    assert!(rt; rule_count(rt, alloc, &copy) == wanted.rules);
+    assert!(rt; allowed_count(rt, alloc, &copy) == wanted.second);
+    drop(copy);
 }
 
 /// The same, told by the set's own kind.
@@ -57,7 +74,11 @@ fn are_ldexp_of_scalars(rules: &[Rule]) -> bool {
 /// Whether a copy of the set lists the rules of ldexp of scalars.
 fn is_ldexp_of_scalars<S: OverloadSet>(rt: &impl Abort, alloc: Global, set: &S) -> bool {
     let copy = set.copy(alloc).expect(rt, WANT);
-    are_ldexp_of_scalars(listed(rt, alloc, &copy).as_slice())
+    let rules = listed(rt, alloc, &copy);
+    drop(copy);
+    let are_wanted = are_ldexp_of_scalars(rules.as_slice());
+    drop(rules);
+    are_wanted
 }
 
 /// The same, told by the set's own kind.
@@ -105,6 +126,7 @@ fn a_set_of_either_kind_is_told_alike(rt: HostRuntime) {
     let left = after_literal(&rt, rt.alloc(), MathFunction::Ldexp);
     tells(&rt, rt.alloc(), &left, LDEXP);
     assert!(rt; is_ldexp_of_scalars(&rt, rt.alloc(), &left));
+    drop(left);
     let left = after_literal(&rt, rt.alloc(), MathFunction::Step);
     let wanted = Told {
         arguments: 2,
@@ -113,6 +135,7 @@ fn a_set_of_either_kind_is_told_alike(rt: HostRuntime) {
         second: 3,
     };
     tells(&rt, rt.alloc(), &left, wanted);
+    drop(left);
 }
 
 /// Builtins with sets of many rules, and how many they have.
@@ -128,15 +151,17 @@ static COUNTS: [(MathFunction, usize); 8] = [
 ];
 
 /// How many rules the builtin has.
-fn rule_count(rt: &impl Abort, alloc: Global, function: MathFunction) -> usize {
+fn count_of(rt: &impl Abort, alloc: Global, function: MathFunction) -> usize {
     let set = function.overloads(alloc).expect(rt, WANT);
-    listed(rt, alloc, &set).len()
+    let count = rule_count(rt, alloc, &set);
+    drop(set);
+    count
 }
 
 #[test]
 fn sets_of_many_rules_are_listed(rt: HostRuntime) {
     for (function, count) in &COUNTS {
-        assert!(rt; rule_count(&rt, rt.alloc(), *function) == *count);
+        assert!(rt; count_of(&rt, rt.alloc(), *function) == *count);
     }
 }
 
@@ -149,7 +174,9 @@ fn inserted(rt: &impl Abort, alloc: Global) -> AnyOverloadSet {
         SetCall::Arg(2, inner((SCALAR, Scalar::ABSTRACT_INT))),
         SetCall::Arg(3, inner((SCALAR, Scalar::U32))),
     ];
-    left_after(rt, alloc, MathFunction::InsertBits, &calls, &types).expect(rt, WANT)
+    let left = left_after(rt, alloc, MathFunction::InsertBits, &calls, &types);
+    drop(types);
+    left.expect(rt, WANT)
 }
 
 #[test]

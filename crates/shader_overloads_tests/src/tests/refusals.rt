@@ -37,30 +37,44 @@ fn listed<R: Abort + Print>(rt: &R, alloc: Global, set: &AnyOverloadSet) -> Vec<
     }
 }
 
+/// How many items there are.
+fn counted<T: Drop>(items: Vec<T>) -> usize {
+    let count = items.len();
+    drop(items);
+    count
+}
+
 fn allowed<R: Abort + Print>(rt: &R, alloc: Global, set: &AnyOverloadSet) -> usize {
     match list_allowed(alloc, set, 0) {
-        Ok(types) => types.len(),
+        Ok(types) => counted(types),
         Err(AllocError) => {
             tell(rt, "allowed_args was refused");
-            list_allowed(alloc, set, 0).expect(rt, WANT).len()
+            counted(list_allowed(alloc, set, 0).expect(rt, WANT))
         }
     }
+}
+
+/// How many arguments a rule takes.
+fn arguments_of(rule: Rule) -> usize {
+    let count = rule.arguments.len();
+    drop(rule);
+    count
 }
 
 fn preferred<R: Abort + Print>(rt: &R, alloc: Global, set: &AnyOverloadSet) -> usize {
     assert!(rt; !set.is_empty());
     match set.most_preferred(alloc) {
-        Ok(rule) => rule.arguments.len(),
+        Ok(rule) => arguments_of(rule),
         Err(AllocError) => {
             tell(rt, "most_preferred was refused");
-            set.most_preferred(alloc).expect(rt, WANT).arguments.len()
+            arguments_of(set.most_preferred(alloc).expect(rt, WANT))
         }
     }
 }
 
 /// Asserts that what a set tells of its first argument and its preferred rule goes on after a refusal.
 fn tells_again<R: Abort + Print>(rt: &R, alloc: Global, set: &AnyOverloadSet, rules: usize) {
-    assert!(rt; listed(rt, alloc, set).len() == rules);
+    assert!(rt; counted(listed(rt, alloc, set)) == rules);
     assert!(rt; allowed(rt, alloc, set) == rules);
     assert!(rt; preferred(rt, alloc, set) == 2);
 }
@@ -69,6 +83,7 @@ fn tells_again<R: Abort + Print>(rt: &R, alloc: Global, set: &AnyOverloadSet, ru
 fn refused_builtins_can_be_asked_again(rt: HostRuntime) {
     let set = rules_of_refract(&rt, rt.alloc());
     assert!(rt; !set.is_empty());
+    drop(set);
 }
 
 #[test]
@@ -77,6 +92,7 @@ fn refused_combinations_can_be_asked_again(rt: HostRuntime) {
         .overloads(rt.alloc())
         .expect(&rt, WANT);
     tells_again(&rt, rt.alloc(), &set, 1);
+    drop(set);
 }
 
 /// The rules of a regular set are made when they are asked for.
@@ -84,6 +100,7 @@ fn refused_combinations_can_be_asked_again(rt: HostRuntime) {
 fn refused_regular_sets_can_be_asked_again(rt: HostRuntime) {
     let set = MathFunction::Cross.overloads(rt.alloc()).expect(&rt, WANT);
     tells_again(&rt, rt.alloc(), &set, 4);
+    drop(set);
 }
 
 /// How a set is made of that of a builtin.
@@ -96,7 +113,9 @@ enum Way {
 
 fn copied(alloc: Global, function: MathFunction) -> Result<AnyOverloadSet, AllocError> {
     let set = function.overloads(alloc)?;
-    set.copy(alloc)
+    let copy = set.copy(alloc);
+    drop(set);
+    copy
 }
 
 /// The set of a builtin after its second argument was an integer literal.
@@ -134,6 +153,7 @@ fn makes_again<R: Abort + Print>(rt: &R, alloc: Global, function: MathFunction, 
         }
     };
     assert!(rt; preferred(rt, alloc, &set) == 2);
+    drop(set);
 }
 
 #[test]
@@ -175,6 +195,8 @@ fn refused_rules_can_be_made_again(rt: HostRuntime) {
     let copy = copied_again_if_refused(&rt, rt.alloc(), &made);
     let vector = (VEC2, Scalar::F16);
     assert!(rt; is_rule(&copy, vector, (SCALAR, Scalar::I32), vector));
+    drop(copy);
+    drop(made);
 }
 
 /// A list of one rule, made by one call or the other.
@@ -210,6 +232,8 @@ fn one_rule_again_if_refused<R: Abort + Print>(
 fn refused_lists_can_be_asked_again(rt: HostRuntime) {
     let set = one_rule_again_if_refused(&rt, rt.alloc(), false);
     tells_again(&rt, rt.alloc(), &set, 1);
+    drop(set);
     let set = one_rule_again_if_refused(&rt, rt.alloc(), true);
     tells_again(&rt, rt.alloc(), &set, 1);
+    drop(set);
 }

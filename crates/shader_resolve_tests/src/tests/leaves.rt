@@ -2,8 +2,8 @@
 use crate::tests::rows::{Rows, WANT, at, module, of, pointer, scalar, vector};
 use shader_arena::{Arena, Handle};
 use shader_ir::{
-    AddressSpace, Block, Constant, Expression, Function, FunctionArgument, FunctionResult,
-    GlobalVariable, Items, Literal, LocalVariable, Map, Module, Override, Scalar, VectorSize, mark,
+    AddressSpace, Constant, Expression, Function, FunctionArgument, FunctionResult, GlobalVariable,
+    Items, Literal, LocalVariable, Module, Override, Scalar, VectorSize, mark,
 };
 use shader_resolve::ResolveError;
 use std::alloc::Global;
@@ -181,22 +181,10 @@ fn add_function(
     module: &mut Module,
     returned: Option<FunctionResult>,
 ) {
+    let mut function = Function::new(alloc);
+    function.result = returned;
     assert!(rt; module.functions.len() < 1000);
-    module
-        .functions
-        .append(Function {
-            name: None,
-            arguments: Items::from(Vec::new(alloc)),
-            result: returned,
-            local_variables: Arena::new(alloc),
-            expressions: Arena::new(alloc),
-            named_expressions: Map::new(alloc),
-            body: Block {
-                statements: Vec::new(alloc),
-            },
-            diagnostic_filter_leaf: None,
-        })
-        .expect(rt, WANT);
+    module.functions.append(function).expect(rt, WANT);
 }
 
 /// The module with a function that returns nothing, and one that returns a pair.

@@ -1,10 +1,10 @@
 //! Modules with one fault each.
-use crate::tests::rows::{WANT, add_type, empty_module};
-use shader_arena::{Arena, Handle, Range, UniqueArena};
+use crate::tests::rows::{WANT, add_type};
+use shader_arena::{Handle, Range};
 use shader_ir::{
     AddressSpace, ArraySize, Block, Count, DiagnosticFilterNode, DiagnosticRule, EntryPoint,
-    Expression, Function, FunctionArgument, Items, Map, Module, Name, Scalar, Severity,
-    ShaderStage, SpecialTypes, Statement, SwitchCase, SwitchValue, TypeInner, UnaryOperator, mark,
+    Expression, Function, FunctionArgument, Items, Module, Name, Scalar, Severity, ShaderStage,
+    Statement, SwitchCase, SwitchValue, TypeInner, UnaryOperator, mark,
 };
 use shader_resolve::{ModuleFault, ModulePlace, check_module, find_fault};
 use std::alloc::Global;
@@ -19,16 +19,10 @@ pub fn function(
     arguments: Vec<FunctionArgument>,
     statements: Vec<Statement>,
 ) -> Function {
-    Function {
-        name: None,
-        arguments: Items::from(arguments),
-        result: None,
-        local_variables: Arena::new(alloc),
-        expressions: Arena::new(alloc),
-        named_expressions: Map::new(alloc),
-        body: Block { statements },
-        diagnostic_filter_leaf: None,
-    }
+    let mut function = Function::new(alloc);
+    function.arguments = Items::from(arguments);
+    function.body = Block { statements };
+    function
 }
 
 pub fn add_function(rt: &impl Abort, module: &mut Module, function: Function) {
@@ -38,7 +32,7 @@ pub fn add_function(rt: &impl Abort, module: &mut Module, function: Function) {
 
 /// A module with one function, which has one expression.
 fn with_expression(rt: &impl Abort, alloc: Global, expression: Expression) -> Module {
-    let mut made = empty_module(alloc);
+    let mut made = Module::new(alloc);
     let mut one = function(alloc, Vec::new(alloc), Vec::new(alloc));
     assert!(rt; one.expressions.len() < 1000);
     one.expressions.append(expression).expect(rt, WANT);
@@ -110,7 +104,7 @@ pub fn one_statement(rt: &impl Abort, alloc: Global, statement: Statement) -> Ve
 
 #[test]
 fn accepts_the_empty_module(rt: HostRuntime) {
-    accepts(&rt, empty_module(rt.alloc()));
+    accepts(&rt, Module::new(rt.alloc()));
 }
 
 #[test]
@@ -127,7 +121,7 @@ fn names_a_global_that_is_not_there(rt: HostRuntime) {
 
 #[test]
 fn names_an_array_of_itself(rt: HostRuntime) {
-    let mut module = empty_module(rt.alloc());
+    let mut module = Module::new(rt.alloc());
     let count = Count::new(1).expect(&rt, "a count");
     add_type(
         &rt,
@@ -164,7 +158,7 @@ fn names_an_operand_of_itself(rt: HostRuntime) {
 #[test]
 fn names_a_function_that_calls_itself(rt: HostRuntime) {
     let alloc = rt.alloc();
-    let mut module = empty_module(alloc);
+    let mut module = Module::new(alloc);
     let body = one_statement(&rt, alloc, call(alloc));
     add_function(&rt, &mut module, function(alloc, Vec::new(alloc), body));
     expects(
@@ -196,9 +190,7 @@ fn switch(rt: &impl Abort, alloc: Global) -> Statement {
 /// A loop that goes on with the switch.
 fn around_switch(rt: &impl Abort, alloc: Global) -> Statement {
     Statement::Loop {
-        body: Block {
-            statements: Vec::new(alloc),
-        },
+        body: Block::new(alloc),
         continuing: Block {
             statements: one_statement(rt, alloc, switch(rt, alloc)),
         },
@@ -219,7 +211,7 @@ fn of_blocks(rt: &impl Abort, alloc: Global) -> Function {
 
 #[test]
 fn names_a_call_inside_blocks(rt: HostRuntime) {
-    let mut module = empty_module(rt.alloc());
+    let mut module = Module::new(rt.alloc());
     add_function(&rt, &mut module, of_blocks(&rt, rt.alloc()));
     expects(
         &rt,
@@ -233,7 +225,7 @@ fn names_a_call_inside_blocks(rt: HostRuntime) {
 #[test]
 fn names_a_call_with_too_few_arguments(rt: HostRuntime) {
     let alloc = rt.alloc();
-    let mut module = empty_module(alloc);
+    let mut module = Module::new(alloc);
     add_type(&rt, &mut module, TypeInner::Scalar(Scalar::F32));
     add_function(&rt, &mut module, of_one_argument(&rt, alloc));
     assert!(rt; check_module(&module) == Ok(()));
@@ -249,7 +241,7 @@ fn names_a_call_with_too_few_arguments(rt: HostRuntime) {
 
 #[test]
 fn names_a_filter_that_is_its_parent(rt: HostRuntime) {
-    let mut module = empty_module(rt.alloc());
+    let mut module = Module::new(rt.alloc());
     assert!(rt; module.diagnostic_filters.len() < 1000);
     module
         .diagnostic_filters
@@ -270,7 +262,7 @@ fn names_a_filter_that_is_its_parent(rt: HostRuntime) {
 #[test]
 fn names_an_argument_of_a_value_pointer(rt: HostRuntime) {
     let alloc = rt.alloc();
-    let mut module = empty_module(alloc);
+    let mut module = Module::new(alloc);
     add_type(
         &rt,
         &mut module,
@@ -293,7 +285,7 @@ fn names_an_argument_of_a_value_pointer(rt: HostRuntime) {
 #[test]
 fn names_an_emit_past_the_expressions(rt: HostRuntime) {
     let alloc = rt.alloc();
-    let mut module = empty_module(alloc);
+    let mut module = Module::new(alloc);
     let body = one_statement(&rt, alloc, Statement::Emit(Range::new(at(0), at(1))));
     add_function(&rt, &mut module, function(alloc, Vec::new(alloc), body));
     expects(
@@ -308,7 +300,7 @@ fn names_an_emit_past_the_expressions(rt: HostRuntime) {
 #[test]
 fn accepts_an_entry_point_that_calls(rt: HostRuntime) {
     let alloc = rt.alloc();
-    let mut module = empty_module(alloc);
+    let mut module = Module::new(alloc);
     let nothing = one_statement(&rt, alloc, Statement::Emit(Range::new(at(7), at(0))));
     add_function(&rt, &mut module, function(alloc, Vec::new(alloc), nothing));
     add_entry_point(&rt, alloc, &mut module);
@@ -342,14 +334,14 @@ fn names_faults_of_global_expressions(rt: HostRuntime) {
 }
 
 fn with_global_local(rt: &impl Abort, alloc: Global) -> Module {
-    let mut module = empty_module(alloc);
+    let mut module = Module::new(alloc);
     let local = Expression::LocalVariable(Handle::from_index(0));
     add_global_expression(rt, &mut module, local);
     module
 }
 
 fn with_global_call(rt: &impl Abort, alloc: Global) -> Module {
-    let mut module = empty_module(alloc);
+    let mut module = Module::new(alloc);
     let called = function(alloc, Vec::new(alloc), Vec::new(alloc));
     add_function(rt, &mut module, called);
     let result = Expression::CallResult(Handle::from_index(0));
@@ -361,7 +353,7 @@ fn with_global_call(rt: &impl Abort, alloc: Global) -> Module {
 #[test]
 fn names_a_callee_that_is_not_there(rt: HostRuntime) {
     let alloc = rt.alloc();
-    let mut module = empty_module(alloc);
+    let mut module = Module::new(alloc);
     add_entry_point(&rt, alloc, &mut module);
     expects(
         &rt,

@@ -1,6 +1,6 @@
 //! How deep blocks nest, at both sides of a limit.
 use crate::tests::modules::{add_function, function, one_statement};
-use crate::tests::rows::{WANT, at, empty_module};
+use crate::tests::rows::{WANT, at};
 use shader_ir::{
     Block, EntryPoint, Items, Module, Name, ShaderStage, Statement, SwitchCase, SwitchValue,
 };
@@ -19,7 +19,7 @@ fn nests(rt: &impl Abort, module: Module, levels: usize) {
 
 /// Asserts how deep the one body of a module nests.
 fn body_nests(rt: &impl Abort, alloc: Global, body: Vec<Statement>, levels: usize) {
-    let mut module = empty_module(alloc);
+    let mut module = Module::new(alloc);
     add_function(rt, &mut module, function(alloc, Vec::new(alloc), body));
     nests(rt, module, levels)
 }
@@ -95,7 +95,7 @@ fn between(rt: &impl Abort, alloc: Global, levels: usize) -> Vec<Statement> {
 
 #[test]
 fn a_module_without_bodies_has_no_levels(rt: HostRuntime) {
-    let module = empty_module(rt.alloc());
+    let module = Module::new(rt.alloc());
     assert!(rt; nests_within(&module, 0));
     drop(module)
 }
@@ -127,7 +127,7 @@ fn the_deepest_block_of_a_statement_counts(rt: HostRuntime) {
 
 /// A module of an entry point with such a body, beside a function that nests no deeper than one level.
 fn of_entry_point(rt: &impl Abort, alloc: Global, body: Vec<Statement>) -> Module {
-    let mut module = empty_module(alloc);
+    let mut module = Module::new(alloc);
     let flat = function(alloc, Vec::new(alloc), Vec::new(alloc));
     add_function(rt, &mut module, flat);
     let mut entry_points = Vec::new(alloc);
@@ -152,7 +152,7 @@ fn entry_points_count(rt: HostRuntime) {
 #[test]
 fn the_limit_goes_through(rt: HostRuntime) {
     let alloc = rt.alloc();
-    let mut module = empty_module(alloc);
+    let mut module = Module::new(alloc);
     let body = nested(&rt, alloc, MOST_LEVELS - 1);
     add_function(&rt, &mut module, function(alloc, Vec::new(alloc), body));
     assert!(rt; check_module(&module) == Ok(()));

@@ -3,11 +3,11 @@
 //! With ample memory nothing is refused. Where the allocator refuses the Nth request of a test's process, the test passes
 //! still, and prints a line with `was refused`. The first N at which no test prints one is past all requests.
 use crate::held::resolve_held;
-use crate::tests::rows::{at, empty_module, is_want, vector};
+use crate::tests::rows::{at, is_want, vector};
 use shader_arena::Arena;
 use shader_ir::{
-    BinaryOperator, Expression, MathFunction, Scalar, ScalarKind, TypeInner, TypeResolution,
-    VectorSize,
+    BinaryOperator, Expression, MathFunction, Module, Scalar, ScalarKind, TypeInner,
+    TypeResolution, VectorSize,
 };
 use shader_resolve::{ResolveContext, ResolveError};
 use std::alloc::Global;
@@ -41,7 +41,7 @@ fn answer<R: Abort + Print>(
     held: [TypeResolution; 2],
     expr: Expression,
 ) -> Result<Answer, Fail> {
-    let module = empty_module(alloc);
+    let module = Module::new(alloc);
     let locals = Arena::new(alloc);
     let context = ResolveContext::with_locals(&module, &locals, &[]);
     let told = answer_in(rt, &context, alloc, &held, &expr);

@@ -1,10 +1,9 @@
 //! What the tests of the table of types are made with.
 use crate::held::resolve_held;
-use shader_arena::{Arena, Handle, UniqueArena};
+use shader_arena::{Arena, Handle};
 use shader_ir::{
     AddressSpace, ArraySize, Expression, FunctionArgument, ImageClass, ImageDimension, Items,
-    LocalVariable, Map, Module, Scalar, SpecialTypes, StructMember, Type, TypeInner,
-    TypeResolution, VectorSize, mark,
+    LocalVariable, Module, Scalar, StructMember, Type, TypeInner, TypeResolution, VectorSize, mark,
 };
 use shader_resolve::{ResolveContext, ResolveError};
 use std::alloc::Global;
@@ -170,28 +169,9 @@ pub fn add_type(rt: &impl Abort, module: &mut Module, inner: TypeInner) {
         .expect(rt, WANT);
 }
 
-/// A module of nothing, which takes no memory.
-pub fn empty_module(alloc: Global) -> Module {
-    Module {
-        types: UniqueArena::new(alloc),
-        special_types: SpecialTypes {
-            ray_intersection: None,
-            ray_vertex_return: None,
-            predeclared_types: Map::new(alloc),
-        },
-        constants: Arena::new(alloc),
-        overrides: Arena::new(alloc),
-        global_variables: Arena::new(alloc),
-        global_expressions: Arena::new(alloc),
-        functions: Arena::new(alloc),
-        entry_points: Items::from(Vec::new(alloc)),
-        diagnostic_filters: Arena::new(alloc),
-    }
-}
-
 /// A module whose types are vec3 f32, vec2 f32, f32, an atomic u32, an array of the first, and a struct of it.
 pub fn module(rt: &impl Abort, alloc: Global) -> Module {
-    let mut module = empty_module(alloc);
+    let mut module = Module::new(alloc);
     module.special_types.ray_intersection = Some(Handle::from_index(5));
     let size = VectorSize::Tri;
     let inner = TypeInner::Vector {

@@ -149,7 +149,12 @@ pub fn asks<const N: usize, const M: usize>(
     assert!(rt; typifier.get(at(0), &module.types).scalar().is_some());
     invalidates(rt, alloc, &mut typifier, &expressions, &context, wanted);
     holds(rt, &typifier, &types);
+    drop(arguments);
+    drop(locals);
+    drop(expressions);
     registers(rt, alloc, &typifier, &mut module.types, &types);
+    drop(module);
     typifier.reset();
     assert!(rt; typifier.is_empty());
+    drop(typifier);
 }

@@ -87,7 +87,10 @@ pub fn processed(
     assert!(rt; module.functions.contains_handle(first));
     let _function = &module.functions[first];
     let place = AnalysisPlace::Function(first);
-    ModuleInfo::new(alloc).process_function(alloc, place, module, flags, capabilities)
+    let infos = ModuleInfo::new(alloc);
+    let answer = infos.process_function(alloc, place, module, flags, capabilities);
+    drop(infos);
+    answer
 }
 
 /// Adds the type of the first global expression, which is there, to none.
@@ -223,7 +226,11 @@ fn add_analyzed(
     question: Question,
 ) -> Result<(), AllocError> {
     match analyzed(rt, alloc, module) {
-        Ok(infos) => add_answer(rt, text, &infos, module, question),
+        Ok(infos) => {
+            let added = add_answer(rt, text, &infos, module, question);
+            drop(infos);
+            added
+        }
         Err(error) => add_error(text, &error),
     }
 }
@@ -237,7 +244,11 @@ fn add_processed(
     match answer {
         Err(error) => add_error(text, &error),
         Ok(info) => match part {
-            Some(part) => add_part(text, &info, part),
+            Some(part) => {
+                let added = add_part(text, &info, part);
+                drop(info);
+                added
+            }
             None => text.push_str("accepted"),
         },
     }
@@ -268,6 +279,7 @@ pub fn add_told(
 fn told(rt: &impl Abort, alloc: Global, module: Module, question: Question) -> String {
     let mut text = String::new(alloc);
     add_told(rt, alloc, &mut text, &module, question).expect(rt, WANT);
+    drop(module);
     text
 }
 

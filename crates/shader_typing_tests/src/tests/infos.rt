@@ -65,6 +65,8 @@ fn uses_dominate_those_among_them(rt: HostRuntime) {
     let both = info(&rt, alloc, GlobalUse::READ | GlobalUse::WRITE);
     assert!(rt; both.dominates_global_use(&read) && both.dominates_global_use(&both));
     assert!(rt; !read.dominates_global_use(&both));
+    drop(read);
+    drop(both);
 }
 
 #[test]
@@ -74,6 +76,7 @@ fn pairs_with_an_argument_are_told(rt: HostRuntime) {
     assert!(rt; sampled.has_sampling(IMAGE, global(0)));
     assert!(rt; !sampled.has_sampling(global(0), IMAGE));
     assert!(rt; !sampled.has_sampling(global(0), global(0)));
+    drop(sampled);
 }
 
 #[test]
@@ -89,4 +92,6 @@ fn a_copy_has_all(rt: HostRuntime) {
     assert!(rt; copy[expression_handle].ref_count == 3);
     assert!(rt; copy.has_sampling(IMAGE, global(0)) && copy.sampling_set.len() == 1);
     assert!(rt; copy.may_kill && copy.available_stages == first.available_stages);
+    drop(first);
+    drop(copy);
 }

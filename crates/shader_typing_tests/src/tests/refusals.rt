@@ -54,6 +54,7 @@ fn tells_again(
     let mut text = String::new(rt.alloc());
     let module = made(rt, rt.alloc(), sample);
     add_again(rt, rt.alloc(), &mut text, &module, &question);
+    drop(module);
     assert!(rt; text.as_str() == wanted, "{text}");
 }
 
@@ -112,7 +113,9 @@ fn first_info(rt: &(impl Abort + Print), alloc: Global, module: &Module) -> Func
 /// What is recorded of the first function of the sample.
 fn sample_info(rt: &(impl Abort + Print), alloc: Global, sample: Sample) -> FunctionInfo {
     let module = made(rt, alloc, sample);
-    first_info(rt, alloc, &module)
+    let info = first_info(rt, alloc, &module);
+    drop(module);
+    info
 }
 
 /// Adds an info to no others, again where memory was refused: it has three expressions, and comes back.
@@ -135,6 +138,7 @@ fn of_infos(rt: HostRuntime) {
         &mut infos,
         sample_info(&rt, rt.alloc(), Sample::Counts),
     );
+    drop(infos);
 }
 
 /// Adds the info of an entry point to no others, again where memory was refused: it has three expressions, and comes back.
@@ -157,6 +161,7 @@ fn of_entry_points(rt: HostRuntime) {
         &mut infos,
         sample_info(&rt, rt.alloc(), Sample::Counts),
     );
+    drop(infos);
 }
 
 /// A module of one literal, added again where memory was refused.
@@ -179,4 +184,6 @@ fn of_global_expressions(rt: HostRuntime) {
         say(&rt, "a type");
         assert!(rt; type_first(&rt, rt.alloc(), &module, &mut infos).is_ok());
     }
+    drop(module);
+    drop(infos);
 }

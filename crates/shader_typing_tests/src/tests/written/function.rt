@@ -4,10 +4,10 @@ use crate::tests::written::blocks::Blocks;
 use crate::tests::written::clause::Clause;
 use crate::tests::written::expression::expression;
 use crate::tests::written::statement::statement;
-use shader_arena::{Arena, Handle};
+use shader_arena::Handle;
 use shader_ir::{
-    Binding, Block, BuiltIn, Expression, Function, FunctionArgument, FunctionResult, Items,
-    LocalVariable, Map, Name,
+    Binding, BuiltIn, Expression, Function, FunctionArgument, FunctionResult, Items, LocalVariable,
+    Name,
 };
 use std::alloc::Global;
 use std::process::Abort;
@@ -22,21 +22,6 @@ fn binding(rt: &impl Abort, name: &str) -> Option<Binding> {
         "NumWorkGroupsArgument" => Some(Binding::BuiltIn(BuiltIn::NumWorkGroups)),
         "OtherArgument" => Some(Binding::BuiltIn(BuiltIn::Other(0))),
         unknown => panic!(rt; "{unknown} is no part of a function"),
-    }
-}
-
-fn empty(alloc: Global) -> Function {
-    Function {
-        name: None,
-        arguments: Items::from(Vec::new(alloc)),
-        result: None,
-        local_variables: Arena::new(alloc),
-        expressions: Arena::new(alloc),
-        named_expressions: Map::new(alloc),
-        body: Block {
-            statements: Vec::new(alloc),
-        },
-        diagnostic_filter_leaf: None,
     }
 }
 
@@ -56,7 +41,7 @@ impl Written {
         let blocks = Blocks::new(rt, alloc);
         Written {
             alloc,
-            function: empty(alloc),
+            function: Function::new(alloc),
             arguments: Vec::new(alloc),
             blocks,
             is_entry_point: false,
