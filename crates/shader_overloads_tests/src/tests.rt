@@ -128,6 +128,13 @@ pub fn allowed<S: OverloadSet>(
     list_allowed(alloc, set, place).expect(rt, WANT)
 }
 
+/// How many items there are, which are let go.
+pub fn counted<T: Drop>(items: Vec<T>) -> usize {
+    let count = items.len();
+    drop(items);
+    count
+}
+
 /// Whether a rule is left, of which the preferred one concludes so.
 pub fn prefers<S: OverloadSet>(rt: &impl Abort, alloc: Global, set: &S, wanted: Made) -> bool {
     if set.is_empty() {

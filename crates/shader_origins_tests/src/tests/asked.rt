@@ -1,9 +1,10 @@
 //! What is asked of modules, and what is answered.
-use crate::tests::made::{Kind, WANT, at, entry, module};
+use crate::tests::made::{Kind, WANT, entry, module};
 use shader_arena::Handle;
 use shader_ir::{BuiltIn, Module};
 use shader_origins::{FunctionPlace, Link, Reasons, why_non_uniform};
 use shader_resolve::check_module;
+use shader_samples::parts::at;
 use std::process::Abort;
 
 /// The expression at a place of a function.

@@ -1,9 +1,10 @@
 //! Modules that are asked, told by values that are copied.
-use shader_arena::{Arena, Handle, UniqueArena};
+use shader_arena::Handle;
 use shader_ir::{
-    BinaryOperator, Binding, Block, BuiltIn, EntryPoint, Expression, Function, FunctionArgument,
-    Items, Literal, Module, Name, Scalar, ShaderStage, Statement, Type, TypeInner, mark,
+    BinaryOperator, Binding, BuiltIn, EntryPoint, Expression, Function, FunctionArgument, Items,
+    Module, Name, Scalar, ShaderStage, Statement, TypeInner, mark,
 };
+use shader_samples::parts::{at, function_of, module_of, number};
 use std::alloc::{AllocError, Global};
 use std::process::Abort;
 
@@ -27,16 +28,6 @@ pub enum Kind {
     Leaving(u32),
 }
 
-/// The expression at a place.
-pub fn at(place: u32) -> Handle<mark::Expression> {
-    Handle::from_index(place)
-}
-
-/// A literal, which is the same in all invocations.
-fn number() -> Expression {
-    Expression::Literal(Literal::U32(7))
-}
-
 fn sum(left: u32, right: u32) -> Expression {
     Expression::Binary {
         op: BinaryOperator::Add,
@@ -49,12 +40,12 @@ fn expressions(alloc: Global, kind: Kind) -> Result<Vec<Expression>, AllocError>
     let taken = Expression::FunctionArgument(0);
     Ok(match kind {
         Kind::Giving => vec![in alloc; taken]?,
-        Kind::Literal | Kind::Leaving(_) => vec![in alloc; number()]?,
-        Kind::Adding => vec![in alloc; number(), taken, sum(0, 1), sum(0, 2)]?,
-        Kind::Summing => vec![in alloc; number(), taken, sum(0, 1)]?,
+        Kind::Literal | Kind::Leaving(_) => vec![in alloc; number(7)]?,
+        Kind::Adding => vec![in alloc; number(7), taken, sum(0, 1), sum(0, 2)]?,
+        Kind::Summing => vec![in alloc; number(7), taken, sum(0, 1)]?,
         Kind::Asking(callee) => {
             let given = Expression::CallResult(Handle::from_index(callee));
-            vec![in alloc; number(), given, sum(0, 1)]?
+            vec![in alloc; number(7), given, sum(0, 1)]?
         }
     })
 }
@@ -88,20 +79,6 @@ fn statements(alloc: Global, kind: Kind) -> Result<Vec<Statement>, AllocError> {
     })
 }
 
-/// The items in an arena.
-fn arena_of<T: Drop, M>(
-    rt: &impl Abort,
-    alloc: Global,
-    items: Vec<T>,
-) -> Result<Arena<T, M>, AllocError> {
-    let mut arena = Arena::new(alloc);
-    for item in items {
-        assert!(rt; !arena.is_full());
-        arena.append(item)?;
-    }
-    Ok(arena)
-}
-
 /// The function, whose argument is bound so.
 fn function(
     rt: &impl Abort,
@@ -116,21 +93,11 @@ fn function(
     };
     let arguments = vec![in alloc; argument]?;
     let statements = statements(alloc, kind)?;
-    let expressions = arena_of(rt, alloc, expressions(alloc, kind)?)?;
-    let mut made = Function::new(alloc);
+    let expressions = expressions(alloc, kind)?;
+    assert!(rt; expressions.len() < 100);
+    let mut made = function_of(alloc, expressions, statements)?;
     made.arguments = Items::from(arguments);
-    made.expressions = expressions;
-    made.body = Block { statements };
     Ok(made)
-}
-
-/// One type.
-fn types(rt: &impl Abort, alloc: Global) -> Result<UniqueArena<Type, mark::Type>, AllocError> {
-    let mut types = UniqueArena::new(alloc);
-    let inner = TypeInner::Scalar(Scalar::U32);
-    assert!(rt; !types.is_full());
-    types.insert(Type { name: None, inner })?;
-    Ok(types)
 }
 
 fn functions<const N: usize>(
@@ -151,12 +118,10 @@ pub fn module<const N: usize>(
     alloc: Global,
     kinds: [Kind; N],
 ) -> Result<Module, AllocError> {
-    let types = types(rt, alloc)?;
-    let functions = arena_of(rt, alloc, functions(rt, alloc, kinds)?)?;
-    let mut module = Module::new(alloc);
-    module.types = types;
-    module.functions = functions;
-    Ok(module)
+    let functions = functions(rt, alloc, kinds)?;
+    let types = vec![in alloc; TypeInner::Scalar(Scalar::U32)]?;
+    assert!(rt; types.len() < 100 && functions.len() < 100);
+    module_of(alloc, types, Vec::new(alloc), functions)
 }
 
 /// A module of one entry point, which gives back the sum of a literal and of its argument, a built-in.

@@ -1,6 +1,7 @@
 //! Sets of builtins, narrowed by calls, through the trait.
 use crate::tests::{
-    Made, SCALAR, VEC2, WANT, allowed, inner, is_rule, left_after, listed, narrowed, prefers,
+    Made, SCALAR, VEC2, WANT, allowed, counted, inner, is_rule, left_after, listed, narrowed,
+    prefers,
 };
 use shader_arena::UniqueArena;
 use shader_ir::{MathFunction, Scalar};
@@ -19,22 +20,6 @@ struct Told {
     second: usize,
 }
 
-/// How many rules a set has.
-fn rule_count<S: OverloadSet>(rt: &impl Abort, alloc: Global, set: &S) -> usize {
-    let rules = listed(rt, alloc, set);
-    let count = rules.len();
-    drop(rules);
-    count
-}
-
-/// How many types it allows as the second argument.
-fn allowed_count<S: OverloadSet>(rt: &impl Abort, alloc: Global, set: &S) -> usize {
-    let types = allowed(rt, alloc, set, 1);
-    let count = types.len();
-    drop(types);
-    count
-}
-
 /// Asserts what the trait tells of a set, whose rules are asked of a copy.
 fn tells<S: OverloadSet>(rt: &impl Abort, alloc: Global, set: &S, wanted: Told) {
     assert!(rt; !set.is_empty());
@@ -42,8 +27,8 @@ fn tells<S: OverloadSet>(rt: &impl Abort, alloc: Global, set: &S, wanted: Told) 
     assert!(rt; set.max_arguments() == wanted.arguments);
     assert!(rt; prefers(rt, alloc, set, wanted.preferred));
     let copy = set.copy(alloc).expect(rt, WANT);
-    assert!(rt; rule_count(rt, alloc, &copy) == wanted.rules);
-    assert!(rt; allowed_count(rt, alloc, &copy) == wanted.second);
+    assert!(rt; counted(listed(rt, alloc, &copy)) == wanted.rules);
+    assert!(rt; counted(allowed(rt, alloc, &copy, 1)) == wanted.second);
     drop(copy);
 }
 
@@ -151,9 +136,9 @@ static COUNTS: [(MathFunction, usize); 8] = [
 ];
 
 /// How many rules the builtin has.
-fn count_of(rt: &impl Abort, alloc: Global, function: MathFunction) -> usize {
+fn rule_count(rt: &impl Abort, alloc: Global, function: MathFunction) -> usize {
     let set = function.overloads(alloc).expect(rt, WANT);
-    let count = rule_count(rt, alloc, &set);
+    let count = counted(listed(rt, alloc, &set));
     drop(set);
     count
 }
@@ -161,7 +146,7 @@ fn count_of(rt: &impl Abort, alloc: Global, function: MathFunction) -> usize {
 #[test]
 fn sets_of_many_rules_are_listed(rt: HostRuntime) {
     for (function, count) in &COUNTS {
-        assert!(rt; count_of(&rt, rt.alloc(), *function) == *count);
+        assert!(rt; rule_count(&rt, rt.alloc(), *function) == *count);
     }
 }
 

@@ -2,7 +2,7 @@
 //!
 //! With ample memory nothing is refused. Where the allocator refuses the Nth request of a test's process, the test passes still,
 //! and prints a line with `was refused`.
-use crate::tests::{SCALAR, VEC2, inner, is_rule, list_allowed, list_rules, narrowed};
+use crate::tests::{SCALAR, VEC2, counted, inner, is_rule, list_allowed, list_rules, narrowed};
 use shader_arena::UniqueArena;
 use shader_ir::{MathFunction, Scalar, Type, mark, types_backward};
 use shader_overloads::utils::{list, rule};
@@ -35,13 +35,6 @@ fn listed<R: Abort + Print>(rt: &R, alloc: Global, set: &AnyOverloadSet) -> Vec<
             list_rules(alloc, set).expect(rt, WANT)
         }
     }
-}
-
-/// How many items there are.
-fn counted<T: Drop>(items: Vec<T>) -> usize {
-    let count = items.len();
-    drop(items);
-    count
 }
 
 fn allowed<R: Abort + Print>(rt: &R, alloc: Global, set: &AnyOverloadSet) -> usize {
