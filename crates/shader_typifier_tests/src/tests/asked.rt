@@ -156,5 +156,4 @@ pub fn asks<const N: usize, const M: usize>(
     drop(module);
     typifier.reset();
     assert!(rt; typifier.is_empty());
-    drop(typifier);
 }
