@@ -8,7 +8,9 @@ use crate::tests::{
 use bitflags::Flags;
 use shader_arena::UniqueArena;
 use shader_ir::Scalar;
-use shader_overloads::{ConclusionRule, ConstructorSet, OverloadSet, Regular, Rule, ScalarSet};
+use shader_overloads::{
+    AnyOverloadSet, ConclusionRule, ConstructorSet, OverloadSet, Regular, Rule, ScalarSet,
+};
 use std::alloc::Global;
 use std::process::Abort;
 
@@ -192,6 +194,14 @@ fn all_rules_are_listed(rt: HostRuntime) {
     assert!(rt; rules.len() == 156);
     assert!(rt; keeps(rules.first(), (SCALAR, Scalar::ABSTRACT_INT)));
     assert!(rt; keeps(rules.last(), (MAT4X4, Scalar::BOOL)));
+}
+
+#[test]
+fn a_regular_set_is_a_set(rt: HostRuntime) {
+    let set = AnyOverloadSet::from(of_five());
+    assert!(rt; matches!(set, AnyOverloadSet::Regular(_)));
+    assert!(rt; prefers(&rt, rt.alloc(), &set, (SCALAR, Scalar::F32)));
+    drop(set);
 }
 
 #[test]

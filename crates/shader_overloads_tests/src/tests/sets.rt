@@ -3,13 +3,19 @@ ghost use Rattle.std.specs.Prelude.{◌≤◌, IsTrue, length};
 ghost use Rattle.std.specs.List.{list_all};
 ghost use Rattle.shader_overloads.specs.Remaining.{has_no_struct};
 
-use crate::tests::{MAT3X3, Made, SCALAR, VEC2, VEC3, WANT, allowed, inner, is_rule, is_type};
+use crate::tests::{
+    MAT3X3, Made, SCALAR, VEC2, VEC3, WANT, allowed, inner, is_rule, is_type, prefers,
+};
 use bitflags::Flags;
-use shader_ir::{Scalar, TypeInner, TypeResolution};
+use shader_arena::{Handle, UniqueArena};
+use shader_ir::{AddressSpace, Scalar, TypeInner, TypeResolution};
 use shader_overloads::utils::{
     float_scalars, float_scalars_unimplemented_abstract, list, pairs, rule, scalar_or_vecn, triples,
 };
-use shader_overloads::{ConstructorSet, List, OneBitsIter, OverloadSet, Rule, ScalarSet};
+use shader_overloads::{
+    AnyOverloadSet, ConstructorSet, ConstructorSize, List, OneBitsIter, OverloadSet, Rule,
+    ScalarSet, rules_fit,
+};
 use std::alloc::Global;
 use std::process::Abort;
 
@@ -20,12 +26,85 @@ fn masks(rt: &impl Abort, alloc: Global, bits: u64) -> Vec<u64> {
 
 #[test]
 fn bits_grow(rt: HostRuntime) {
+    assert!(rt; masks(&rt, rt.alloc(), 1).as_slice() == [1].as_slice());
     assert!(rt; masks(&rt, rt.alloc(), 21).as_slice() == [1, 4, 16].as_slice());
     let wanted = [1, 64, 128, 512, 1024];
     assert!(rt; masks(&rt, rt.alloc(), 1729).as_slice() == wanted.as_slice());
     assert!(rt; masks(&rt, rt.alloc(), 1 << 63).as_slice() == [1 << 63].as_slice());
     assert!(rt; OneBitsIter::new(0).next().is_none());
-    assert!(rt; masks(&rt, rt.alloc(), u64::MAX).len() == 64);
+}
+
+#[test]
+fn all_bits_are_given_from_the_least(rt: HostRuntime) {
+    let all = masks(&rt, rt.alloc(), u64::MAX);
+    assert!(rt; all.len() == 64);
+    assert!(rt; all.first() == Some(&1) && all.last() == Some(&(1 << 63)));
+    assert!(rt; all.is_sorted());
+}
+
+/// Sets of constructors, and their bits.
+static CONSTRUCTORS: [(ConstructorSet, u16); 6] = [
+    (ConstructorSet::EMPTY, 0),
+    (ConstructorSet::SCALAR, 1),
+    (ConstructorSet::VECN, 14),
+    (ConstructorSet::SCALAR_OR_VECN, 15),
+    (ConstructorSet::SQUARE_MATRICES, 4368),
+    (ConstructorSet::MAT4X4, 4096),
+];
+
+#[test]
+fn constructors_have_their_bits(rt: HostRuntime) {
+    for (set, bits) in &CONSTRUCTORS {
+        assert!(rt; set.bits() == *bits);
+        assert!(rt; *set == ConstructorSet::from_bits_retain(*bits));
+    }
+    assert!(rt; ConstructorSet::empty() == ConstructorSet::EMPTY);
+    let some = ConstructorSet::SCALAR_OR_VECN & (ConstructorSet::VEC3 | ConstructorSet::MAT3X3);
+    assert!(rt; some == ConstructorSet::VEC3 && some.bits() == 4);
+    let either = ConstructorSet::SCALAR | ConstructorSet::VECN;
+    assert!(rt; either == ConstructorSet::SCALAR_OR_VECN && either != ConstructorSet::VECN);
+    assert!(rt; (ConstructorSet::VECN & ConstructorSet::SQUARE_MATRICES).bits() == 0);
+}
+
+/// Sets of scalars, and their bits.
+static SCALARS: [(ScalarSet, u16); 10] = [
+    (ScalarSet::EMPTY, 0),
+    (ScalarSet::FLOAT, 1794),
+    (ScalarSet::INTEGER, 253),
+    (ScalarSet::NUMERIC, 2047),
+    (ScalarSet::ABSTRACT, 3),
+    (ScalarSet::CONCRETE, 4092),
+    (ScalarSet::CONCRETE_INTEGER, 252),
+    (ScalarSet::CONCRETE_FLOAT, 1792),
+    (ScalarSet::FLOAT_ABSTRACT_UNIMPLEMENTED, 1792),
+    (ScalarSet::BOOL, 2048),
+];
+
+#[test]
+fn scalars_have_their_bits(rt: HostRuntime) {
+    for (set, bits) in &SCALARS {
+        assert!(rt; set.bits() == *bits);
+    }
+    assert!(rt; ScalarSet::empty().bits() == 0 && ScalarSet::empty().is_empty());
+    assert!(rt; ScalarSet::concrete().bits() == 4092);
+    assert!(rt; (ScalarSet::NUMERIC & ScalarSet::concrete()).bits() == 2044);
+    assert!(rt; (ScalarSet::I32 | ScalarSet::U32 | ScalarSet::BOOL).bits() == 2084);
+    assert!(rt; (ScalarSet::FLOAT & ScalarSet::INTEGER).is_empty());
+}
+
+/// The type that a constructor makes of f32.
+fn of_floats(size: ConstructorSize) -> TypeInner {
+    inner((size, Scalar::F32))
+}
+
+#[test]
+fn constructors_tell_what_they_make(rt: HostRuntime) {
+    let square = ConstructorSet::MAT3X3;
+    assert!(rt; square.is_singleton());
+    assert!(rt; of_floats(square.size()) == of_floats(MAT3X3));
+    let vectors = ConstructorSet::VECN;
+    assert!(rt; !vectors.is_empty());
+    assert!(rt; of_floats(vectors.first_size()) == of_floats(VEC2));
 }
 
 const CONCRETE_FLOATS: [Scalar; 3] = [Scalar::F32, Scalar::F16, Scalar::F64];
@@ -183,6 +262,33 @@ fn a_list_is_made_of_its_rules(rt: HostRuntime) {
     let rules = only(&rt, rt.alloc(), of_two(&rt, rt.alloc()));
     let set = list(rt.alloc(), rules).expect(&rt, WANT);
     assert!(rt; !set.is_empty() && set.min_arguments() == 2);
+}
+
+/// Whether a rule of one argument of the type fits a module without types.
+fn fits_no_types(rt: &impl Abort, alloc: Global, argument: TypeInner) -> bool {
+    let rules = [made(rt, alloc, [argument], (SCALAR, Scalar::I32))];
+    let types = UniqueArena::new(alloc);
+    rules_fit(&rules, &types)
+}
+
+#[test]
+fn rules_fit_where_their_types_are_there(rt: HostRuntime) {
+    assert!(rt; fits_no_types(&rt, rt.alloc(), inner((VEC2, Scalar::F16))));
+    let pointer = TypeInner::Pointer {
+        base: Handle::from_index(0),
+        space: AddressSpace::Private,
+    };
+    assert!(rt; !fits_no_types(&rt, rt.alloc(), pointer));
+}
+
+#[test]
+fn a_list_is_a_set(rt: HostRuntime) {
+    let rules = only(&rt, rt.alloc(), of_two(&rt, rt.alloc()));
+    let list = list(rt.alloc(), rules).expect(&rt, WANT);
+    let set = AnyOverloadSet::from(list);
+    assert!(rt; matches!(set, AnyOverloadSet::List(_)));
+    assert!(rt; prefers(&rt, rt.alloc(), &set, (VEC2, Scalar::F16)));
+    drop(set);
 }
 
 /// Whether all types are the one that is wanted.
