@@ -123,6 +123,25 @@ fn a_set_of_either_kind_is_told_alike(rt: HostRuntime) {
     drop(left);
 }
 
+/// What is left of a builtin after its first argument was an integer literal, and all arguments are concrete.
+fn after_first_literal(rt: &impl Abort, alloc: Global, function: MathFunction) -> AnyOverloadSet {
+    let types = UniqueArena::new(alloc);
+    let calls = [
+        SetCall::Arg(0, inner((SCALAR, Scalar::ABSTRACT_INT))),
+        SetCall::ConcreteOnly,
+    ];
+    let left = left_after(rt, alloc, function, &calls, &types);
+    drop(types);
+    left.expect(rt, WANT)
+}
+
+#[test]
+fn an_integer_literal_is_an_i32_first(rt: HostRuntime) {
+    let left = after_first_literal(&rt, rt.alloc(), MathFunction::Abs);
+    assert!(rt; prefers(&rt, rt.alloc(), &left, (SCALAR, Scalar::I32)));
+    drop(left);
+}
+
 /// Builtins with sets of many rules, and how many they have.
 static COUNTS: [(MathFunction, usize); 8] = [
     (MathFunction::Max, 44),
