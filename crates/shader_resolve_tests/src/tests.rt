@@ -1,5 +1,6 @@
 mod accesses;
 mod builtins;
+mod conclusions;
 mod images;
 mod leaves;
 mod modules;

@@ -14,7 +14,7 @@ const TRI: VectorSize = VectorSize::Tri;
 
 const F32: Scalar = Scalar::F32;
 
-fn of_one(fun: MathFunction) -> Expression {
+pub fn of_one(fun: MathFunction) -> Expression {
     Expression::Math {
         fun,
         arg: at(0),
@@ -25,7 +25,7 @@ fn of_one(fun: MathFunction) -> Expression {
 }
 
 /// The third and the fourth argument aren't asked.
-fn of_two(fun: MathFunction) -> Expression {
+pub fn of_two(fun: MathFunction) -> Expression {
     Expression::Math {
         fun,
         arg: at(0),
