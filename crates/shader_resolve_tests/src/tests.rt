@@ -3,6 +3,7 @@ mod builtins;
 mod conclusions;
 mod images;
 mod leaves;
+mod loads;
 mod modules;
 mod nesting;
 mod operations;
