@@ -94,6 +94,30 @@ fn conversions(rt: HostRuntime) {
     rows.expects_incompatible([of(4)], cast(), "As");
 }
 
+/// A conversion that keeps the width, and the kind of a matrix.
+fn cast_of_kind(kind: ScalarKind) -> Expression {
+    Expression::As {
+        expr: at(0),
+        kind,
+        convert: None,
+    }
+}
+
+#[test]
+fn conversions_of_the_same_width(rt: HostRuntime) {
+    let rows = Rows::new(&rt, rt.alloc());
+    rows.expects(
+        [matrix(BI, TRI, Scalar::F16)],
+        cast_of_kind(ScalarKind::Sint),
+        Ok(matrix(BI, TRI, Scalar::F16)),
+    );
+    rows.expects(
+        [vector(BI, Scalar::F64)],
+        cast_of_kind(ScalarKind::Uint),
+        Ok(vector(BI, Scalar::U64)),
+    );
+}
+
 fn relational(fun: RelationalFunction) -> Expression {
     Expression::Relational {
         fun,
@@ -141,6 +165,11 @@ fn logic(rt: HostRuntime) {
     rows.expects(
         truth,
         binary(BinaryOperator::LogicalOr),
+        Ok(scalar(Scalar::BOOL)),
+    );
+    rows.expects(
+        [scalar(Scalar::BOOL), scalar(Scalar::BOOL)],
+        binary(BinaryOperator::LogicalAnd),
         Ok(scalar(Scalar::BOOL)),
     );
     rows.expects_incompatible([of(2)], binary(BinaryOperator::LogicalAnd), "LogicalAnd");
