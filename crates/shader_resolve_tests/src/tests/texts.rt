@@ -22,6 +22,30 @@ fn expects(rt: &impl Abort, alloc: Global, error: ResolveError, text: &str) {
     drop(error)
 }
 
+/// Asserts that a copy of an error is equal to it.
+fn is_copied(rt: &impl Abort, alloc: Global, error: ResolveError) {
+    let copy = error.copy(alloc).expect(rt, WANT);
+    assert!(rt; copy == error);
+    drop(copy);
+    drop(error)
+}
+
+#[test]
+fn a_copy_of_an_error_is_equal(rt: HostRuntime) {
+    let alloc = rt.alloc();
+    let name = "main".to_string(alloc).expect(&rt, WANT);
+    is_copied(&rt, alloc, ResolveError::FunctionNotDefined { name });
+    let words = "Multiply".to_string(alloc).expect(&rt, WANT);
+    is_copied(&rt, alloc, ResolveError::IncompatibleOperands(words));
+    let words = "Max".to_string(alloc).expect(&rt, WANT);
+    is_copied(&rt, alloc, ResolveError::BuiltinArgumentsInvalid(words));
+    is_copied(
+        &rt,
+        alloc,
+        ResolveError::InvalidScalar(Handle::from_index(5)),
+    );
+}
+
 #[test]
 fn texts_of_accesses(rt: HostRuntime) {
     let alloc = rt.alloc();
