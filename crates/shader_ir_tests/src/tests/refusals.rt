@@ -41,43 +41,60 @@ fn add<R: Abort + Print>(rt: &R, types: &mut Types, inner: TypeInner) {
     assert!(rt; handle.index() == len && types.contains_handle(handle));
 }
 
-/// A scalar, and then arrays of one item whose stride is their place.
-fn strided<R: Abort + Print>(rt: &R, alloc: Global) -> Arenas {
-    let mut arenas = Arenas::new(alloc);
-    add(rt, &mut arenas.types, TypeInner::Scalar(Scalar::F32));
-    for stride in 1..10 {
+/// How many types the first call lays out: the second one makes three layouts more before their room is full.
+const BEFORE: u32 = 5;
+
+/// How many types there are in the end.
+const PLACES: u32 = 12;
+
+/// Adds arrays of one item whose stride is their place, behind a scalar.
+fn add_strided<R: Abort + Print>(rt: &R, types: &mut Types, first: u32, past: u32) {
+    for stride in first..past {
         let next = array(Handle::from_index(0), counted(rt, 1), stride);
-        add(rt, &mut arenas.types, next);
+        add(rt, types, next);
     }
-    arenas
 }
 
-/// The layouts held are those of arrays of one item, whose stride is their place.
+/// The layouts held are those of a scalar and of arrays of one item, whose stride is their place.
 fn check_held(rt: &impl Abort, layouter: &Layouter) {
-    for place in 1..10 {
+    for place in 0..PLACES {
         if (place as usize) < layouter.len() {
-            assert!(rt; layouter[Handle::from_index(place)].size == place);
+            let size = if place == 0 { 4 } else { place };
+            assert!(rt; layouter[Handle::from_index(place)].size == size);
         }
     }
 }
 
+/// Whether the layouts fill their room. Only there is a call refused, and it keeps those that it has made before.
+fn fill_their_room(layouter: &Layouter) -> bool {
+    matches!(layouter.len(), 0 | 4 | 8)
+}
+
 fn update_again_if_refused<R: Abort + Print>(rt: &R, layouter: &mut Layouter, ctx: GlobalCtx<'_>) {
     assert!(rt; sizes_in_range(ctx));
+    let held = layouter.len();
     if layouter.update(ctx) == Err(UpdateError::OutOfMemory) {
         tell(rt, "update");
-        assert!(rt; layouter.len() < ctx.types.len());
+        assert!(rt; held <= layouter.len() && layouter.len() < ctx.types.len());
+        assert!(rt; fill_their_room(layouter));
         check_held(rt, layouter);
         assert!(rt; layouter.update(ctx) == Ok(()));
     }
+    assert!(rt; layouter.len() == ctx.types.len());
+    check_held(rt, layouter);
 }
 
 #[test]
 fn of_update(rt: HostRuntime) {
-    let arenas = strided(&rt, rt.alloc());
+    let mut arenas = Arenas::new(rt.alloc());
+    add(&rt, &mut arenas.types, TypeInner::Scalar(Scalar::F32));
+    add_strided(&rt, &mut arenas.types, 1, BEFORE);
     let mut layouter = Layouter::new(rt.alloc());
     update_again_if_refused(&rt, &mut layouter, arenas.ctx());
-    assert!(rt; layouter.len() == 10);
-    check_held(&rt, &layouter);
+    add_strided(&rt, &mut arenas.types, BEFORE, PLACES);
+    update_again_if_refused(&rt, &mut layouter, arenas.ctx());
+    drop(arenas);
+    assert!(rt; layouter.len() == PLACES as usize);
 }
 
 fn set_again_if_refused<R: Abort + Print>(rt: &R, map: &mut Map<u32, u32>, number: u32) {
