@@ -6,7 +6,7 @@ use shader_arena::Handle;
 use shader_ir::{
     AddressSpace, ArraySize, CooperativeRole, CooperativeSize, GlobalCtx, LayoutError,
     LayoutErrorInner, Layouter, Scalar, ScalarKind, Type, TypeInner, UpdateError, VectorSize, mark,
-    sizes_in_range, sizes_in_range_from,
+    sizes_in_range, sizes_in_range_from, types_backward,
 };
 use std::alloc::Global;
 use std::process::Abort;
@@ -263,8 +263,10 @@ fn refuses(
 #[test]
 fn an_array_of_itself_is_refused(rt: HostRuntime) {
     let mut arenas = Arenas::new(rt.alloc());
-    let ty = add(&rt, &mut arenas.types, floats(ArraySize::Dynamic, 4));
-    let inner = LayoutErrorInner::InvalidArrayElementType(ty);
+    let itself = array(Handle::from_index(0), counted(&rt, 1), 4);
+    let ty = add(&rt, &mut arenas.types, itself);
+    assert!(rt; !types_backward(&arenas.types));
+    let inner = LayoutErrorInner::InvalidArrayElementType(Handle::from_index(0));
     refuses(&rt, rt.alloc(), arenas.ctx(), ty, inner);
     drop(arenas);
 }
