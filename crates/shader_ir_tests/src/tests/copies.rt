@@ -54,10 +54,18 @@ fn add_name(rt: &impl Abort, names: &mut Names, place: u32, name: Name) {
     assert!(rt; before.is_none());
 }
 
+/// Whether the name of an expression is the text.
+fn has_name(names: &Names, place: u32, text: &str) -> bool {
+    match names.get(&at(place)) {
+        Some(name) => name.as_str() == text,
+        None => false,
+    }
+}
+
 /// Asks a map for the name of expression 7 and no other, and lets it go.
 fn expects_names(rt: &impl Abort, names: Names) {
-    assert!(rt; names.len() == 1);
-    assert!(rt; names.get(&at(7)).is_some() && names.get(&at(6)).is_none());
+    assert!(rt; names.len() == 1 && names.get(&at(6)).is_none());
+    assert!(rt; has_name(&names, 7, "sum"));
 }
 
 #[test]
@@ -133,11 +141,13 @@ fn compose(rt: &impl Abort, alloc: Global) -> Expression {
     }
 }
 
-/// How many components the expression composes.
-fn components(expression: &Expression) -> Option<usize> {
+/// Whether the expression composes expressions 4 and 2 to type 1.
+fn composes(expression: &Expression) -> bool {
     match expression {
-        Expression::Compose { components, .. } => Some(components.len()),
-        _ => None,
+        Expression::Compose { ty, components } => {
+            ty.index() == 1 && components.as_slice() == [at(4), at(2)].as_slice()
+        }
+        _ => false,
     }
 }
 
@@ -145,7 +155,7 @@ fn components(expression: &Expression) -> Option<usize> {
 fn of_an_expression_with_a_list(rt: HostRuntime) {
     let composed = compose(&rt, rt.alloc());
     let copy = composed.copy(rt.alloc()).expect(&rt, WANT);
-    assert!(rt; components(&copy) == Some(2));
+    assert!(rt; composes(&copy));
 }
 
 /// The operands of a sum or the like.
@@ -222,21 +232,42 @@ fn of_a_block_in_a_block(rt: HostRuntime) {
     assert!(rt; kills_within(&copy));
 }
 
+/// Whether the case is one Kill for the value 1, and falls through.
+fn kills_at_1(case: &SwitchCase) -> bool {
+    let is_1 = matches!(case.value, SwitchValue::I32(1));
+    is_1 && case.fall_through && is_kill(&case.body)
+}
+
 #[test]
 fn of_a_case(rt: HostRuntime) {
     let case = case(&rt, rt.alloc());
     let copy = case.copy(rt.alloc()).expect(&rt, WANT);
-    assert!(rt; copy.fall_through && is_kill(&copy.body));
+    assert!(rt; kills_at_1(&copy));
 }
 
-/// Whether the statement is a branch on expression 1 whose second block is one Kill.
-fn kills_else(statement: &Statement) -> bool {
+/// Whether the block is a switch on expression 2 of that case alone.
+fn is_choice(block: &Block) -> bool {
+    match block.statements.as_slice() {
+        [Statement::Switch { selector, cases }] => *selector == at(2) && is_only(cases.as_slice()),
+        _ => false,
+    }
+}
+
+fn is_only(cases: &[SwitchCase]) -> bool {
+    match cases {
+        [case] => kills_at_1(case),
+        _ => false,
+    }
+}
+
+/// Whether the statement is a branch on expression 1 between that switch and one Kill.
+fn chooses_or_kills(statement: &Statement) -> bool {
     match statement {
         Statement::If {
             condition,
+            accept,
             reject,
-            ..
-        } => *condition == at(1) && is_kill(reject),
+        } => *condition == at(1) && is_choice(accept) && is_kill(reject),
         _ => false,
     }
 }
@@ -250,7 +281,7 @@ fn of_a_branch(rt: HostRuntime) {
         reject: block_of(&rt, rt.alloc(), Statement::Kill),
     };
     let copy = branch.copy(rt.alloc()).expect(&rt, WANT);
-    assert!(rt; kills_else(&copy));
+    assert!(rt; chooses_or_kills(&copy));
 }
 
 /// A function of one expression.
