@@ -1,4 +1,4 @@
-//! Tests of `shader_ir` by its public items alone, of what no clause says.
+//! Tests of `shader_ir` by its public items alone: clauses by values from outside, refused memory, and what no clause says.
 #![tactic(auto)]
 
 #[cfg(test)]

@@ -1,4 +1,4 @@
-//! Tests of what no clause says, a file for each part of the library.
+//! A file for each part of the library: rows of values from outside, and what no clause says.
 mod alignments;
 mod conversion;
 mod copies;
