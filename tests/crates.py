@@ -3,7 +3,6 @@ import os
 import pathlib
 import re
 import subprocess
-import tempfile
 import time
 
 TOP = pathlib.Path(__file__).resolve().parent.parent
