@@ -112,7 +112,7 @@ fn add_checked(
 /// `image_load` of each `ImageLoad`.
 ///
 /// The module is well formed where `check_module` returns `Ok`. By an info of the analysis the lengths are known where
-/// `sizes_known` says so, and where one isn't, its index is checked.
+/// `sizes_known` says so, and where one isn't, its index is checked. The set has room for each expression of the function.
 ///
 /// # Errors
 ///
@@ -126,8 +126,9 @@ pub fn find_checked_indexes(
 ) -> Result<HandleSet<mark::Expression>, AllocError>
     requires well_formed { IsWellFormed «module».now }
     requires function { IsFunctionOf «module».now function.now }
-    ensures { IfOk result (λ checked. (e : ℕ) → IsTrue (is_member checked e)
+    ensures members { IfOk result (λ checked. (e : ℕ) → IsTrue (is_member checked e)
         ↔ IsCheckedIndex «module».now function.now (Records info.now) policies e) }
+    ensures room { IfOk result (λ checked. length checked ≡ length function.now.expressions) }
 {
     let mut checked = HandleSet::for_arena(alloc, &function.expressions)?;
     for (_, expression) in function.expressions.iter() {

@@ -1,5 +1,5 @@
 //! The types of which a local is needed, for pointers that are out of bounds.
-ghost use Rattle.std.specs.Prelude.{◌≡◌, ◌↔◌, ℕ, IfOk, IsTrue, OnOk, slice_get};
+ghost use Rattle.std.specs.Prelude.{◌≡◌, ◌↔◌, ℕ, IfOk, IsOk, IsTrue, OnOk, slice_get};
 ghost use Rattle.std.specs.List.{Contains, zip};
 ghost use Rattle.std.specs.Option.{option_copied};
 ghost use Rattle.shader_ir.specs.BodyOf.{step_of};
@@ -10,6 +10,7 @@ ghost use Rattle.shader_indexes.specs.Gains.{Gains};
 ghost use Rattle.shader_indexes.specs.Locals.{AllPass, CallPasses, IsOutOfBoundsType, NeedsLocal, PairsPass};
 ghost use Rattle.shader_indexes.specs.Locals.{PassesUnchecked, StepPasses, pointed, pointed_at};
 ghost use Rattle.shader_indexes.specs.Typed.{IsFunctionOf, Records};
+ghost use Rattle.shader_indexes.specs.declared.policies.BoundsCheckPolicy.TheVariants.{ReadZeroSkipWrite};
 
 use crate::chains::chain_needs_check;
 use crate::{BoundsCheckPolicies, BoundsCheckPolicy};
@@ -205,7 +206,7 @@ fn needed_locals(
 ///
 /// # Errors
 ///
-/// If allocation fails: a word a statement and a place a type are asked for.
+/// If allocation fails: a word a statement and a place a type are asked for, with that policy alone.
 pub fn oob_local_types(
     alloc: Global,
     module: &Module,
@@ -215,8 +216,9 @@ pub fn oob_local_types(
 ) -> Result<HashSet<Handle<mark::Type>>, AllocError>
     requires well_formed { IsWellFormed «module».now }
     requires function { IsFunctionOf «module».now function.now }
-    ensures { IfOk result (λ locals. (ty : ℕ) → Contains locals.keys ty
+    ensures types { IfOk result (λ locals. (ty : ℕ) → Contains locals.keys ty
         ↔ IsOutOfBoundsType «module».now function.now (Records info.now) policies ty) }
+    ensures free { (policies.index ≡ ReadZeroSkipWrite → ⊥) → IsOk result }
 {
     if policies.index == BoundsCheckPolicy::ReadZeroSkipWrite {
         needed_locals(alloc, module, function, info)

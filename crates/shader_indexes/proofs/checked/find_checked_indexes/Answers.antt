@@ -60,8 +60,8 @@ loop-expression-preserved c =
           c.add_checked.ensures.gains;
     }
 
-pub returns : goal.returns
-returns c =
+pub returns-clause-members : goal.returns-clause-members
+returns-clause-members c =
     let f = c.args.function.now in
     let W : Expression → ℕ → Type 0 = Checks c.args.module.now f (Records c.args.info.now) c.args.policies in
     let last : items_of c.loop-expression.expression-iterator ≡ [] = search rules in

@@ -10,8 +10,8 @@ use Rattle.shader_indexes.proofs.locals.oob_local_types.Goals as goal
 pub needed_locals-requires : goal.needed_locals-requires
 needed_locals-requires c = operands_earlier c.args.module.now c.requires.well_formed c.args.function.now c.requires.function
 
-pub returns-then-eq : goal.returns-then-eq
-returns-then-eq c =
+pub returns-then-eq-clause-types : goal.returns-then-eq-clause-types
+returns-then-eq-clause-types c =
     let chosen : c.args.policies.index ≡ ReadZeroSkipWrite = search rules in
     let needs : ℕ → Type 0 = NeedsLocal c.args.module.now c.args.function.now (Records c.args.info.now) in
     if_ok c.needed_locals.result (λ locals. (ty : ℕ) → Contains locals.keys ty ↔ needs ty)
