@@ -31,6 +31,8 @@ use Rattle.shader_sweeps.specs.InfoOf.{info_of, infos_of}
 use Rattle.shader_sweeps.specs.Paired.{HaveArguments}
 use Rattle.shader_typing.proofs.PlaceLemmas.{found_at}
 use Rattle.shader_typing.specs.Analyzed.{EntryPointsFound, FunctionsFound}
+use Rattle.shader_typing.specs.Fitting.{IsUnrestricted}
+use Rattle.shader_typing.specs.Reached.{IsReached}
 
 infos_of-push : (held : List FunctionInfo) (info : FunctionInfo) → infos_of (held ++ info ∷ []) ≡ infos_of held ++ info_of info ∷ []
 infos_of-push [] info = refl
@@ -84,9 +86,9 @@ module _ (m : Module) (settings : Settings) (well : IsWellFormed m) (types : Lis
     ordered = (point_backwards m well).functions (length held) f is_f
 
     pub next_function : (info : FunctionInfo) → MeetsSteps m (infos_of held) f (info_of info) →
-        HaveArguments info.sampling.keys → Fits m f info → ((cause : Cause) → StepFault m (infos_of held) f settings cause → ⊥) →
-        FunctionsFound m settings (held ++ info ∷ [])
-    next_function info steps apart fits none =
+        HaveArguments info.sampling.keys → IsUnrestricted info → Fits m f info →
+        ((cause : Cause) → StepFault m (infos_of held) f settings cause → ⊥) → FunctionsFound m settings (held ++ info ∷ [])
+    next_function info steps apart unrestricted fits none =
         let is_next : slice_get m.functions (length (infos_of held)) ≡ Some f =
         ap (slice_get m.functions) (length-map held info_of) ∙ is_f in
         let done = next_is_exact m (infos_of held) f (info_of info) (point_backwards m well).functions is_next before.exact steps in
@@ -100,6 +102,7 @@ module _ (m : Module) (settings : Settings) (well : IsWellFormed m) (types : Lis
           };
           exact = subst P (sym (infos_of-push held info)) done;
           apart = one_more (λ e x. HaveArguments x.sampling.keys) held info before.apart apart;
+          unrestricted = one_more (λ e x. IsUnrestricted x) held info before.unrestricted unrestricted;
           clean = λ i g cause lt is_g. up_to_here (λ e. (g : Function) (cause : Cause) → slice_get m.functions e ≡ Some g →
               IsFault m g settings cause → ⊥) (length held)
               (λ e early g cause is_g. before.clean e g cause early is_g)
@@ -108,17 +111,20 @@ module _ (m : Module) (settings : Settings) (well : IsWellFormed m) (types : Lis
               i (omega (arith, lt, longer held info)) g cause is_g;
         }
 
+    pub function_reached : IsReached m settings (OfFunction (length held))
+    function_reached = record { there = slice_get_within m.functions (length held) f is_f; clean = none } where
+      none : (other : Site) (told : Cause) → ComesBefore other (OfFunction (length held)) → ModuleFault m settings other told → ⊥
+      none (OfGlobalExpression e) told lt (in_expression {refusal = refusal} r) = no_untyped m types are e refusal r
+      none (OfFunction j) told lt (in_function {f = g} is_g fault) = before.clean j g told lt is_g fault
+      none (OfEntryPoint j) told lt fault = lt
+
     -- a fault of the next function is the first
     pub first_in_function : (cause : Cause) → StepFault m (infos_of held) f settings cause →
         IsFirstFault m settings (OfFunction (length held)) cause
     first_in_function cause h = record {
       stands = in_function is_f (fault_is m settings well held before f ordered cause h);
-      first = none;
-    } where
-      none : (other : Site) (told : Cause) → ComesBefore other (OfFunction (length held)) → ModuleFault m settings other told → ⊥
-      none (OfGlobalExpression e) told lt (in_expression {refusal = refusal} r) = no_untyped m types are e refusal r
-      none (OfFunction j) told lt (in_function {f = g} is_g fault) = before.clean j g told lt is_g fault
-      none (OfEntryPoint j) told lt fault = lt
+      first = function_reached.clean;
+    }
 
   module _ (all : length held ≡ length m.functions) (done : List FunctionInfo) (entries : EntryPointsFound m settings done)
       (entry : EntryPoint)
@@ -127,20 +133,27 @@ module _ (m : Module) (settings : Settings) (well : IsWellFormed m) (types : Lis
     names_functions c mention = omega (arith, all, (point_backwards m well).entry_points (length done) entry is_entry c mention)
 
     pub next_entry_point : (info : FunctionInfo) → MeetsSteps m (infos_of held) entry.function (info_of info) →
-        HaveArguments info.sampling.keys → ((cause : Cause) → StepFault m (infos_of held) entry.function settings cause → ⊥) →
+        HaveArguments info.sampling.keys → IsUnrestricted info → Fits m entry.function info →
+        ((cause : Cause) → StepFault m (infos_of held) entry.function settings cause → ⊥) →
         EntryPointsFound m settings (done ++ info ∷ [])
-    next_entry_point info steps apart none =
+    next_entry_point info steps apart unrestricted fits none =
         let exact : IsExact m entry.function (info_of info) =
         entry_is_exact m (infos_of held) entry.function (info_of info) (length-map held info_of ∙ all)
         ((point_backwards m well).entry_points (length done) entry is_entry) before.exact steps in
         record {
           there = omega (arith, longer done info, slice_get_within m.entry_points (length done) entry is_entry);
+          fit = λ i other at is_other is_at. one_more (λ e x. (other : EntryPoint) → slice_get m.entry_points e ≡ Some other →
+              Fits m other.function x) done info
+              (λ e x is_x other is_o. entries.fit e other x is_o is_x)
+              (λ other is_o. subst (λ (x : EntryPoint). Fits m x.function info) (same_Some entry other (sym is_entry ∙ is_o)) fits)
+              i at is_at other is_other;
           exact = λ i other at is_other is_at. one_more (λ e x. (other : EntryPoint) → slice_get m.entry_points e ≡ Some other →
               IsExact m other.function (info_of x)) done info
               (λ e x is_x other is_o. entries.exact e other x is_o is_x)
               (λ other is_o. subst (λ (x : EntryPoint). IsExact m x.function (info_of info)) (same_Some entry other (sym is_entry ∙ is_o))
               exact) i at is_at other is_other;
           apart = one_more (λ e x. HaveArguments x.sampling.keys) done info entries.apart apart;
+          unrestricted = one_more (λ e x. IsUnrestricted x) done info entries.unrestricted unrestricted;
           clean = λ i other cause lt is_other. up_to_here
               (λ e. (other : EntryPoint) (cause : Cause) → slice_get m.entry_points e ≡ Some other →
               IsFault m other.function settings cause → ⊥) (length done)
@@ -151,17 +164,20 @@ module _ (m : Module) (settings : Settings) (well : IsWellFormed m) (types : Lis
               i (omega (arith, lt, longer done info)) other cause is_other;
         }
 
-    pub first_in_entry_point : (cause : Cause) → StepFault m (infos_of held) entry.function settings cause →
-        IsFirstFault m settings (OfEntryPoint (length done)) cause
-    first_in_entry_point cause h = record {
-      stands = in_entry_point is_entry (fault_is m settings well held before entry.function names_functions cause h);
-      first = none;
-    } where
+    pub entry_point_reached : IsReached m settings (OfEntryPoint (length done))
+    entry_point_reached = record { there = slice_get_within m.entry_points (length done) entry is_entry; clean = none } where
       none : (other : Site) (told : Cause) → ComesBefore other (OfEntryPoint (length done)) → ModuleFault m settings other told → ⊥
       none (OfGlobalExpression e) told lt (in_expression {refusal = refusal} r) = no_untyped m types are e refusal r
       none (OfFunction j) told lt (in_function {f = g} is_g fault) =
           before.clean j g told (omega (arith, all, slice_get_within m.functions j g is_g)) is_g fault
       none (OfEntryPoint j) told lt (in_entry_point {entry = g} is_g fault) = entries.clean j g told lt is_g fault
+
+    pub first_in_entry_point : (cause : Cause) → StepFault m (infos_of held) entry.function settings cause →
+        IsFirstFault m settings (OfEntryPoint (length done)) cause
+    first_in_entry_point cause h = record {
+      stands = in_entry_point is_entry (fault_is m settings well held before entry.function names_functions cause h);
+      first = entry_point_reached.clean;
+    }
 
   -- where all are found, no fault stands
   module _ (all : length held ≡ length m.functions) (done : List FunctionInfo) (entries : EntryPointsFound m settings done)

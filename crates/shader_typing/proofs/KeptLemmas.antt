@@ -1,4 +1,4 @@
--- What an exact info holds apart are the pairs of two globals and those with an argument.
+-- What an exact info holds apart are the pairs of two globals and those with an argument; and what is held of all places.
 use Rattle.std.proofs.Common.{◌≡◌, ◌∙◌, sym, subst, ap, ℕ, inl, inr, List, Some, map, slice_get}
 use Rattle.std.specs.List.{Contains}
 use Rattle.std.specs.Option.{option_map}
@@ -9,6 +9,7 @@ use Rattle.shader_chains.specs.Exact.{IsExact}
 use Rattle.shader_chains.specs.Faults.{Settings}
 use Rattle.shader_chains.specs.Infos.{Place, InGlobal}
 use Rattle.shader_chains.specs.Program.{Function, Module}
+use Rattle.shader_info.specs.Fit.{Fits}
 use Rattle.shader_info.specs.declared.error.AnalysisPlace.TheVariants as site
 use Rattle.shader_info.specs.declared.info.FunctionInfo.{FunctionInfo}
 use Rattle.shader_info.specs.declared.info.GlobalOrArgument.{GlobalOrArgument}
@@ -18,6 +19,7 @@ use Rattle.shader_info.specs.declared.info.SamplingKey.{SamplingKey}
 use Rattle.shader_sweeps.specs.InfoOf.{info_of, infos_of}
 use Rattle.shader_sweeps.specs.Paired.{HasArgument, HaveArguments, info_pairs, key_pair, place_view, sampling_pair}
 use Rattle.shader_typing.specs.Analyzed.{EntryPointsFound, FunctionsFound}
+use Rattle.shader_typing.specs.Fitting.{AllFit, AllUnrestricted}
 use Rattle.shader_typing.specs.Kept.{KeepsAllPairs, KeepsPairs}
 use Rattle.shader_typing.specs.Recorded.{Recorded}
 
@@ -90,13 +92,24 @@ module _ (info : FunctionInfo) (apart : HaveArguments info.sampling.keys) where
         );
   }
 
-pub keeps_all_pairs : (m : Module) (settings : Settings) (recorded : Recorded) → FunctionsFound m settings recorded.functions →
-    EntryPointsFound m settings recorded.entry_points → KeepsAllPairs m recorded
-keeps_all_pairs m settings recorded functions entries (site.ConstExpression e) f info is_f is_info = absurd is_f
-keeps_all_pairs m settings recorded functions entries (site.Function i) f info is_f is_info =
-    let held : slice_get (infos_of recorded.functions) i ≡ Some (info_of info) =
-    slice_get-map info_of recorded.functions i ∙ ap (option_map info_of) is_info in
-    keeps_pairs info (functions.apart i info is_info) m f (functions.exact i f (info_of info) is_f held)
-keeps_all_pairs m settings recorded functions entries (site.EntryPoint i) f info is_f is_info =
-    subst (λ v. KeepsPairs m v info) is_f.2
-    (keeps_pairs info (entries.apart i info is_info) m is_f.0.function (entries.exact i is_f.0 info is_f.1 is_info))
+module _ (m : Module) (settings : Settings) (recorded : Recorded) (functions : FunctionsFound m settings recorded.functions)
+    (entries : EntryPointsFound m settings recorded.entry_points) where
+  pub keeps_all_pairs : KeepsAllPairs m recorded
+  keeps_all_pairs (site.ConstExpression e) f info is_f is_info = absurd is_f
+  keeps_all_pairs (site.Function i) f info is_f is_info =
+      let held : slice_get (infos_of recorded.functions) i ≡ Some (info_of info) =
+      slice_get-map info_of recorded.functions i ∙ ap (option_map info_of) is_info in
+      keeps_pairs info (functions.apart i info is_info) m f (functions.exact i f (info_of info) is_f held)
+  keeps_all_pairs (site.EntryPoint i) f info is_f is_info =
+      subst (λ v. KeepsPairs m v info) is_f.2
+      (keeps_pairs info (entries.apart i info is_info) m is_f.0.function (entries.exact i is_f.0 info is_f.1 is_info))
+
+  pub all_fit : AllFit m recorded
+  all_fit (site.ConstExpression e) f info is_f is_info = absurd is_f
+  all_fit (site.Function i) f info is_f is_info = functions.held.fit i f info is_f is_info
+  all_fit (site.EntryPoint i) f info is_f is_info = subst (λ v. Fits m v info) is_f.2 (entries.fit i is_f.0 info is_f.1 is_info)
+
+  pub all_unrestricted : AllUnrestricted recorded
+  all_unrestricted (site.ConstExpression e) info is_info = absurd is_info
+  all_unrestricted (site.Function i) info is_info = functions.unrestricted i info is_info
+  all_unrestricted (site.EntryPoint i) info is_info = entries.unrestricted i info is_info

@@ -17,14 +17,16 @@ use Rattle.shader_resolve.specs.WellFormed.{IsWellFormed}
 use Rattle.shader_steps.specs.Causes.{IsNamed}
 use Rattle.shader_sweeps.specs.InfoOf.{info_of, infos_of}
 use Rattle.shader_sweeps.specs.Paired.{HaveArguments}
-use Rattle.shader_typing.proofs.FoundLemmas.{accepted, exact_module, first_in_entry_point, first_in_function}
-use Rattle.shader_typing.proofs.FoundLemmas.{named_more, next_entry_point, next_function}
-use Rattle.shader_typing.proofs.KeptLemmas.{keeps_all_pairs}
+use Rattle.shader_typing.proofs.FoundLemmas.{accepted, entry_point_reached, exact_module, first_in_entry_point, first_in_function}
+use Rattle.shader_typing.proofs.FoundLemmas.{function_reached, named_more, next_entry_point, next_function}
+use Rattle.shader_typing.proofs.KeptLemmas.{all_fit, all_unrestricted, keeps_all_pairs}
 use Rattle.shader_typing.proofs.PlaceLemmas.{found_at}
 use Rattle.shader_typing.specs.Analyzable.{AreHeld}
 use Rattle.shader_typing.specs.Analyzed.{EntryPointsFound, FunctionsFound}
+use Rattle.shader_typing.specs.Fitting.{AllFit, AllUnrestricted, IsUnrestricted}
 use Rattle.shader_typing.specs.Kept.{KeepsAllPairs}
 use Rattle.shader_typing.specs.Processed.{CanProcess, IsFunctionAt, functions_before, infos_before}
+use Rattle.shader_typing.specs.Reached.{IsReached}
 use Rattle.shader_typing.specs.Recorded.{Recorded}
 
 all_of : {X : Type 0} (xs : List X) (n : ℕ) → n ≡ length xs → take n xs ≡ xs
@@ -59,11 +61,11 @@ module _ (m : Module) (settings : Settings) (well : IsWellFormed m) (recorded : 
     pub function_found : (info : FunctionInfo) →
         ((f : Function) → IsFunctionAt m (site.Function i) f →
         MeetsSteps m (infos_of (infos_before m recorded (site.Function i))) f (info_of info)) →
-        HaveArguments info.sampling.keys → ((f : Function) → IsFunctionAt m (site.Function i) f → Fits m f info) →
+        HaveArguments info.sampling.keys → IsUnrestricted info → ((f : Function) → IsFunctionAt m (site.Function i) f → Fits m f info) →
         ((f : Function) (cause : Cause) → IsFunctionAt m (site.Function i) f →
         StepFault m (infos_of (infos_before m recorded (site.Function i))) f settings cause → ⊥) →
         (functions : List FunctionInfo) → functions ≡ recorded.functions ++ info ∷ [] → FunctionsFound m settings functions
-    function_found info steps apart fits clean functions are_now =
+    function_found info steps apart unrestricted fits clean functions are_now =
         let f = the_function.0 in
         let is_f = the_function.1 in
         let now : MeetsSteps m (infos_of recorded.functions) f (info_of info) =
@@ -73,7 +75,11 @@ module _ (m : Module) (settings : Settings) (well : IsWellFormed m) (recorded : 
         ⊥) (site.Function i) next (λ cause. clean f cause is_f) in
         subst (FunctionsFound m settings) (sym are_now)
         (next_function m settings well recorded.global_expressions are recorded.functions before f is_next info now apart
-        (fits f is_f) none)
+        unrestricted (fits f is_f) none)
+
+    pub function_is_reached : IsReached m settings (OfFunction i)
+    function_is_reached = subst (λ v. IsReached m settings (OfFunction v)) (sym next)
+        (function_reached m settings well recorded.global_expressions are recorded.functions before the_function.0 is_next)
 
     pub function_refused : (failure : FunctionError) →
         ((f : Function) → IsFunctionAt m (site.Function i) f →
@@ -105,11 +111,11 @@ module _ (m : Module) (settings : Settings) (well : IsWellFormed m) (recorded : 
     pub entry_point_found : (info : FunctionInfo) →
         ((f : Function) → IsFunctionAt m (site.EntryPoint i) f →
         MeetsSteps m (infos_of (infos_before m recorded (site.EntryPoint i))) f (info_of info)) →
-        HaveArguments info.sampling.keys →
+        HaveArguments info.sampling.keys → IsUnrestricted info → ((f : Function) → IsFunctionAt m (site.EntryPoint i) f → Fits m f info) →
         ((f : Function) (cause : Cause) → IsFunctionAt m (site.EntryPoint i) f →
         StepFault m (infos_of (infos_before m recorded (site.EntryPoint i))) f settings cause → ⊥) →
         (entry_points : List FunctionInfo) → entry_points ≡ recorded.entry_points ++ info ∷ [] → EntryPointsFound m settings entry_points
-    entry_point_found info steps apart clean entry_points are_now =
+    entry_point_found info steps apart unrestricted fits clean entry_points are_now =
         let f = the_entry.0.function in
         let now : MeetsSteps m (infos_of recorded.functions) f (info_of info) =
         over_all (λ v. MeetsSteps m (infos_of v) f (info_of info)) (site.EntryPoint i) (sym all) (steps f at_entry) in
@@ -118,7 +124,12 @@ module _ (m : Module) (settings : Settings) (well : IsWellFormed m) (recorded : 
         ⊥) (site.EntryPoint i) (sym all) (λ cause. clean f cause at_entry) in
         subst (EntryPointsFound m settings) (sym are_now)
         (next_entry_point m settings well recorded.global_expressions are recorded.functions before all recorded.entry_points entries
-        the_entry.0 is_next_entry info now apart none)
+        the_entry.0 is_next_entry info now apart unrestricted (fits f at_entry) none)
+
+    pub entry_point_is_reached : IsReached m settings (OfEntryPoint i)
+    entry_point_is_reached = subst (λ v. IsReached m settings (OfEntryPoint v)) (sym next)
+        (entry_point_reached m settings well recorded.global_expressions are recorded.functions before all recorded.entry_points entries
+        the_entry.0 is_next_entry)
 
     pub entry_point_refused : (failure : FunctionError) →
         ((f : Function) → IsFunctionAt m (site.EntryPoint i) f →
@@ -140,6 +151,7 @@ no_functions m settings functions none = subst (FunctionsFound m settings) (sym 
   held = record { there = omega arith; fit = λ c r info is_r is_info. absurd (cc) };
   exact = λ i f info is_f is_info. absurd (cc);
   apart = λ i info is_info. absurd (cc);
+  unrestricted = λ i info is_info. absurd (cc);
   clean = λ i f cause lt is_f fault. absurd (omega (arith, lt));
 })
 
@@ -147,8 +159,10 @@ pub no_entry_points : (m : Module) (settings : Settings) (entry_points : List Fu
     EntryPointsFound m settings entry_points
 no_entry_points m settings entry_points none = subst (EntryPointsFound m settings) (sym none) (record {
   there = omega arith;
+  fit = λ i entry info is_entry is_info. absurd (cc);
   exact = λ i entry info is_entry is_info. absurd (cc);
   apart = λ i info is_info. absurd (cc);
+  unrestricted = λ i info is_info. absurd (cc);
   clean = λ i entry cause lt is_entry fault. absurd (omega (arith, lt));
 })
 
@@ -160,7 +174,7 @@ pub all_found : (m : Module) (settings : Settings) → IsWellFormed m → (typed
     last ≡ record with_functions { entry_points = last.entry_points } → length last.entry_points ≡ length m.entry_points →
     EntryPointsFound m settings last.entry_points →
     IsExactModule m last.global_expressions (infos_of last.functions) (infos_of last.entry_points) × KeepsAllPairs m last ×
-    IsAccepted m settings
+    IsAccepted m settings × AllFit m last × AllUnrestricted last
 all_found m settings well typed with_functions last are is_next all found is_last all_entries entries =
     let types : last.global_expressions ≡ typed.global_expressions =
     ap (λ (v : Recorded). v.global_expressions) is_last ∙ ap (λ (v : Recorded). v.global_expressions) is_next in
@@ -171,4 +185,6 @@ all_found m settings well typed with_functions last are is_next all found is_las
       exact_module m settings well last.global_expressions now last.functions held long last.entry_points entries all_entries,
       keeps_all_pairs m settings last held entries,
       accepted m settings well last.global_expressions now last.functions held long last.entry_points entries all_entries,
+      all_fit m settings last held entries,
+      all_unrestricted m settings last held entries,
     )

@@ -1,5 +1,5 @@
 -- What stands at a place of a list, and an error that is passed on.
-use Rattle.std.proofs.Common.{◌≡◌, sym, subst, ℕ, ◌<◌, List, [], ◌∷◌, Some, slice_get, length, get_or, Result, Ok, Err, IfErr, IfOk, arith}
+use Rattle.std.proofs.Common.{◌≡◌, sym, subst, ℕ, ◌<◌, List, [], ◌∷◌, Some, slice_get, length, get_or, Result, Ok, Err, IfErr, arith}
 use Rattle.std.proofs.lemmas.Option.{slice_get-get_or}
 use Rattle.std.specs.Result.{IsErrAnd}
 
@@ -12,8 +12,3 @@ found_at (x ∷ xs) e lt = (get_or (x ∷ xs) e x, slice_get-get_or (x ∷ xs) e
 pub passed_on : {A E : Type 0} (P : E → Type 0) {e : E} (r : Result A E) → IsErrAnd r (λ v. v ≡ e) → P e → IfErr r P
 passed_on P (Err v) is told = subst P (sym is) told
 passed_on P (Ok a) is told = absurd is
-
--- what follows from a result is told of it
-pub ok_more : {A E : Type 0} {P Q : A → Type 0} (r : Result A E) → IfOk r P → ((a : A) → P a → Q a) → IfOk r Q
-ok_more (Ok a) h k = k a h
-ok_more (Err e) h k = tt

@@ -1,6 +1,7 @@
 -- One more global expression, where those before it have their types.
 use Rattle.std.proofs.Common.{◌≡◌, refl, sym, ap, subst, ◌∙◌, ◌⊎◌, inl, inr, ℕ, ◌+◌, ◌<◌, Bool, true, false}
 use Rattle.std.proofs.Common.{List, [], ◌∷◌, ◌++◌, Result, Ok, Err, IfOk, IfErr, length, length-append, arith}
+use Rattle.std.proofs.lemmas.Option.{slice_get_within}
 use Rattle.shader_chains.proofs.TypeLemmas.{types_are_unique}
 use Rattle.shader_chains.specs.Derivable.{Derives, IsRefused}
 use Rattle.shader_chains.specs.Faults.{Cause, ComesBefore, IsFirstFault, ModuleFault, OfEntryPoint, OfFunction}
@@ -21,6 +22,7 @@ use Rattle.shader_expression_types.proofs.ListLemmas.{all_one_more, at_place, on
 use Rattle.shader_typing.proofs.PlaceLemmas.{found_at}
 use Rattle.shader_typing.specs.AddedTypes.{AddsType, CanType, IsNextType, IsTypeRefusal}
 use Rattle.shader_typing.specs.Analyzed.{TypesFound}
+use Rattle.shader_typing.specs.Reached.{IsReached}
 use Rattle.shader_typing.specs.Recorded.{Recorded}
 
 module _ (context : Context) (expressions : List Expression) (types : List TypeResolution) where
@@ -83,19 +85,26 @@ module _ (m : Module) (well : IsWellFormed m) (types : List TypeResolution) (fou
     fit = all_one_more (FitsTypes m.types) types ty found.fit (next.fits (contexts_of_well_formed m well).global_expressions.types);
   }
 
-  first_untyped : (settings : Settings) (e : ℕ) → e ≡ length types → (failure : ResolveError) →
-      IsRefused global m.global_expressions (length types) (refusal_of failure) →
-      IsFirstFault m settings (OfGlobalExpression e) (Untyped e (refusal_of failure))
-  first_untyped settings e next failure refused = record {
-    stands = in_expression (subst (λ v. IsRefused global m.global_expressions v (refusal_of failure)) (sym next) refused);
-    first = none;
-  } where
+  pub expression_reached : (settings : Settings) (e : ℕ) → e ≡ length types → e < length m.global_expressions →
+      IsReached m settings (OfGlobalExpression e)
+  expression_reached settings e next lt = record { there = lt; clean = none } where
     none : (other : Site) (told : Cause) → ComesBefore other (OfGlobalExpression e) → ModuleFault m settings other told → ⊥
     none (OfGlobalExpression d) told lt (in_expression {refusal = why} is) =
         let ty = found_at types d (omega (arith, lt, next)) in
         (types_are_unique global m.global_expressions d ty.0 (found.derived d ty.0 ty.1)).1 why is
     none (OfFunction i) told lt fault = lt
     none (OfEntryPoint i) told lt fault = lt
+
+  first_untyped : (settings : Settings) (e : ℕ) → e ≡ length types → (failure : ResolveError) →
+      IsRefused global m.global_expressions (length types) (refusal_of failure) →
+      IsFirstFault m settings (OfGlobalExpression e) (Untyped e (refusal_of failure))
+  first_untyped settings e next failure refused =
+      let is : IsRefused global m.global_expressions e (refusal_of failure) =
+      subst (λ v. IsRefused global m.global_expressions v (refusal_of failure)) (sym next) refused in
+      record {
+        stands = in_expression is;
+        first = (expression_reached settings e next (slice_get_within m.global_expressions e is.expression is.stands)).clean;
+      }
 
   pub names_first : (settings : Settings) (e : ℕ) → e ≡ length types → (failure : ResolveError) →
       IsTypeRefusal global m.global_expressions types failure →

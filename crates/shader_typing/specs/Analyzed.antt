@@ -4,6 +4,7 @@ use Rattle.shader_chains.specs.Exact.{IsExact}
 use Rattle.shader_chains.specs.Faults.{Cause, IsFault, Settings}
 use Rattle.shader_chains.specs.Infos.{Pairwise}
 use Rattle.shader_chains.specs.Program.{Function, Module}
+use Rattle.shader_info.specs.Fit.{Fits}
 use Rattle.shader_info.specs.declared.info.FunctionInfo.{FunctionInfo}
 use Rattle.shader_ir.specs.Key.{FitsTypes}
 use Rattle.shader_ir.specs.declared.function.EntryPoint.{EntryPoint}
@@ -13,6 +14,7 @@ use Rattle.shader_sweeps.specs.InfoOf.{info_of, infos_of}
 use Rattle.shader_sweeps.specs.Paired.{HaveArguments}
 use Rattle.shader_expression_types.specs.Typed.{AreOfTheFirst}
 use Rattle.shader_typing.specs.Analyzable.{AreHeld}
+use Rattle.shader_typing.specs.Fitting.{IsUnrestricted}
 
 -- the types are those of the first global expressions
 pub record TypesFound (m : Module) (types : List TypeResolution) : Type 0 where
@@ -20,20 +22,25 @@ pub record TypesFound (m : Module) (types : List TypeResolution) : Type 0 where
   pub derived : AreOfTheFirst (context_of m [] []) m.global_expressions types
   pub fit : All (FitsTypes m.types) types
 
--- the infos are exact for the first functions, hold pairs of two globals apart, and no fault stands in these
+-- the infos are exact for the first functions, hold pairs of two globals apart and restrict nothing, and no fault stands in these
 pub record FunctionsFound (m : Module) (settings : Settings) (functions : List FunctionInfo) : Type 0 where
   pub held : AreHeld m functions
   pub exact : Pairwise (IsExact m) m (infos_of functions)
   pub apart : (i : ℕ) (info : FunctionInfo) → slice_get functions i ≡ Some info → HaveArguments info.sampling.keys
+  pub unrestricted : (i : ℕ) (info : FunctionInfo) → slice_get functions i ≡ Some info → IsUnrestricted info
   pub clean : (i : ℕ) (f : Function) (cause : Cause) → i < length functions → slice_get m.functions i ≡ Some f →
       IsFault m f settings cause → ⊥
 
--- the same of the first entry points
+-- the same of the first entry points, whose infos fit
 pub record EntryPointsFound (m : Module) (settings : Settings) (entry_points : List FunctionInfo) : Type 0 where
   pub there : length entry_points ≤ length m.entry_points
+  pub fit : (i : ℕ) (entry : EntryPoint) (info : FunctionInfo) → slice_get m.entry_points i ≡ Some entry →
+      slice_get entry_points i ≡ Some info →
+      Fits m entry.function info
   pub exact : (i : ℕ) (entry : EntryPoint) (info : FunctionInfo) → slice_get m.entry_points i ≡ Some entry →
       slice_get entry_points i ≡ Some info →
       IsExact m entry.function (info_of info)
   pub apart : (i : ℕ) (info : FunctionInfo) → slice_get entry_points i ≡ Some info → HaveArguments info.sampling.keys
+  pub unrestricted : (i : ℕ) (info : FunctionInfo) → slice_get entry_points i ≡ Some info → IsUnrestricted info
   pub clean : (i : ℕ) (entry : EntryPoint) (cause : Cause) → i < length entry_points → slice_get m.entry_points i ≡ Some entry →
       IsFault m entry.function settings cause → ⊥

@@ -1,4 +1,4 @@
--- In an accepted module no two invocations part where flow must be uniform.
+-- In an accepted module no two walks part where flow must be uniform.
 use Rattle.std.specs.Prelude.{◌≡◌, ℕ, ◌<◌, ◌≤◌, ◌↔◌, List, Some, slice_get, IsTrue}
 use Rattle.shader_chains.specs.Exact.{IsExactModule}
 use Rattle.shader_chains.specs.Faults.{IsAccepted, Settings}

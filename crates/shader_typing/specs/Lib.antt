@@ -2,6 +2,8 @@ pub mod AddedTypes
 pub mod Analyzable
 pub mod Analyzed
 pub mod Divergence
+pub mod Fitting
 pub mod Kept
 pub mod Processed
+pub mod Reached
 pub mod Recorded

@@ -4,3 +4,6 @@
 pub mod laws;
 pub mod proc;
 pub mod valid;
+
+pub use shader_arena as arena;
+pub use shader_ir as ir;

@@ -3,10 +3,14 @@
 pub mod index;
 
 pub use index::{BoundsCheckPolicies, BoundsCheckPolicy, IndexableLength, IndexableLengthError};
+pub use shader_ir::GlobalCtx;
 pub use shader_ir::proc::{
-    Alignment, KnownIndex, LayoutError, LayoutErrorInner, Layouter, ResolveArraySizeError,
-    TypeLayout, TypeResolution, UpdateError, compare_types, concrete_int_scalars, vector_size_str,
-    vector_sizes,
+    Alignment, ConcreteIntScalars, ExpressionOperands, KnownIndex, Label, LayoutError,
+    LayoutErrorInner, Layouter, Operands, ResolveArraySizeError, StatementOperands, TypeLayout,
+    TypeResolution, UpdateError, VectorSizes, compare_types, concrete_int_scalars,
+    expression_operands, sizes_in_range, sizes_in_range_from, statement_operands, types_backward,
+    vector_size_str, vector_sizes,
 };
+pub use shader_overloads as overloads;
 pub use shader_overloads::{Conclusion, MathOverloads, MissingSpecialType, OverloadSet, Rule};
 pub use shader_resolve::{ResolveContext, ResolveError};

@@ -11,6 +11,7 @@ pub use shader_info::{
     FunctionInfo, GlobalOrArgument, GlobalUse, NonUniformResult, Sampling, SamplingKey, Uniformity,
     UniformityDisruptor, UniformityRequirements, ValidationFlags,
 };
+pub use shader_ir::proc::MAX_TYPE_SIZE;
 pub use shader_resolve::{
     MOST_LEVELS, ModuleFault, ModulePlace, check_module, find_fault, nests_within,
 };

@@ -5,14 +5,16 @@ ghost use Rattle.shader_chains.specs.Exact.{IsExactModule};
 ghost use Rattle.shader_chains.specs.Faults.{IsAccepted, IsFirstFault, Settings};
 ghost use Rattle.shader_chains.specs.Program.{Module};
 ghost use Rattle.shader_expression_types.specs.Checked.{untyped_error};
-ghost use Rattle.shader_info.specs.declared.error.AnalysisPlace.TheVariants.{ConstExpression};
+ghost use Rattle.shader_info.specs.declared.error.AnalysisPlace.TheVariants as site;
 ghost use Rattle.shader_resolve.specs.Context.{context_of};
 ghost use Rattle.shader_resolve.specs.WellFormed.{IsWellFormed};
 ghost use Rattle.shader_steps.specs.Causes.{IsNamed, settings_of};
 ghost use Rattle.shader_sweeps.specs.InfoOf.{infos_of};
 ghost use Rattle.shader_typing.specs.Analyzed.{EntryPointsFound, FunctionsFound, TypesFound};
+ghost use Rattle.shader_typing.specs.Fitting.{AllFit, AllUnrestricted};
 ghost use Rattle.shader_typing.specs.Kept.{KeepsAllPairs};
 ghost use Rattle.shader_typing.specs.Processed.{site_of};
+ghost use Rattle.shader_typing.specs.Reached.{IsReached};
 
 use crate::valid::ModuleInfo;
 use shader_arena::{Arena, Handle};
@@ -26,7 +28,7 @@ use std::alloc::Global;
 
 /// Why a global expression has no type.
 fn type_error(handle: Handle<mark::Expression>, failure: ResolveError) -> AnalysisError
-    ensures place { result.place ≡ ConstExpression handle }
+    ensures place { result.place ≡ site.ConstExpression handle }
     ensures cause { result.cause ≡ untyped_error handle failure }
 {
     AnalysisError {
@@ -64,6 +66,7 @@ fn add_type(
     ensures rest { OnOk result (info.new ≡ record info.old { global_expressions = info.new.global_expressions }) }
     ensures one { OnOk result (length info.new.global_expressions ≡ length info.old.global_expressions + 1) }
     ensures found { OnOk result (TypesFound «module».now info.new.global_expressions) }
+    ensures reached { IfErr result (λ error. (settings : Settings) → IsReached «module».now settings (site_of error.place)) }
     ensures refused { IfErr result (λ error. (settings : Settings) →
         IsNamed (IsFirstFault «module».now settings (site_of error.place)) error.cause) }
 {
@@ -79,6 +82,7 @@ fn add_types(alloc: Global, module: &Module, info: &mut ModuleInfo) -> Result<()
     requires none { info.old.global_expressions ≡ [] }
     ensures rest { OnOk result (info.new ≡ record info.old { global_expressions = info.new.global_expressions }) }
     ensures types { OnOk result (AreTypes (context_of «module».now [] []) «module».now.global_expressions info.new.global_expressions) }
+    ensures reached { IfErr result (λ error. (settings : Settings) → IsReached «module».now settings (site_of error.place)) }
     ensures refused { IfErr result (λ error. (settings : Settings) →
         IsNamed (IsFirstFault «module».now settings (site_of error.place)) error.cause) }
 {
@@ -98,6 +102,7 @@ fn add_function(
     found: FunctionInfo,
 ) -> Result<(), AnalysisError>
     ensures ok { OnOk result (info.new ≡ record info.old { functions = info.old.functions ++ found ∷ [] }) }
+    ensures place { IfErr result (λ error. error.place ≡ site.Function handle) }
     ensures refused { IfErr result (λ error. (m : Module) (settings : Settings) →
         IsNamed (IsFirstFault m settings (site_of error.place)) error.cause) }
 {
@@ -117,6 +122,7 @@ fn add_entry_point(
     found: FunctionInfo,
 ) -> Result<(), AnalysisError>
     ensures ok { OnOk result (info.new ≡ record info.old { entry_points = info.old.entry_points ++ found ∷ [] }) }
+    ensures place { IfErr result (λ error. error.place ≡ site.EntryPoint index) }
     ensures refused { IfErr result (λ error. (m : Module) (settings : Settings) →
         IsNamed (IsFirstFault m settings (site_of error.place)) error.cause) }
 {
@@ -146,17 +152,13 @@ fn analyze_function(
     ensures rest { OnOk result (info.new ≡ record info.old { functions = info.new.functions }) }
     ensures one { OnOk result (length info.new.functions ≡ length info.old.functions + 1) }
     ensures found { OnOk result (FunctionsFound «module».now (settings_of flags capabilities) info.new.functions) }
+    ensures reached { IfErr result (λ error. IsReached «module».now (settings_of flags capabilities) (site_of error.place)) }
     ensures refused { IfErr result (λ error. IsNamed (IsFirstFault «module».now (settings_of flags capabilities) (site_of error.place))
         error.cause) }
 {
     let place = AnalysisPlace::Function(handle);
-    match info.process_function(alloc, place, module, flags, capabilities) {
-        Ok(found) => {
-            add_function(handle, info, found)?;
-            Ok(())
-        }
-        Err(error) => Err(error),
-    }
+    let found = info.process_function(alloc, place, module, flags, capabilities)?;
+    add_function(handle, info, found)
 }
 
 /// Adds the infos of all functions.
@@ -174,6 +176,7 @@ fn add_functions(
     ensures rest { OnOk result (info.new ≡ record info.old { functions = info.new.functions }) }
     ensures all { OnOk result (length info.new.functions ≡ length «module».now.functions) }
     ensures found { OnOk result (FunctionsFound «module».now (settings_of flags capabilities) info.new.functions) }
+    ensures reached { IfErr result (λ error. IsReached «module».now (settings_of flags capabilities) (site_of error.place)) }
     ensures refused { IfErr result (λ error. IsNamed (IsFirstFault «module».now (settings_of flags capabilities) (site_of error.place))
         error.cause) }
 {
@@ -202,17 +205,13 @@ fn analyze_entry_point(
     ensures rest { OnOk result (info.new ≡ record info.old { entry_points = info.new.entry_points }) }
     ensures one { OnOk result (length info.new.entry_points ≡ length info.old.entry_points + 1) }
     ensures found { OnOk result (EntryPointsFound «module».now (settings_of flags capabilities) info.new.entry_points) }
+    ensures reached { IfErr result (λ error. IsReached «module».now (settings_of flags capabilities) (site_of error.place)) }
     ensures refused { IfErr result (λ error. IsNamed (IsFirstFault «module».now (settings_of flags capabilities) (site_of error.place))
         error.cause) }
 {
     let place = AnalysisPlace::EntryPoint(index);
-    match info.process_function(alloc, place, module, flags, capabilities) {
-        Ok(found) => {
-            add_entry_point(index, info, found)?;
-            Ok(())
-        }
-        Err(error) => Err(error),
-    }
+    let found = info.process_function(alloc, place, module, flags, capabilities)?;
+    add_entry_point(index, info, found)
 }
 
 /// Adds the infos of all entry points.
@@ -232,6 +231,7 @@ fn add_entry_points(
     ensures rest { OnOk result (info.new ≡ record info.old { entry_points = info.new.entry_points }) }
     ensures all { OnOk result (length info.new.entry_points ≡ length «module».now.entry_points) }
     ensures found { OnOk result (EntryPointsFound «module».now (settings_of flags capabilities) info.new.entry_points) }
+    ensures reached { IfErr result (λ error. IsReached «module».now (settings_of flags capabilities) (site_of error.place)) }
     ensures refused { IfErr result (λ error. IsNamed (IsFirstFault «module».now (settings_of flags capabilities) (site_of error.place))
         error.cause) }
 {
@@ -245,7 +245,8 @@ fn add_entry_points(
 ///
 /// # Errors
 ///
-/// A fault of the first faulty place, or want of memory; then nothing is recorded.
+/// A fault of the first faulty place; want of memory, with the place at which it came, before which no fault stands. Then nothing
+/// is recorded.
 pub fn analyze_module(
     alloc: Global,
     module: &Module,
@@ -256,7 +257,10 @@ pub fn analyze_module(
     ensures exact { IfOk result (λ info. IsExactModule «module».now info.global_expressions (infos_of info.functions)
         (infos_of info.entry_points)) }
     ensures pairs { IfOk result (KeepsAllPairs «module».now) }
+    ensures fit { IfOk result (AllFit «module».now) }
+    ensures unrestricted { IfOk result AllUnrestricted }
     ensures accepted { IfOk result (λ _. IsAccepted «module».now (settings_of flags capabilities)) }
+    ensures reached { IfErr result (λ error. IsReached «module».now (settings_of flags capabilities) (site_of error.place)) }
     ensures refused { IfErr result (λ error. IsNamed (IsFirstFault «module».now (settings_of flags capabilities) (site_of error.place))
         error.cause) }
 {

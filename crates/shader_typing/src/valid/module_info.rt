@@ -99,6 +99,27 @@ impl ModuleInfo {
         }
     }
 
+    /// How many functions have an info: the first of the module's.
+    pub fn function_count(&self) -> usize
+        ensures { result ≡ length self.now.functions }
+    {
+        self.functions.len()
+    }
+
+    /// How many entry points have an info: the first of the module's.
+    pub fn entry_point_count(&self) -> usize
+        ensures { result ≡ length self.now.entry_points }
+    {
+        self.entry_points.len()
+    }
+
+    /// How many global expressions have a type: the first of the module's.
+    pub fn global_expression_count(&self) -> usize
+        ensures { result ≡ length self.now.global_expressions }
+    {
+        self.global_expressions.len()
+    }
+
     /// Adds the info of the next function.
     ///
     /// # Errors

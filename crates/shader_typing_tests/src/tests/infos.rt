@@ -95,3 +95,19 @@ fn a_copy_has_all(rt: HostRuntime) {
     drop(first);
     drop(copy);
 }
+
+#[test]
+fn a_copy_of_what_an_expression_has_is_equal(rt: HostRuntime) {
+    let ty: Handle<mark::Type> = Handle::from_index(1);
+    let first = ExpressionInfo {
+        uniformity: uniformity(),
+        ref_count: 2,
+        ty: TypeResolution::Handle(ty),
+    };
+    let copy = first.copy(rt.alloc()).expect(&rt, WANT);
+    assert!(rt; copy.uniformity.requirements == UniformityRequirements::DERIVATIVE);
+    assert!(rt; copy.uniformity.non_uniform_result.is_none() && copy.ref_count == 2);
+    assert!(rt; copy.ty.handle() == Some(ty));
+    drop(first);
+    drop(copy);
+}

@@ -68,5 +68,7 @@ fn infos_are_found_where_they_were_added(rt: HostRuntime) {
     let written = info(&rt, alloc, GlobalUse::WRITE);
     assert!(rt; module.get_entry_point(0).dominates_global_use(&written));
     drop(written);
+    assert!(rt; module.function_count() == 1 && module.entry_point_count() == 1);
+    assert!(rt; module.global_expression_count() == 0);
     drop(module);
 }

@@ -1,8 +1,9 @@
 use Rattle.std.proofs.Common.{arith, subst, sym}
 use Rattle.shader_chains.specs.Faults.{IsFirstFault, OfGlobalExpression}
 use Rattle.shader_steps.specs.Causes.{IsNamed}
-use Rattle.shader_typing.proofs.TypedLemmas.{added_type, refused_type}
+use Rattle.shader_typing.proofs.TypedLemmas.{added_type, expression_reached, refused_type}
 use Rattle.shader_typing.specs.Processed.{site_of}
+use Rattle.shader_typing.specs.Reached.{IsReached}
 use Rattle.shader_typing.proofs.valid.analyze.add_type.Goals as goal
 
 pub returns-in-Ok-clause-found : goal.returns-in-Ok-clause-found
@@ -11,6 +12,12 @@ returns-in-Ok-clause-found c =
     c.requires.expressions
     c.args.info.now c.process_const_expression.new.self c.requires.found (omega (arith, c.requires.next, c.requires.there))
     c.in-Ok.ensures.ok).2
+
+pub returns-in-Err-clause-reached : goal.returns-in-Err-clause-reached
+returns-in-Err-clause-reached c = λ settings.
+    subst (λ v. IsReached c.args.module.now settings (site_of v)) (sym c.type_error.ensures.place)
+    (expression_reached c.args.module.now c.requires.well_formed c.args.info.now.global_expressions c.requires.found settings c.args.handle
+    c.requires.next c.requires.there)
 
 pub returns-in-Err-clause-refused : goal.returns-in-Err-clause-refused
 returns-in-Err-clause-refused c = λ settings.

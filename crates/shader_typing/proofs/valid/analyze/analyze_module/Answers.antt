@@ -33,6 +33,25 @@ returns-clause-accepted c =
     c.in_ok-add_types.ensures.types c.in_ok-add_functions.ensures.rest c.in_ok-add_functions.ensures.all c.in_ok-add_functions.ensures.found
     c.in_ok-add_entry_points.ensures.rest c.in_ok-add_entry_points.ensures.all c.in_ok-add_entry_points.ensures.found).2
 
+pub returns-clause-fit : goal.returns-clause-fit
+returns-clause-fit c =
+    (all_found c.args.module.now (settings_of c.args.flags c.args.capabilities) c.requires c.add_types.new.info c.add_functions.new.info
+    c.add_entry_points.new.info
+    c.in_ok-add_types.ensures.types c.in_ok-add_functions.ensures.rest c.in_ok-add_functions.ensures.all c.in_ok-add_functions.ensures.found
+    c.in_ok-add_entry_points.ensures.rest c.in_ok-add_entry_points.ensures.all c.in_ok-add_entry_points.ensures.found).3
+
+pub returns-clause-unrestricted : goal.returns-clause-unrestricted
+returns-clause-unrestricted c =
+    (all_found c.args.module.now (settings_of c.args.flags c.args.capabilities) c.requires c.add_types.new.info c.add_functions.new.info
+    c.add_entry_points.new.info
+    c.in_ok-add_types.ensures.types c.in_ok-add_functions.ensures.rest c.in_ok-add_functions.ensures.all c.in_ok-add_functions.ensures.found
+    c.in_ok-add_entry_points.ensures.rest c.in_ok-add_entry_points.ensures.all c.in_ok-add_entry_points.ensures.found).4
+
+pub returns-in_err-add_types-clause-reached : goal.returns-in_err-add_types-clause-reached
+returns-in_err-add_types-clause-reached c =
+    passed_on _ c.from_residual.result c.from_residual.ensures.1
+    (c.in_err-add_types.ensures.reached (settings_of c.args.flags c.args.capabilities))
+
 pub returns-in_err-add_types-clause-refused : goal.returns-in_err-add_types-clause-refused
 returns-in_err-add_types-clause-refused c =
     passed_on _ c.from_residual.result c.from_residual.ensures.1

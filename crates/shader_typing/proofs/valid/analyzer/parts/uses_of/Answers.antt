@@ -1,4 +1,5 @@
 use Rattle.std.proofs.Common.{ℕ, refl, sym, ap, subst, ◌∙◌, None, fold, length, map, replicate}
+use Rattle.std.proofs.lemmas.Result.{IfOk-weaker}
 use Rattle.shader_chains.specs.Program.{occurrences}
 use Rattle.shader_ir.specs.declared.name.Name.{Name}
 use Rattle.shader_steps.proofs.StepUses.{finished}
@@ -6,14 +7,13 @@ use Rattle.shader_steps.specs.Found.{tallied}
 use Rattle.shader_steps.specs.OfTheStep.{HasUses}
 use Rattle.shader_sweeps.specs.Gathered.{listed}
 use Rattle.shader_sweeps.specs.Tallied.{occurred}
-use Rattle.shader_typing.proofs.PlaceLemmas.{ok_more}
 use Rattle.shader_typing.proofs.valid.analyzer.parts.uses_of.Goals as goal
 
 pub returns : goal.returns
 returns c =
     let infos = c.args.infos.now in
     let f = c.args.function.now in
-    ok_more c.uses_of_bits.result c.uses_of_bits.ensures (λ uses is m below within fit facts own.
+    IfOk-weaker c.uses_of_bits.result _ _ (λ uses is m below within fit facts own.
     subst (HasUses m infos f) (sym (is ∙ c.deref.ensures.value))
     (finished m infos f c.args.facts.now facts below within fit (listed c.args.all.now) c.requires (tallied m infos f)
     (ap (λ v. fold (occurred v) (
@@ -24,4 +24,4 @@ returns c =
     c.args.own.items c.deref_mut.result.now c.join_calls.new.uses c.deref_mut-2.result.now c.name_globals.new.uses
     (map (λ (entry : ℕ × Name). entry.0) f.named_expressions) c.args.own.len own c.args.own.ok.0
     c.deref_mut.ensures.value c.join_calls.auto.uses c.join_calls.ensures c.deref_mut-2.ensures.value c.name_globals.auto.uses refl
-    c.name_globals.ensures))
+    c.name_globals.ensures)) c.uses_of_bits.ensures
