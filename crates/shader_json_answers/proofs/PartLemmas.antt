@@ -18,6 +18,7 @@ use Rattle.shader_json_texts.specs.Refusals.{refusal_text}
 use Rattle.shader_resolve.specs.ContextLaws.{IsCtxOf}
 use Rattle.shader_steps.specs.Causes.{IsNamed}
 use Rattle.shader_sweeps.specs.InfoOf.{infos_of}
+use Rattle.shader_typing.specs.Fitting.{AllUnrestricted}
 use Rattle.shader_typing.specs.Kept.{KeepsAllPairs}
 use Rattle.shader_typing.specs.Processed.{site_of}
 use Rattle.shader_typing.specs.Recorded.{Recorded}
@@ -25,10 +26,10 @@ use Rattle.shader_typing.specs.Recorded.{Recorded}
 module _ (m : Module) where
   pub found_is : (settings : Settings) (infos : Recorded) (passes : Bool) (text : List ℕ) →
       IsExactModule m infos.global_expressions (infos_of infos.functions) (infos_of infos.entry_points) → KeepsAllPairs m infos →
-      IsAccepted m settings → (passes ≡ true) × IsInfoText infos text → IsFindingPart m settings passes text
-  found_is settings infos passes text exact pairs accepted told =
+      AllUnrestricted infos → IsAccepted m settings → (passes ≡ true) × IsInfoText infos text → IsFindingPart m settings passes text
+  found_is settings infos passes text exact pairs unrestricted accepted told =
       subst (λ p. IsFindingPart m settings p text) (sym told.0)
-      (record { infos = infos; exact = exact; pairs = pairs; accepted = accepted; told = told.1 })
+      (record { infos = infos; exact = exact; pairs = pairs; unrestricted = unrestricted; accepted = accepted; told = told.1 })
 
   pub refused_is : (settings : Settings) (refusal : AnalysisError) (passes : Bool) (text : List ℕ) →
       IsNamed (IsFirstFault m settings (site_of refusal.place)) refusal.cause

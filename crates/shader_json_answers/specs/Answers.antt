@@ -17,6 +17,7 @@ use Rattle.shader_resolve.specs.WellFormed.{IsWellFormed, Stands}
 use Rattle.shader_resolve.specs.declared.well_formed.ModuleFault.{ModuleFault}
 use Rattle.shader_steps.specs.Causes.{IsNamed}
 use Rattle.shader_sweeps.specs.InfoOf.{infos_of}
+use Rattle.shader_typing.specs.Fitting.{AllUnrestricted}
 use Rattle.shader_typing.specs.Kept.{KeepsAllPairs}
 use Rattle.shader_typing.specs.Processed.{site_of}
 use Rattle.shader_typing.specs.Recorded.{Recorded}
@@ -89,6 +90,7 @@ module _ (m : Module) where
     pub infos : Recorded
     pub exact : IsExactModule m infos.global_expressions (infos_of infos.functions) (infos_of infos.entry_points)
     pub pairs : KeepsAllPairs m infos
+    pub unrestricted : AllUnrestricted infos
     pub accepted : IsAccepted m settings
     pub told : IsInfoText infos text
 

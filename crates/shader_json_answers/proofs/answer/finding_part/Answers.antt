@@ -15,7 +15,7 @@ returns-in-Ok c =
     IfOk-weaker c.found_part.result (λ part. (part.passes ≡ true) × IsInfoText infos (string_bytes part.text))
     (λ part. IsFindingPart m settings part.passes (string_bytes part.text))
     (λ part told. found_is m settings infos part.passes (string_bytes part.text) c.in-Ok.ensures.exact c.in-Ok.ensures.pairs
-    c.in-Ok.ensures.accepted told) c.found_part.ensures
+    c.in-Ok.ensures.unrestricted c.in-Ok.ensures.accepted told) c.found_part.ensures
 
 pub returns-in-Err : goal.returns-in-Err
 returns-in-Err c =
