@@ -2,6 +2,7 @@
 ghost use Rattle.std.specs.Prelude.{◌≡◌};
 ghost use Rattle.report.specs.Options.{capabilities_of, flag_of, flag_text, flags_of, options_from, start, with};
 
+use bitflags::Flags;
 use shader_typing::valid::{Capabilities, ValidationFlags};
 
 /// A word of the command line.
@@ -9,7 +10,7 @@ use shader_typing::valid::{Capabilities, ValidationFlags};
 pub enum Flag {
     /// The answer is JSON.
     Json,
-    /// Nothing asks for uniform control flow.
+    /// Disrupted flow is no fault.
     AnyFlow,
     /// Arrays of sampled images and of samplers may be indexed by what differs among invocations.
     IndexTextures,
@@ -117,9 +118,9 @@ impl Options {
         ensures { result ≡ flags_of self }
     {
         if self.checks_flow {
-            ValidationFlags(1)
+            ValidationFlags::CONTROL_FLOW_UNIFORMITY
         } else {
-            ValidationFlags(0)
+            ValidationFlags::empty()
         }
     }
 
@@ -127,11 +128,13 @@ impl Options {
     pub fn capabilities(self) -> Capabilities
         ensures { result ≡ capabilities_of self }
     {
+        let textures = Capabilities::TEXTURE_AND_SAMPLER_BINDING_ARRAY_NON_UNIFORM_INDEXING;
+        let storage = Capabilities::STORAGE_TEXTURE_BINDING_ARRAY_NON_UNIFORM_INDEXING;
         match (self.indexes_textures, self.indexes_storage_textures) {
-            (false, false) => Capabilities(0),
-            (true, false) => Capabilities(1),
-            (false, true) => Capabilities(2),
-            (true, true) => Capabilities(3),
+            (false, false) => Capabilities::empty(),
+            (true, false) => textures,
+            (false, true) => storage,
+            (true, true) => textures | storage,
         }
     }
 }
