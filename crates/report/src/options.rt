@@ -55,9 +55,13 @@ impl Flag {
 /// How a module is answered.
 #[derive(Clone, Copy, Debug, PartialEq, Eq)]
 pub struct Options {
+    /// As JSON, and not for people.
     pub is_json: bool,
+    /// Disrupted flow is a fault where uniform flow is needed.
     pub checks_flow: bool,
+    /// Arrays of sampled images and of samplers may be indexed by what differs among invocations.
     pub indexes_textures: bool,
+    /// So may arrays of storage images.
     pub indexes_storage_textures: bool,
 }
 

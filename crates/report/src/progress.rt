@@ -29,6 +29,7 @@ impl Display for Stage {
 
 /// Whom a run tells what it begins to do.
 pub trait Progress {
+    /// Is told that the run begins with a stage.
     fn begins(&mut self, stage: Stage);
 }
 

@@ -5,11 +5,17 @@ use typer_answers::Outcome;
 /// How a run ended.
 #[derive(Clone, Copy, Debug, PartialEq, Eq)]
 pub enum Status {
+    /// Each line has an answer.
     Done = 0,
+    /// A line asks nothing that is answered, and the answer ends with its number.
     BadLine = 2,
+    /// A read of the input failed.
     ReadFailed = 3,
+    /// A write of the answer failed.
     WriteFailed = 4,
+    /// Memory was refused.
     OutOfMemory = 5,
+    /// The input has more bytes than are read.
     TooLong = 6,
 }
 
