@@ -1,18 +1,9 @@
 -- Tests of operands.
-use Rattle.std.proofs.Common.{◌≡◌, ℕ, min, ◌&&◌, List, ◌∷◌, Option, Some, None, refl, arith}
+use Rattle.std.proofs.Common.{◌≡◌, ℕ, min, ◌&&◌, List, arith}
 use Rattle.std.proofs.lemmas.Bool.Decides.{Decides-and, same_from_decides}
-use Rattle.shader_ir.specs.Slots.{kept, read_optional}
 use Rattle.shader_ir.specs.declared.proc.operands.Label.{Label}
-use Rattle.shader_resolve.specs.ModuleTests.{is_below, operands_below}
+use Rattle.shader_resolve.specs.ModuleTests.{operands_below}
 use Rattle.shader_resolve.proofs.TestLemmas.{like, operands-decide}
-
--- an operand that may be absent, before others
-pub optional : (bound : ℕ) (found : Option ℕ) (slots : List (Option (ℕ × Label)))
-    → operands_below bound (kept (read_optional found ∷ slots)) ≡ (is_below bound found && operands_below bound (kept slots))
-optional bound None slots = refl
-optional bound (Some handle) slots = refl
-
-pub ruleset optional_below = (optional)
 
 -- operands below the lesser of two bounds
 pub below_both : (a b : ℕ) (operands : List (ℕ × Label)) →

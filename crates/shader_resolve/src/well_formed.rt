@@ -7,7 +7,6 @@ mod data;
 mod expressions;
 mod functions;
 mod nesting;
-mod operands;
 mod places;
 mod statements;
 

@@ -3,10 +3,9 @@ ghost use Rattle.std.specs.Prelude.{◌≡◌, nat_lt};
 ghost use Rattle.shader_resolve.specs.ModuleTests.{check_expression, in_arena, is_below, names_in_range, operands_below};
 ghost use Rattle.shader_resolve.specs.WellFormed.{expression_callee};
 
-use super::operands::expression_operands_below;
 use super::{Bounds, ModuleFault};
 use shader_arena::{Arena, Handle};
-use shader_ir::{Expression, Module, Operands, mark};
+use shader_ir::{Expression, Module, Operands, expression_operands, mark};
 
 /// Whether a handle is below a bound.
 #[inline(always)]
@@ -101,8 +100,9 @@ pub fn check_expression(
 ) -> Result<(), ModuleFault>
     ensures { result ≡ check_expression «module».now bounds place expression.now }
 {
-    let is_earlier = expression_operands_below(expression, place.min(bounds.expressions));
-    if !is_earlier && !expression_operands_below(expression, bounds.expressions) {
+    let bound = place.min(bounds.expressions);
+    let is_earlier = operands_below(expression_operands(expression), bound);
+    if !is_earlier && !operands_below(expression_operands(expression), bounds.expressions) {
         return Err(ModuleFault::HandleOutOfRange);
     }
     if !names_in_range(module, bounds.locals, expression) {
