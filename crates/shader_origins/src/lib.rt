@@ -5,7 +5,6 @@ mod found;
 pub mod laws;
 mod link;
 mod reasons;
-mod sources;
 mod why;
 
 pub use link::{FunctionPlace, Link};

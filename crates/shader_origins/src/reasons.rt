@@ -2,18 +2,18 @@
 ghost use Rattle.std.specs.Prelude.{◌≡◌, [], IfOk};
 ghost use Rattle.std.specs.List.{enumerate_from};
 ghost use Rattle.shader_ir.specs.BodyOf.{step_of};
-ghost use Rattle.shader_sweeps.specs.Facts.{callee_of};
 ghost use Rattle.shader_sweeps.specs.Gathered.{listed};
 ghost use Rattle.shader_origins.specs.Reasons.{called, first_given, first_reason, given, led_to, operand_reason, own_reason};
 ghost use Rattle.shader_origins.specs.Reasons.{reason_at, result_at, swept};
 
 use crate::link::{FunctionPlace, Link};
-use crate::sources::is_source;
 use shader_arena::Handle;
 use shader_ir::{
     Expression, Function, Module, Operands, Statement, expression_operands, mark,
     statement_operands,
 };
+use shader_sweeps::facts::callee_of;
+use shader_sweeps::sources::is_source;
 use std::alloc::{AllocError, Global};
 
 /// Why something may differ among invocations.
@@ -92,16 +92,6 @@ fn first_reason(
         }
     }
     None
-}
-
-/// The function whose result the expression is.
-fn callee_of(expression: &Expression) -> Option<Handle<mark::Function>>
-    ensures { result ≡ callee_of expression.now }
-{
-    match expression {
-        Expression::CallResult(function) => Some(*function),
-        _ => None,
-    }
 }
 
 /// The reason by the result of a called function.

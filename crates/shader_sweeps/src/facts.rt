@@ -1,18 +1,15 @@
 //! What is found of each expression from those before it: why it may differ among invocations, what it asks of the flow, and the
 //! global that it points into.
-ghost use Rattle.std.specs.Prelude.{◌≡◌, [], slice_get, IfOk};
+ghost use Rattle.std.specs.Prelude.{◌≡◌, [], IfOk};
 ghost use Rattle.std.specs.List.{enumerate_from};
-ghost use Rattle.shader_chains.specs.Origins.{argument_varies, binding_varies, built_in_varies, global_varies, is_source, space_varies};
 ghost use Rattle.shader_sweeps.specs.Facts.{callee_of, callee_origin, first_origin, form_needs, level_needs, needs_at, origin_at};
 ghost use Rattle.shader_sweeps.specs.Facts.{own_needs, own_origin, own_root, result_at, result_needs, root_at, swept};
 
+use crate::sources::is_source;
 use bitflags::Flags;
-use shader_arena::{Arena, Handle};
+use shader_arena::Handle;
 use shader_info::{FunctionInfo, NonUniformResult, UniformityRequirements};
-use shader_ir::{
-    AddressSpace, Binding, BuiltIn, Expression, Function, FunctionArgument, GlobalVariable, Module,
-    Operands, SampleLevel, StorageAccess, expression_operands, mark,
-};
+use shader_ir::{Expression, Function, Module, Operands, SampleLevel, expression_operands, mark};
 use std::alloc::{AllocError, Global};
 
 /// What is found of an expression.
@@ -95,88 +92,8 @@ pub fn function_requirements(
     }
 }
 
-/// Whether the invocations of a work group may find different values in the space (WGSL, "Uniformity").
-fn space_varies(space: AddressSpace) -> bool
-    ensures { result ≡ space_varies space }
-{
-    match space {
-        AddressSpace::Function
-        | AddressSpace::Private
-        | AddressSpace::RayPayload
-        | AddressSpace::IncomingRayPayload
-        | AddressSpace::Handle => true,
-        AddressSpace::Storage { access } => access.contains(StorageAccess::STORE),
-        AddressSpace::WorkGroup
-        | AddressSpace::Uniform
-        | AddressSpace::Immediate
-        | AddressSpace::TaskPayload => false,
-    }
-}
-
-fn variable_varies(
-    variables: &Arena<GlobalVariable, mark::GlobalVariable>,
-    variable: Handle<mark::GlobalVariable>,
-) -> bool
-    ensures { result ≡ global_varies (slice_get variables.now variable) }
-{
-    if variables.contains_handle(variable) {
-        space_varies(variables[variable].space)
-    } else {
-        false
-    }
-}
-
-/// Whether the value differs among the invocations of a work group.
-fn built_in_varies(built_in: BuiltIn) -> bool
-    ensures { result ≡ built_in_varies built_in }
-{
-    match built_in {
-        BuiltIn::WorkGroupId | BuiltIn::WorkGroupSize | BuiltIn::NumWorkGroups => false,
-        BuiltIn::Other(_) => true,
-    }
-}
-
-/// Whether what is bound so differs among the invocations of a work group.
-fn binding_varies(binding: Option<Binding>) -> bool
-    ensures { result ≡ binding_varies binding }
-{
-    match binding {
-        Some(Binding::BuiltIn(built_in)) => built_in_varies(built_in),
-        _ => true,
-    }
-}
-
-fn argument_varies(arguments: &[FunctionArgument], index: u32) -> bool
-    ensures { result ≡ argument_varies (slice_get arguments.now index) }
-{
-    match arguments.get(index as usize) {
-        Some(argument) => binding_varies(argument.binding),
-        None => true,
-    }
-}
-
-/// Whether the expression's value may differ among invocations by itself.
-fn is_source(module: &Module, function: &Function, expression: &Expression) -> bool
-    ensures { result ≡ is_source «module».now function.now expression.now }
-{
-    match expression {
-        Expression::FunctionArgument(index) => {
-            argument_varies(function.arguments.as_slice(), *index)
-        }
-        Expression::GlobalVariable(variable) => {
-            variable_varies(&module.global_variables, *variable)
-        }
-        Expression::LocalVariable(_)
-        | Expression::AtomicResult { .. }
-        | Expression::RayQueryProceedResult
-        | Expression::SubgroupBallotResult
-        | Expression::SubgroupOperationResult { .. } => true,
-        _ => false,
-    }
-}
-
 /// The function whose result the expression is.
-fn callee_of(expression: &Expression) -> Option<Handle<mark::Function>>
+pub fn callee_of(expression: &Expression) -> Option<Handle<mark::Function>>
     ensures { result ≡ callee_of expression.now }
 {
     match expression {

@@ -6,4 +6,5 @@ pub mod flow;
 pub mod gather;
 pub mod joins;
 pub mod pairs;
+pub mod sources;
 pub mod tally;
