@@ -1,7 +1,8 @@
 //! What is recorded of a function and of its expressions.
-ghost use Rattle.std.specs.Prelude.{◌≡◌, ◌↔◌, length, IsTrue, IfOk};
+ghost use Rattle.std.specs.Prelude.{◌≡◌, ◌↔◌, length, IsOk, IsTrue, IfOk};
 ghost use Rattle.std.specs.List.{list_all, zip};
 ghost use Rattle.shader_info.specs.Uses.{includes};
+ghost use Rattle.shader_ir.specs.Key.{HoldsNoList};
 
 use crate::{GlobalUse, UniformityRequirements};
 use bitflags::Flags;
@@ -56,13 +57,14 @@ pub struct ExpressionInfo {
 }
 
 impl ExpressionInfo {
-    /// Returns an equal info.
+    /// Returns an equal info. A type takes memory only if it is a free-standing struct, and the analysis records none.
     ///
     /// # Errors
     ///
-    /// `AllocError` if memory for the type is refused.
+    /// `AllocError` if memory for the members of a free-standing struct is refused.
     pub fn copy(&self, alloc: Global) -> Result<ExpressionInfo, AllocError>
-        ensures { IfOk result (λ copy. copy ≡ self.now) }
+        ensures copy { IfOk result (λ copy. copy ≡ self.now) }
+        ensures ok { HoldsNoList self.now.ty → IsOk result }
     {
         Ok(ExpressionInfo {
             uniformity: self.uniformity,
