@@ -6,7 +6,6 @@ use Rattle.shader_ir.specs.declared.types.TypeInner.{TypeInner}
 use Rattle.shader_ir.specs.declared.types.TypeInner.TheVariants.{Scalar, Vector, Pointer, ValuePointer, Struct}
 use Rattle.shader_ir.specs.declared.proc.type_resolution.TypeResolution.{TypeResolution}
 use Rattle.shader_ir.specs.declared.proc.type_resolution.TypeResolution.TheVariants.{Handle, Value}
-use Rattle.shader_ir.specs.Shapes.{HoldsNoMembers}
 use Rattle.shader_ir.specs.TypeTree.{PointsBelow}
 
 -- a struct is known by its handle, each other type by its canonical form
@@ -75,7 +74,7 @@ IsLendable types (Value inner) = Unit {0}
 -- the resolution holds no list of members
 abbrev pub HoldsNoList : TypeResolution → Type 0
 HoldsNoList (Handle handle) = Unit {0}
-HoldsNoList (Value inner) = HoldsNoMembers inner
+HoldsNoList (Value inner) = IsNoStruct inner
 
 -- the handle of a resolution that is one
 abbrev pub handle_of : TypeResolution → Option ℕ

@@ -24,8 +24,3 @@ IsResource (ValuePointer size scalar space) = ⊥
 IsResource (Pointer base space) = ⊥
 IsResource (Struct span members) = ⊥
 IsResource _ = Unit {0}
-
--- the type holds no list of members
-abbrev pub HoldsNoMembers : TypeInner → Type 0
-HoldsNoMembers (Struct span members) = ⊥
-HoldsNoMembers _ = Unit {0}

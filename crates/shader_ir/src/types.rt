@@ -1,6 +1,7 @@
 //! Types.
 ghost use Rattle.std.specs.Prelude.{◌≡◌, IfOk, IsOk};
-ghost use Rattle.shader_ir.specs.Shapes.{HoldsNoMembers, IsOfScalars, IsResource};
+ghost use Rattle.shader_ir.specs.Key.{IsNoStruct};
+ghost use Rattle.shader_ir.specs.Shapes.{IsOfScalars, IsResource};
 
 use crate::{
     Binding, CooperativeRole, CooperativeSize, Count, ImageClass, ImageDimension, Items, Name,
@@ -160,7 +161,7 @@ impl TypeInner {
     /// `AllocError` if memory for the members of a struct is refused.
     pub fn copy(&self, alloc: Global) -> Result<TypeInner, AllocError>
         ensures copy { IfOk result (λ inner. inner ≡ self.now) }
-        ensures ok { HoldsNoMembers self.now → IsOk result }
+        ensures ok { IsNoStruct self.now → IsOk result }
     {
         match self {
             TypeInner::Struct { members, span } => Ok(TypeInner::Struct {

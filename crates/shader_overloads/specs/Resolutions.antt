@@ -6,7 +6,7 @@ use Rattle.shader_ir.specs.declared.«module».PredeclaredType.{PredeclaredType}
 use Rattle.shader_ir.specs.declared.«module».SpecialTypes.{SpecialTypes}
 use Rattle.shader_ir.specs.declared.proc.type_resolution.TypeResolution.{TypeResolution}
 use Rattle.shader_ir.specs.declared.proc.type_resolution.TypeResolution.TheVariants as resolutions
-use Rattle.shader_ir.specs.Shapes.{HoldsNoMembers}
+use Rattle.shader_ir.specs.Key.{IsNoStruct}
 use Rattle.shader_overloads.specs.declared.rule.Conclusion.{Conclusion}
 use Rattle.shader_overloads.specs.declared.rule.Conclusion.TheVariants.{Value, Predeclared}
 
@@ -23,7 +23,7 @@ found_resolution None = None
 
 -- the conclusion is no free-standing struct
 abbrev pub ConcludesNoMembers : Conclusion → Type 0
-ConcludesNoMembers (Value inner) = HoldsNoMembers inner
+ConcludesNoMembers (Value inner) = IsNoStruct inner
 ConcludesNoMembers (Predeclared predeclared) = Unit {0}
 
 -- the type that a conclusion stands for, where the module has it

@@ -68,7 +68,7 @@ impl ScalarSet {
 
     pub const CONCRETE_FLOAT: ScalarSet = ScalarSet(Self::FLOAT.0 & Self::CONCRETE.0);
 
-    /// The floating-point scalars of builtins that have no abstract form yet.
+    /// The concrete floating-point scalars: for a builtin without an abstract form, of which none is left.
     pub const FLOAT_ABSTRACT_UNIMPLEMENTED: ScalarSet = Self::CONCRETE_FLOAT;
 
     pub const EMPTY: ScalarSet = ScalarSet(0);

@@ -49,7 +49,7 @@ pub fn list(alloc: Global, rules: Vec<Rule>) -> Result<List, AllocError>
     List::from_rules(alloc, rules)
 }
 
-/// The floating-point scalars, with that of 32 bits before the others, since calls prefer it.
+/// The floating-point scalars, in the order in which calls prefer them: the abstract one, then that of 32 bits.
 pub static FLOAT_SCALARS: [Scalar; 4] = [
     Scalar::ABSTRACT_FLOAT,
     Scalar::F32,
@@ -57,7 +57,7 @@ pub static FLOAT_SCALARS: [Scalar; 4] = [
     Scalar::F64,
 ];
 
-/// Those of them that aren't abstract.
+/// Those of them that are concrete, in the same order.
 pub static CONCRETE_FLOAT_SCALARS: [Scalar; 3] = [Scalar::F32, Scalar::F16, Scalar::F64];
 
 /// A scalar itself, and vectors of it.
@@ -77,7 +77,8 @@ pub fn float_scalars() -> FloatScalars
     }
 }
 
-/// The floating-point scalars of builtins that have no abstract form yet, in the order in which calls prefer them.
+/// The concrete floating-point scalars, in the order in which calls prefer them: for a builtin without an abstract form, of which none
+/// is left.
 pub fn float_scalars_unimplemented_abstract() -> FloatScalars
     ensures { result ≡ floats }
 {
