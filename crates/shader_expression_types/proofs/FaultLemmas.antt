@@ -27,11 +27,12 @@ use Rattle.shader_ir.specs.declared.proc.type_resolution.TypeResolution.{TypeRes
 use Rattle.shader_ir.specs.declared.types.TypeInner.{TypeInner}
 use Rattle.shader_ir.specs.declared.types.TypeInner.TheVariants as type
 use Rattle.shader_ir.specs.declared.proc.operands.Label.TheVariants.{Read}
+use Rattle.shader_resolve.proofs.MemoryLemmas.{wanted}
 use Rattle.shader_resolve.specs.WellFormed.{OperandsBelow}
 use Rattle.shader_resolve.specs.declared.error.ResolveError.{ResolveError}
 use Rattle.shader_resolve.specs.declared.error.ResolveError.TheVariants as resolve
 use Rattle.shader_resolve.specs.Context.{Context}
-use Rattle.shader_resolve.specs.Outcome.{WantsMemory, refusal_of}
+use Rattle.shader_resolve.specs.Outcome.{Memory, WantsMemory, refusal_of}
 use Rattle.shader_steps.proofs.FoundLemmas.{origins_of_the_step}
 use Rattle.shader_steps.specs.Causes.{IsNamed, IsNamedOf, number_of, settings_of}
 use Rattle.shader_steps.specs.Found.{facts_found}
@@ -41,16 +42,12 @@ use Rattle.shader_sweeps.specs.Facts.{origin_at}
 use Rattle.shader_sweeps.specs.InfoOf.{PointsBackwards, infos_of}
 
 -- a refused type is told by its refusal, and want of memory as such
-wants_memory : (memory : Bool) (failure : ResolveError) → WantsMemory memory failure → failure ≡ resolve.OutOfMemory
-wants_memory true failure is = is
-wants_memory false failure is = absurd is
-
-pub names_untyped : (IsCause : Cause → Type 0) (e : ℕ) (memory : Bool) (failure : ResolveError) →
+pub names_untyped : (IsCause : Cause → Type 0) (e : ℕ) (memory : Memory) (failure : ResolveError) →
     IsCause (Untyped e (refusal_of failure)) ⊎ WantsMemory memory failure →
     IsNamed IsCause (untyped_error e failure)
 names_untyped IsCause e memory resolve.OutOfMemory told = tt
 names_untyped IsCause e memory failure (inl stands) = stands
-names_untyped IsCause e memory failure (inr wants) = let is = wants_memory memory failure wants in absurd (cc)
+names_untyped IsCause e memory failure (inr wants) = let is = wanted memory failure wants in absurd (cc)
 
 -- the test of a capability is that of the settings
 allows_alone : (flags : ValidationFlags) (capabilities : Capabilities) (capability : Capability) →
@@ -180,7 +177,7 @@ module _ (m : Module) (infos : List FunctionInfo) (f : Function) (facts : List F
         NamesFault m infos f capabilities (error.Expression (length types) source)
     names_refusal source told flags = names_access flags x refl source told
 
-    pub names_failure : (memory : Bool) (failure : ResolveError) →
+    pub names_failure : (memory : Memory) (failure : ResolveError) →
         IsToldOf (function_context m f) f.expressions (length types) memory (Err failure) →
         NamesFault m infos f capabilities (untyped_error (length types) failure)
     names_failure memory failure told flags =
@@ -225,7 +222,7 @@ module _ (m : Module) (infos : List FunctionInfo) (f : Function) (facts : List F
         (names_refusal types first x stands earlier source told)
 
     -- what is told of the expression in any list that has it there is told of it in the function
-    pub told_here : (context : Context) → context ≡ function_context m f → (memory : Bool) (result : Result TypeResolution ResolveError) →
+    pub told_here : (context : Context) → context ≡ function_context m f → (memory : Memory) (result : Result TypeResolution ResolveError) →
         ((expressions : List Expression) → slice_get expressions (length types) ≡ Some x → AreOfTheFirst context expressions types →
         IsToldOf context expressions (length types) memory result) →
         IsToldOf (function_context m f) f.expressions (length types) memory result
@@ -233,14 +230,14 @@ module _ (m : Module) (infos : List FunctionInfo) (f : Function) (facts : List F
         subst (λ v. IsToldOf v f.expressions (length types) memory result) same
         (told f.expressions stands (subst (λ v. AreOfTheFirst v f.expressions types) (sym same) first))
 
-    pub names_failure_at : (memory : Bool) (failure : ResolveError) →
+    pub names_failure_at : (memory : Memory) (failure : ResolveError) →
         IsToldOf (function_context m f) f.expressions (length types) memory (Err failure) →
         NamesFault m infos f capabilities (untyped_error e failure)
     names_failure_at memory failure told =
         subst (λ v. NamesFault m infos f capabilities (untyped_error v failure)) (sym place)
         (names_failure types first x stands earlier memory failure told)
 
-    pub sound_at : (memory : Bool) (resolution : TypeResolution) →
+    pub sound_at : (memory : Memory) (resolution : TypeResolution) →
         IsToldOf (function_context m f) f.expressions (length types) memory (Ok resolution) →
         access_refusal capabilities m.types facts types x ≡ None → IsSound m infos f capabilities e
     sound_at memory resolution derives told = subst (IsSound m infos f capabilities) (sym place)

@@ -1,5 +1,5 @@
 -- What a resolved expression is told to be is what the derivable types say of it.
-use Rattle.std.proofs.Common.{◌≡◌, ap, sym, subst, ◌⊎◌, inl, inr, ℕ, ◌<◌, Bool, List, Some, Result, Ok}
+use Rattle.std.proofs.Common.{◌≡◌, ap, sym, subst, ◌⊎◌, inl, inr, ℕ, ◌<◌, List, Some, Result, Ok}
 use Rattle.std.proofs.Common.{Err, IsOkAnd, slice_get, length, get_or, None, ◌≤◌, refl, All, arith}
 use Rattle.std.proofs.lemmas.List.Elements.{All-contains}
 use Rattle.std.proofs.lemmas.Option.{slice_get_cases}
@@ -10,10 +10,11 @@ use Rattle.shader_expression_types.specs.Typed.{AreOfTheFirst, IsToldOf}
 use Rattle.shader_expression_types.proofs.ListLemmas.{at_place}
 use Rattle.shader_ir.specs.Key.{FitsTypes}
 use Rattle.shader_resolve.proofs.AskedLemmas.{asked, each-asked}
+use Rattle.shader_resolve.proofs.MemoryLemmas.{for_type}
 use Rattle.shader_resolve.specs.declared.error.ResolveError.{ResolveError}
 use Rattle.shader_resolve.specs.Context.{Context}
 use Rattle.shader_resolve.specs.Follows.{Told, Follows, Answered, EachAsked, FitsTold}
-use Rattle.shader_resolve.specs.Outcome.{Outcome, Given, Refused, Refusal, Meets}
+use Rattle.shader_resolve.specs.Outcome.{Given, Meets, Memory, Outcome, Refusal, Refused}
 use Rattle.shader_resolve.specs.Rows.{Row, Plain, One, Two, row}
 use Rattle.shader_resolve.specs.WellFormed.{OperandsBelow}
 
@@ -29,14 +30,14 @@ module _ (context : Context) (expressions : List Expression) (types : List TypeR
     at (inl found) = (found.0, found.2, first e found.0 found.2)
     at (inr past) = absurd (omega (arith, past.0))
 
-  module _ (e : ℕ) (x : Expression) (is : slice_get expressions e ≡ Some x) (below : OperandsBelow (length types) x) (memory : Bool) where
+  module _ (e : ℕ) (x : Expression) (is : slice_get expressions e ≡ Some x) (below : OperandsBelow (length types) x) (memory : Memory) where
     -- what meets the answer of the row is told of the expression
     concluded : (result : Result TypeResolution ResolveError) (outcome : Outcome) → Answers context expressions e outcome →
         Meets memory result outcome →
         IsToldOf context expressions e memory result
     concluded (Ok resolution) (Given g) answers meets = given answers (ap Given (sym meets))
     concluded (Ok resolution) (Refused refusal) answers meets = absurd meets
-    concluded (Err failure) (Given g) answers meets = inr meets
+    concluded (Err failure) (Given g) answers meets = inr (for_type memory failure meets)
     concluded (Err failure) (Refused refusal) answers (inl same) =
         let P : Refusal → Type 0 = λ r. Answers context expressions e (Refused r) in
         inl (record {

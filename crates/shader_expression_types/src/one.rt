@@ -5,7 +5,7 @@ ghost use Rattle.shader_expression_types.specs.Typed.{AreOfTheFirst, IsToldOf};
 ghost use Rattle.shader_ir.specs.Key.{FitsTypes};
 ghost use Rattle.shader_ir.specs.TypeTree.{IsBackward};
 ghost use Rattle.shader_resolve.specs.Context.{IsInRange, TypesInRange};
-ghost use Rattle.shader_resolve.specs.Follows.{takes_memory};
+ghost use Rattle.shader_resolve.specs.Follows.{memory_of};
 ghost use Rattle.shader_resolve.specs.WellFormed.{OperandsBelow};
 
 use shader_arena::Handle;
@@ -31,7 +31,7 @@ pub fn type_of<'a>(
     requires fit { All (FitsTypes context.now.types) types.now }
     ensures told { (expressions : List Expression) → slice_get expressions (length types.now) ≡ Some expression.now →
         AreOfTheFirst context.now expressions types.now → IsToldOf context.now expressions (length types.now)
-        (takes_memory expression.now) result }
+        (memory_of expression.now) result }
     ensures fits { TypesInRange context.now → IfOk result (λ resolution. FitsTypes context.now.types resolution) }
 {
     context.resolve(

@@ -49,8 +49,7 @@ use Rattle.shader_resolve.proofs.BuiltinLemmas.{first-fits}
 use Rattle.shader_resolve.specs.Builtins.{concluded, first_conclusion, ruled}
 use Rattle.shader_resolve.specs.Context.{Context}
 use Rattle.shader_resolve.specs.Images.{bool_scalar, extent, extent_type, gather_type, sample_type, texel}
-use Rattle.shader_resolve.specs.Operations.{AsLeft, AsRight, Made, NoProduct, Product, cast_type, left_type}
-use Rattle.shader_resolve.specs.Operations.{logical_type, product, product_of, product_type, test_type}
+use Rattle.shader_resolve.specs.Operations.{cast_type, left_type, logical_type, product, product_of, product_type, test_type}
 use Rattle.shader_resolve.specs.Outcome.{Given, IncompatibleOperands, InvalidAccess, InvalidSubAccess, Outcome, Refusal, Refused, at_inner}
 use Rattle.shader_resolve.specs.Part.{lifted, part, part_outcome, part_pointer, part_value, pointed_outcome}
 use Rattle.shader_resolve.specs.Rows.{One, Plain, Row, Two, argument_type, binary_row, call_type, constant_type, global_type}
@@ -59,6 +58,8 @@ use Rattle.shader_resolve.specs.Rows.{pointed_type, query_row, relational_row, r
 use Rattle.shader_resolve.specs.Rows.{splat_type, swizzle_type, tile_type, variable_type}
 use Rattle.shader_resolve.specs.declared.resolve.access.NoPart.{NoPart}
 use Rattle.shader_resolve.specs.declared.resolve.access.NoPart.TheVariants.{PastEnd, NotIndexable}
+use Rattle.shader_resolve.specs.declared.resolve.operations.Product.{Product}
+use Rattle.shader_resolve.specs.declared.resolve.operations.Product.TheVariants.{AsLeft, AsRight, Made, NoProduct}
 use Rattle.shader_resolve.specs.declared.resolve.access.Part.{Part}
 use Rattle.shader_resolve.specs.declared.resolve.access.Part.TheVariants as part_kind
 

@@ -1,5 +1,5 @@
 -- What a form asks is among its operands.
-use Rattle.std.proofs.Common.{ℕ, Option, Some, None, arith}
+use Rattle.std.proofs.Common.{ℕ, Some, None, arith}
 use Rattle.shader_ir.specs.declared.expression.Expression.TheVariants as form
 use Rattle.shader_ir.specs.declared.expression.ImageQuery.TheVariants as query
 use Rattle.shader_ir.specs.declared.operators.BinaryOperator.TheVariants as operator

@@ -1,19 +1,19 @@
 -- Results that follow a row at operands of equal keys have equal keys.
-use Rattle.std.proofs.Common.{◌≡◌, refl, ℕ, Bool, List, Result, Ok, Err}
+use Rattle.std.proofs.Common.{◌≡◌, refl, ℕ, List, Result, Ok, Err}
 use Rattle.shader_ir.specs.declared.types.«Type».{«Type»}
 use Rattle.shader_ir.specs.declared.proc.type_resolution.TypeResolution.{TypeResolution}
 use Rattle.shader_ir.specs.Key.{key_of}
 use Rattle.shader_resolve.specs.declared.error.ResolveError.{ResolveError}
 use Rattle.shader_resolve.specs.CongruenceLaws.{AreAlike, AreToldAlike, KeysRestOnKeys, Respects}
 use Rattle.shader_resolve.specs.CongruenceLaws.{ResultsAreAlike, RowsRespectKeys, TellAlike}
-use Rattle.shader_resolve.specs.Follows.{Answered, Follows, Told, takes_memory}
-use Rattle.shader_resolve.specs.Outcome.{Given, Meets, Outcome, Refused}
+use Rattle.shader_resolve.specs.Follows.{Answered, Follows, Told, memory_of}
+use Rattle.shader_resolve.specs.Outcome.{Given, Meets, Memory, Outcome, Refused}
 use Rattle.shader_resolve.specs.Rows.{One, Plain, Row, Two, row}
 use Rattle.shader_resolve.specs.Typing.{outcome_key}
 use Rattle.shader_resolve.proofs.FollowLemmas.{row_key-agrees}
 use Rattle.shader_resolve.proofs.RowLemmas.{row-respects}
 
-module _ (types : List «Type») (memory : Bool) where
+module _ (types : List «Type») (memory : Memory) where
   meets-alike : (result other : Result TypeResolution ResolveError) (first second : Outcome) →
       outcome_key types first ≡ outcome_key types second
       → Meets memory result first → Meets memory other second → AreAlike types memory result other
@@ -63,5 +63,5 @@ rows-respect context expression = row-respects context expression
 
 pub results-alike : (Post Other : ℕ → Told → Type 0) → ResultsAreAlike Post Other
 results-alike Post Other context expression result other tells met meets =
-    follows-alike context.types (takes_memory expression) Post Other result other (row context expression) (row-respects context expression)
+    follows-alike context.types (memory_of expression) Post Other result other (row context expression) (row-respects context expression)
     tells met meets

@@ -1,5 +1,5 @@
 -- The contexts of a well-formed module.
-use Rattle.std.proofs.Common.{ℕ, ◌<◌, List, [], IfSome, All, get_or}
+use Rattle.std.proofs.Common.{List, [], All, get_or}
 use Rattle.std.proofs.lemmas.List.Elements.{All-nil, All-weaker}
 use Rattle.shader_ir.specs.declared.expression.Expression.{Expression}
 use Rattle.shader_ir.specs.declared.expression.Expression.TheVariants as form

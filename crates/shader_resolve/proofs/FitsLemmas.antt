@@ -48,10 +48,12 @@ use Rattle.shader_resolve.specs.declared.resolve.access.NoPart.TheVariants.{Past
 use Rattle.shader_resolve.specs.Context.{Context, IsInRange, IsResultType, IsType, TypesInRange}
 use Rattle.shader_resolve.specs.Follows.{Told, Follows, EachAsked, FitsTold}
 use Rattle.shader_resolve.specs.Images.{bool_scalar, texel, extent, gather_type, sample_type, extent_type}
-use Rattle.shader_resolve.specs.Operations.{test_type, logical_type, Product, AsLeft, AsRight, Made, NoProduct}
+use Rattle.shader_resolve.specs.Operations.{test_type, logical_type}
+use Rattle.shader_resolve.specs.declared.resolve.operations.Product.{Product}
+use Rattle.shader_resolve.specs.declared.resolve.operations.Product.TheVariants.{AsLeft, AsRight, Made, NoProduct}
 use Rattle.shader_resolve.specs.Operations.{product_of, product_type, cast_type, product, left_type}
 use Rattle.shader_resolve.specs.Outcome.{Refusal, IncompatibleOperands, InvalidAccess, InvalidSubAccess}
-use Rattle.shader_resolve.specs.Outcome.{Outcome, Given, Refused, Meets, at_inner}
+use Rattle.shader_resolve.specs.Outcome.{Given, Meets, Memory, Outcome, Refused, at_inner}
 use Rattle.shader_resolve.specs.Part.{checked, member_part, indexed_member, part, part_value}
 use Rattle.shader_resolve.specs.Part.{part_pointer, part_outcome, pointed_outcome, lifted}
 use Rattle.shader_resolve.specs.Rows.{Row, Plain, One, Two, constant_type, override_type, argument_type, variable_type}
@@ -333,7 +335,7 @@ module _ (types : List «Type») where
   special-fits (Some ty) lt = lt
   special-fits None lt = tt
 
-  meets-fits : (memory : Bool) (result : Result TypeResolution ResolveError) (outcome : Outcome) → OutcomeFits outcome →
+  meets-fits : (memory : Memory) (result : Result TypeResolution ResolveError) (outcome : Outcome) → OutcomeFits outcome →
       Meets memory result outcome → IfOk result (λ resolution. FitsTypes types resolution)
   meets-fits memory (Ok resolution) (Given given) fits meets = subst (λ told. FitsTypes types told) (sym meets) fits
   meets-fits memory (Ok resolution) (Refused refusal) fits meets = absurd meets
@@ -344,7 +346,7 @@ module _ (types : List «Type») where
   failed result failure is = subst (λ answer. IfOk answer (λ resolution. FitsTypes types resolution)) (sym is) tt
 
   -- a result that follows such a row is in the arena
-  pub follows-fits : (memory : Bool) (Post : ℕ → Told → Type 0) (result : Result TypeResolution ResolveError)
+  pub follows-fits : (memory : Memory) (Post : ℕ → Told → Type 0) (result : Result TypeResolution ResolveError)
       → (asked : Row) → EachAsked (λ operand. (told : Told) → Post operand told → FitsTold types told) asked → RowFits asked →
       Follows memory Post result asked → IfOk result (λ resolution. FitsTypes types resolution)
   follows-fits memory Post result (Plain outcome) told_fits fits follows = meets-fits memory result outcome fits follows

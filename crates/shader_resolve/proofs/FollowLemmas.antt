@@ -1,15 +1,15 @@
 -- A result that follows a row has the row's key.
-use Rattle.std.proofs.Common.{◌≡◌, ◌∙◌, ap, sym, refl, subst, ℕ, Bool, true, false, List, Option, Some, None, Result, Ok, Err, inl, inr}
+use Rattle.std.proofs.Common.{◌≡◌, ◌∙◌, ap, sym, refl, subst, ℕ, List, Option, Some, None, Result, Ok, Err, inl, inr}
 use Rattle.shader_ir.specs.declared.proc.type_resolution.TypeResolution.{TypeResolution}
 use Rattle.shader_ir.specs.Key.{Key, key_of}
 use Rattle.shader_resolve.specs.declared.error.ResolveError.{ResolveError}
-use Rattle.shader_resolve.specs.declared.error.ResolveError.TheVariants.{OutOfMemory}
 use Rattle.shader_ir.specs.declared.expression.Expression.{Expression}
 use Rattle.shader_resolve.specs.Context.{Context}
 use Rattle.shader_resolve.specs.Follows.{Told, Answered, Follows, EachAsked, MeetsPlain}
-use Rattle.shader_resolve.specs.Outcome.{Outcome, Given, Refused, Meets, WantsMemory}
+use Rattle.shader_resolve.specs.Outcome.{Given, Meets, Memory, Outcome, Refused}
 use Rattle.shader_resolve.specs.Rows.{Row, Plain, One, Two, row}
 use Rattle.shader_resolve.specs.Typing.{told_key, standing, at_key, outcome_key, row_key, TellsKeys, HasKey, typing}
+use Rattle.shader_resolve.proofs.MemoryLemmas.{for_type, wanted}
 use Rattle.shader_resolve.proofs.RowLemmas.{Respects, row-respects}
 use Rattle.shader_resolve.proofs.TypingLemmas.{key_of-standing}
 use Rattle.shader_ir.specs.declared.types.«Type».{«Type»}
@@ -24,7 +24,7 @@ row_key-agrees types (Two left right answer) keys others same =
     ∙ ap (λ key. at_key (others left) (λ first. at_key key (λ second. outcome_key types (answer first second)))) same.1
 
 -- a result that meets a row that asks nothing follows it
-pub plain_follows : (memory : Bool) (Post : ℕ → Told → Type 0) (result : Result TypeResolution ResolveError) (asked : Row) →
+pub plain_follows : (memory : Memory) (Post : ℕ → Told → Type 0) (result : Result TypeResolution ResolveError) (asked : Row) →
     MeetsPlain memory result asked → Follows memory Post result asked
 plain_follows memory Post result (Plain outcome) meets = meets
 plain_follows memory Post result (One operand answer) meets = absurd meets
@@ -35,17 +35,12 @@ at_key-same : (key : Option Key) (first second : TypeResolution → Option Key) 
 at_key-same (Some key) first second same = same (standing key)
 at_key-same None first second same = refl
 
--- memory that is wanted is the one error beside a row's refusals
-wanted : (memory : Bool) (failure : ResolveError) → WantsMemory memory failure → failure ≡ OutOfMemory
-wanted true failure wants = wants
-wanted false failure wants = absurd wants
-
-module _ (memory : Bool) (types : List «Type») where
+module _ (memory : Memory) (types : List «Type») where
   meets-key : (result : Result TypeResolution ResolveError) (outcome : Outcome) → Meets memory result outcome →
       HasKey types result (outcome_key types outcome)
   meets-key (Ok resolution) (Given given) meets = ap (λ told. Some (key_of types told)) (sym meets)
   meets-key (Ok resolution) (Refused refusal) meets = absurd meets
-  meets-key (Err failure) (Given given) meets = inr (wanted memory failure meets)
+  meets-key (Err failure) (Given given) meets = inr (wanted memory failure (for_type memory failure meets))
   meets-key (Err failure) (Refused refusal) meets = inl refl
 
   failed : (result : Result TypeResolution ResolveError) (failure : ResolveError) → result ≡ Err failure → HasKey types result None
@@ -86,7 +81,7 @@ module _ (memory : Bool) (types : List «Type») where
         (λ second third same. respects first.now first.now second third refl same) follows)
 
 -- the result of an expression has the key that the expression has by the keys of its operands
-pub resolved-key : (context : Context) (expression : Expression) (memory : Bool) (Post : ℕ → Told →
+pub resolved-key : (context : Context) (expression : Expression) (memory : Memory) (Post : ℕ → Told →
     Type 0) (result : Result TypeResolution ResolveError)
     → Follows memory Post result (row context expression)
     → (keys : ℕ → Option Key) → TellsKeys context.types Post keys (row context expression) →

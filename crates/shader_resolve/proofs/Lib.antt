@@ -3,12 +3,14 @@ pub mod BelowLemmas
 pub mod BodyLemmas
 pub mod BuiltinLemmas
 pub mod CongruenceLemmas
+pub mod CopyLemmas
 pub mod ContextLemmas
 pub mod FaultyPlaceLemmas
 pub mod FitsLemmas
 pub mod FollowLemmas
 pub mod Joined
 pub mod KeyLemmas
+pub mod MemoryLemmas
 pub mod ModuleLemmas
 pub mod NestingLemmas
 pub mod NumberLemmas

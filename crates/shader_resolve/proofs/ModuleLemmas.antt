@@ -25,7 +25,7 @@ use Rattle.shader_resolve.specs.ModuleTests.{check_filter, check_function, check
 use Rattle.shader_resolve.specs.ModuleTests.{guard, in_arena, in_body, in_entries, in_list, passed, then}
 use Rattle.shader_resolve.specs.Statements.{statement_callee}
 use Rattle.shader_resolve.specs.WellFormed.{AtEach, CalleesBelow, CountMatches, EmitsBelow, ExpressionInRange, FunctionInRange}
-use Rattle.shader_resolve.specs.WellFormed.{IsEarlier, IsNoPointerArgument, IsType, IsWellFormed, Lacks, OperandsBelow}
+use Rattle.shader_resolve.specs.WellFormed.{IsEarlier, IsNoValuePointerArgument, IsType, IsWellFormed, Lacks, OperandsBelow}
 use Rattle.shader_resolve.specs.WellFormed.{Stands, StatementInRange, TypeInRange, expression_callee}
 use Rattle.shader_resolve.specs.declared.well_formed.ModuleFault.{ModuleFault}
 use Rattle.shader_resolve.specs.declared.well_formed.ModuleFault.TheVariants.{HandleOutOfRange, TypeNotEarlier, OperandNotEarlier}
@@ -201,10 +201,10 @@ module _ (checked : Module) where
 
   abbrev pub ArgumentFacts : FunctionArgument → ModuleFault → Type 0
   ArgumentFacts argument HandleOutOfRange = IsType checked argument.ty
-  ArgumentFacts argument ValuePointerArgument = IsNoPointerArgument checked argument
+  ArgumentFacts argument ValuePointerArgument = IsNoValuePointerArgument checked argument
   ArgumentFacts argument _ = Unit {0}
 
-  argument-facts : (argument : FunctionArgument) → IsType checked argument.ty → IsNoPointerArgument checked argument →
+  argument-facts : (argument : FunctionArgument) → IsType checked argument.ty → IsNoValuePointerArgument checked argument →
       (fault : ModuleFault) → ArgumentFacts argument fault
   argument-facts argument range pointer HandleOutOfRange = range
   argument-facts argument range pointer ValuePointerArgument = pointer
@@ -256,7 +256,7 @@ module _ (checked : Module) where
     FunctionFacts OperandNotEarlier = AtEach OperandsBelow function.expressions
     FunctionFacts CalleeNotEarlier = CalleesBelow checked earlier function
     FunctionFacts ArgumentCount = All (CountMatches checked) (statements function.body)
-    FunctionFacts ValuePointerArgument = All (IsNoPointerArgument checked) function.arguments
+    FunctionFacts ValuePointerArgument = All (IsNoValuePointerArgument checked) function.arguments
     FunctionFacts EmitRange = All (EmitsBelow (length function.expressions)) (statements function.body)
     FunctionFacts _ = Unit {0}
 

@@ -1,5 +1,5 @@
 -- Where known numbers and sizes are looked for.
-use Rattle.std.proofs.Common.{◌≡◌, sym, subst, ℕ, zero, suc, ◌+◌, ◌<◌, List, [], ◌∷◌, Option}
+use Rattle.std.proofs.Common.{sym, subst, ℕ, zero, suc, ◌<◌, List, [], ◌∷◌, Option}
 use Rattle.std.proofs.Common.{Some, None, IfSome, All, length, slice_get, arith}
 use Rattle.std.specs.Option.{IsSomeAnd}
 use Rattle.std.proofs.lemmas.List.Elements.{All-head, All-tail, All-weaker}

@@ -1,5 +1,5 @@
 -- Facts of all items, and of the item at each place.
-use Rattle.std.proofs.Common.{ℕ, List, All, get_or}
+use Rattle.std.proofs.Common.{List, All, get_or}
 use Rattle.std.proofs.lemmas.Option.{slice_get-get_or}
 use Rattle.shader_resolve.specs.WellFormed.{AtEach}
 use Rattle.shader_resolve.proofs.KeyLemmas.{at_place}

@@ -32,8 +32,9 @@ use Rattle.shader_resolve.specs.Context.{Context}
 use Rattle.shader_resolve.specs.Outcome.{Refusal, Outcome, Given, at_inner, at_shape}
 use Rattle.shader_resolve.specs.Part.{part, part_outcome, part_pointer, pointed_outcome, lifted}
 use Rattle.shader_resolve.specs.Images.{gather_type, sample_type, extent_type}
-use Rattle.shader_resolve.specs.Operations.{test_type, logical_type, cast_type, Product, AsLeft, AsRight}
-use Rattle.shader_resolve.specs.Operations.{Made, NoProduct, product_of, product_type, product}
+use Rattle.shader_resolve.specs.Operations.{test_type, logical_type, cast_type, product_of, product_type, product}
+use Rattle.shader_resolve.specs.declared.resolve.operations.Product.{Product}
+use Rattle.shader_resolve.specs.declared.resolve.operations.Product.TheVariants.{AsLeft, AsRight, Made, NoProduct}
 use Rattle.shader_resolve.specs.Rows.{One, Two, splat_type, swizzle_type, pointed_type, load_type, found_scalar, matrix_type}
 use Rattle.shader_resolve.specs.Rows.{tile_type, on_shape, binary_row, relational_row, sample_row, query_row, math_row, row}
 use Rattle.shader_resolve.specs.Typing.{outcome_key}

@@ -1,9 +1,9 @@
 -- What the tests of a module's parts decide.
-use Rattle.std.proofs.Common.{◌≡◌, ap, refl, ℕ, ◌+◌, ◌<◌, Bool, true, ◌&&◌, not, List, [], ◌∷◌}
+use Rattle.std.proofs.Common.{◌≡◌, ap, refl, ℕ, ◌+◌, ◌<◌, Bool, ◌&&◌, not, List, [], ◌∷◌}
 use Rattle.std.proofs.Common.{Option, Some, None, IfSome, All, length, slice_get, nat_lt}
 use Rattle.std.specs.Bool.{Decides}
 use Rattle.std.specs.List.{list_all, enumerate_from}
-use Rattle.std.proofs.lemmas.Bool.Decides.{Decides-and, Decides-at, Decides-by_and, Decides-eqb, Decides-ltb, Decides-not}
+use Rattle.std.proofs.lemmas.Bool.Decides.{Decides-and, Decides-at, Decides-by_and, Decides-eqb, Decides-ltb}
 use Rattle.shader_arena.specs.Places.{places_between}
 use Rattle.shader_ir.specs.Body.{Emit, Call, Step, Leaf}
 use Rattle.shader_ir.specs.Operands.{expression_operands, statement_operands}
@@ -31,9 +31,9 @@ use Rattle.shader_resolve.specs.ModuleTests.{global_in_range, is_below, is_emitt
 use Rattle.shader_resolve.specs.ModuleTests.{names_in_range, operands_below, override_in_range, result_in_range, special_in_range}
 use Rattle.shader_resolve.specs.ModuleTests.{statement_in_range, takes, variables_in_range}
 use Rattle.shader_resolve.specs.Statements.{statement_callee, statement_result}
-use Rattle.shader_resolve.specs.WellFormed.{AllBelow, expression_callee, sizing_override, ConstantInRange, CountMatches}
-use Rattle.shader_resolve.specs.WellFormed.{EmitsBelow, ExpressionInRange, GlobalInRange, IsEarlier, IsNoPointerArgument}
-use Rattle.shader_resolve.specs.WellFormed.{IsNoValuePointer, IsType, LocalInRange, OperandsBelow, OverrideInRange}
+use Rattle.shader_resolve.specs.WellFormed.{AllBelow, sizing_override, ConstantInRange, CountMatches}
+use Rattle.shader_resolve.specs.WellFormed.{EmitsBelow, ExpressionInRange, GlobalInRange, IsEarlier, IsNoValuePointerArgument}
+use Rattle.shader_resolve.specs.WellFormed.{IsNoValuePointer, IsType, LocalInRange, OverrideInRange}
 use Rattle.shader_resolve.specs.WellFormed.{SpecialTypesInRange, StatementInRange, TypeInRange}
 
 -- a test decides what follows from what it decides, both ways
@@ -85,7 +85,7 @@ takes-decides None count = (λ e. tt, λ any. refl)
 
 module _ (checked : Module) where
   pub argument-decides : (argument : FunctionArgument) → Decides (not (is_pointer_type (slice_get checked.types argument.ty)))
-      (IsNoPointerArgument checked argument)
+      (IsNoValuePointerArgument checked argument)
   argument-decides argument = pointer_type-decides (slice_get checked.types argument.ty)
 
   pub counts-decide : (step : Step) → Decides (counts_match checked step) (CountMatches checked step)

@@ -1,13 +1,13 @@
 -- Equal types of operands give equal types.
-use Rattle.std.specs.Prelude.{ℕ, Bool, ◌≡◌, List, Option, Result, Ok, Err}
+use Rattle.std.specs.Prelude.{ℕ, ◌≡◌, List, Option, Result, Ok, Err}
 use Rattle.shader_ir.specs.declared.expression.Expression.{Expression}
 use Rattle.shader_ir.specs.declared.types.«Type».{«Type»}
 use Rattle.shader_ir.specs.declared.proc.type_resolution.TypeResolution.{TypeResolution}
 use Rattle.shader_ir.specs.Key.{Key, key_of}
 use Rattle.shader_resolve.specs.declared.error.ResolveError.{ResolveError}
 use Rattle.shader_resolve.specs.Context.{Context}
-use Rattle.shader_resolve.specs.Follows.{Told, EachAsked, Follows, takes_memory}
-use Rattle.shader_resolve.specs.Outcome.{WantsMemory}
+use Rattle.shader_resolve.specs.Follows.{Told, EachAsked, Follows, memory_of}
+use Rattle.shader_resolve.specs.Outcome.{Memory, WantsForType}
 use Rattle.shader_resolve.specs.Rows.{Row, Plain, One, Two, row}
 use Rattle.shader_resolve.specs.Typing.{outcome_key, typing}
 
@@ -32,12 +32,12 @@ module _ (types : List «Type») where
   TellAlike Post Other asked = EachAsked (λ operand. (told other : Told) → Post operand told → Other operand other →
       AreToldAlike told other) asked
 
-  -- both are of equal keys, or both are errors; one alone is an error where memory is taken and ran out
-  abbrev pub AreAlike : Bool → Result TypeResolution ResolveError → Result TypeResolution ResolveError → Type 0
+  -- both are of equal keys, or both are errors; one alone is an error where memory is taken for the type and ran out
+  abbrev pub AreAlike : Memory → Result TypeResolution ResolveError → Result TypeResolution ResolveError → Type 0
   AreAlike memory (Ok first) (Ok second) = key_of types first ≡ key_of types second
   AreAlike memory (Err failure) (Err other) = Unit {0}
-  AreAlike memory (Ok resolution) (Err failure) = WantsMemory memory failure
-  AreAlike memory (Err failure) (Ok resolution) = WantsMemory memory failure
+  AreAlike memory (Ok resolution) (Err failure) = WantsForType memory failure
+  AreAlike memory (Err failure) (Ok resolution) = WantsForType memory failure
 
 -- equal keys at the operands that are asked give an equal key, or none under both
 abbrev pub KeysRestOnKeys : Type 0
@@ -55,6 +55,6 @@ abbrev pub ResultsAreAlike : (Post Other : ℕ → Told → Type 0) → Type 0
 ResultsAreAlike Post Other =
     (context : Context) (expression : Expression) (result other : Result TypeResolution ResolveError)
     → TellAlike context.types Post Other (row context expression)
-    → Follows (takes_memory expression) Post result (row context expression) →
-    Follows (takes_memory expression) Other other (row context expression)
-    → AreAlike context.types (takes_memory expression) result other
+    → Follows (memory_of expression) Post result (row context expression) →
+    Follows (memory_of expression) Other other (row context expression)
+    → AreAlike context.types (memory_of expression) result other

@@ -17,7 +17,7 @@ use Rattle.shader_ir.specs.declared.types.«Type».{«Type»}
 use Rattle.shader_resolve.specs.Context.{context_of}
 use Rattle.shader_resolve.specs.Statements.{statement_callee}
 use Rattle.shader_resolve.specs.WellFormed.{ConstantInRange, CountMatches, EmitsBelow, ExpressionInRange, GlobalInRange}
-use Rattle.shader_resolve.specs.WellFormed.{IsEarlier, IsNoPointerArgument, IsType, LocalInRange, OperandsBelow, OverrideInRange}
+use Rattle.shader_resolve.specs.WellFormed.{IsEarlier, IsNoValuePointerArgument, IsType, LocalInRange, OperandsBelow, OverrideInRange}
 use Rattle.shader_resolve.specs.WellFormed.{SpecialTypesInRange, StatementInRange, TypeInRange, expression_callee}
 use Rattle.shader_resolve.specs.declared.well_formed.ModuleFault.{ModuleFault}
 use Rattle.shader_resolve.specs.declared.well_formed.ModuleFault.TheVariants.{HandleOutOfRange, TypeNotEarlier, OperandNotEarlier}
@@ -103,7 +103,7 @@ module _ (checked : Module) where
 
   abbrev pub DeclarationsLack : Function → ModuleFault → Type 0
   DeclarationsLack function HandleOutOfRange = DeclarationsInRange function
-  DeclarationsLack function ValuePointerArgument = All (IsNoPointerArgument checked) function.arguments
+  DeclarationsLack function ValuePointerArgument = All (IsNoValuePointerArgument checked) function.arguments
   DeclarationsLack function _ = Unit {0}
 
   abbrev pub StatementLacks : (earlier : ℕ) → Function → Step → ModuleFault → Type 0

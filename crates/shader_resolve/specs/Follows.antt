@@ -1,32 +1,43 @@
 -- When a result follows a row, at what its operands are told to be.
 use denote.Ref.{Bor}
-use Rattle.std.specs.Prelude.{Bool, true, false, Option, Some, None, ℕ, ◌≡◌, List, Result, Err, IfOk, MatchResult}
+use Rattle.std.specs.Prelude.{Option, Some, None, ℕ, ◌≡◌, List, Result, Err, IfOk, MatchResult}
 use Rattle.shader_ir.specs.declared.expression.Expression.{Expression}
 use Rattle.shader_ir.specs.declared.expression.Expression.TheVariants as form
+use Rattle.shader_ir.specs.declared.operators.BinaryOperator.{BinaryOperator}
+use Rattle.shader_ir.specs.declared.operators.BinaryOperator.TheVariants as operator
 use Rattle.shader_ir.specs.declared.operators.RelationalFunction.TheVariants as relational
 use Rattle.shader_ir.specs.declared.types.«Type».{«Type»}
 use Rattle.shader_ir.specs.declared.proc.type_resolution.TypeResolution.{TypeResolution}
 use Rattle.shader_ir.specs.Key.{FitsTypes}
 use Rattle.shader_resolve.specs.declared.error.ResolveError.{ResolveError}
-use Rattle.shader_resolve.specs.Outcome.{Meets}
+use Rattle.shader_resolve.specs.Outcome.{ForNothing, ForRules, ForWords, Meets, Memory}
 use Rattle.shader_resolve.specs.Rows.{Row, Plain, One, Two}
 
 -- what a closure answers of an operand
 abbrev pub Told : Type 0
 Told = Result (Bor TypeResolution) ResolveError
 
--- the forms that copy an operand's type, ask for the rules of a builtin or name an operation in their refusal; no other takes memory
-abbrev pub takes_memory : Expression → Bool
-takes_memory (form.Unary op expr) = true
-takes_memory (form.Binary op left right) = true
-takes_memory (form.Select condition accept reject) = true
-takes_memory (form.Derivative axis ctrl expr) = true
-takes_memory (form.Relational relational.IsNan argument) = true
-takes_memory (form.Relational relational.IsInf argument) = true
-takes_memory (form.Math fun arg arg1 arg2 arg3) = true
-takes_memory (form.As expr kind convert) = true
-takes_memory (form.CooperativeMultiplyAdd a b c) = true
-takes_memory _ = false
+-- what a binary operation takes memory for: those whose operands may not go together name themselves in their refusal
+abbrev pub memory_of_binary : BinaryOperator → Memory
+memory_of_binary operator.Multiply = ForWords
+memory_of_binary operator.Equal = ForWords
+memory_of_binary operator.NotEqual = ForWords
+memory_of_binary operator.Less = ForWords
+memory_of_binary operator.LessEqual = ForWords
+memory_of_binary operator.Greater = ForWords
+memory_of_binary operator.GreaterEqual = ForWords
+memory_of_binary operator.LogicalAnd = ForWords
+memory_of_binary operator.LogicalOr = ForWords
+memory_of_binary _ = ForNothing
+
+-- what a form takes memory for
+abbrev pub memory_of : Expression → Memory
+memory_of (form.Binary op left right) = memory_of_binary op
+memory_of (form.Relational relational.IsNan argument) = ForWords
+memory_of (form.Relational relational.IsInf argument) = ForWords
+memory_of (form.Math fun arg arg1 arg2 arg3) = ForRules
+memory_of (form.As expr kind convert) = ForWords
+memory_of _ = ForNothing
 
 module _ (Post : ℕ → Told → Type 0) (result : Result TypeResolution ResolveError) where
   -- the operand is told to be a type from which the rest follows, or an error, which is the result
@@ -35,7 +46,7 @@ module _ (Post : ℕ → Told → Type 0) (result : Result TypeResolution Resolv
       MatchResult told (λ resolution. Rest resolution.now) (λ failure. result ≡ Err failure)
 
 -- the result is what the row answers, or the first error of an operand; or, where some is taken, memory ran out
-abbrev pub Follows : Bool → (ℕ → Told → Type 0) → Result TypeResolution ResolveError → Row → Type 0
+abbrev pub Follows : Memory → (ℕ → Told → Type 0) → Result TypeResolution ResolveError → Row → Type 0
 Follows memory Post result (Plain outcome) = Meets memory result outcome
 Follows memory Post result (One operand answer) = Answered Post result operand (λ resolution. Meets memory result (answer resolution))
 Follows memory Post result (Two left right answer) =
@@ -80,7 +91,7 @@ IsOperation (form.CooperativeMultiplyAdd a b c) = Unit {0}
 IsOperation _ = ⊥
 
 -- the result meets a row that asks nothing
-abbrev pub MeetsPlain : Bool → Result TypeResolution ResolveError → Row → Type 0
+abbrev pub MeetsPlain : Memory → Result TypeResolution ResolveError → Row → Type 0
 MeetsPlain memory result (Plain outcome) = Meets memory result outcome
 MeetsPlain memory result _ = ⊥
 
@@ -107,5 +118,5 @@ IsAsking _ = ⊥
 
 -- the answer meets a row that asks nothing, and is none for a form of the groups that ask alone
 abbrev pub IsLeafAnswer : Option (Result TypeResolution ResolveError) → Expression → Row → Type 0
-IsLeafAnswer (Some result) expression asked = MeetsPlain (takes_memory expression) result asked
+IsLeafAnswer (Some result) expression asked = MeetsPlain (memory_of expression) result asked
 IsLeafAnswer None expression asked = IsAsking expression

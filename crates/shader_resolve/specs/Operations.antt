@@ -11,6 +11,8 @@ use Rattle.shader_ir.specs.declared.types.TypeInner.TheVariants as type
 use Rattle.shader_ir.specs.declared.proc.type_resolution.TypeResolution.{TypeResolution}
 use Rattle.shader_ir.specs.declared.proc.type_resolution.TypeResolution.TheVariants.{Value}
 use Rattle.shader_ir.specs.Scalars.{scalar}
+use Rattle.shader_resolve.specs.declared.resolve.operations.Product.{Product}
+use Rattle.shader_resolve.specs.declared.resolve.operations.Product.TheVariants.{AsLeft, AsRight, Made, NoProduct}
 use Rattle.shader_resolve.specs.Images.{bool_scalar}
 use Rattle.shader_resolve.specs.Outcome.{IncompatibleOperands, Outcome, Given, Refused, at_shape}
 
@@ -31,12 +33,6 @@ logical_type (type.Scalar scalar) =
 logical_type _ = Refused IncompatibleOperands
 
 -- the type of a product: that of a side, or a new one
-pub data Product : Type 0 where
-  AsLeft : Product
-  AsRight : Product
-  Made : TypeInner → Product
-  NoProduct : Product
-
 abbrev pub product_of : TypeInner → TypeInner → Product
 product_of (type.Matrix columns rows scalar) (type.Matrix right_columns right_rows right_scalar) =
     Made (type.Matrix right_columns rows scalar)

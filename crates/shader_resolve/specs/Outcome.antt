@@ -1,5 +1,5 @@
 -- What a row of the table answers, and when a result meets it.
-use Rattle.std.specs.Prelude.{ℕ, Bool, true, false, ◌≡◌, ◌⊎◌, Option, Some, None, Result, Ok, Err, List, [], string_bytes}
+use Rattle.std.specs.Prelude.{ℕ, Bool, ◌≡◌, ◌⊎◌, Option, Some, None, Result, Ok, Err, List, [], string_bytes}
 use Rattle.shader_ir.specs.declared.types.«Type».{«Type»}
 use Rattle.shader_ir.specs.declared.types.TypeInner.{TypeInner}
 use Rattle.shader_ir.specs.declared.proc.type_resolution.TypeResolution.{TypeResolution}
@@ -69,12 +69,25 @@ at_inner None answer = Refused NoSuchHandle
 abbrev pub at_shape : List «Type» → TypeResolution → (TypeInner → Outcome) → Outcome
 at_shape types resolution answer = at_inner (inner_of types resolution) answer
 
--- memory ran out, where some is taken
-abbrev pub WantsMemory : Bool → ResolveError → Type 0
-WantsMemory true failure = failure ≡ error.OutOfMemory
-WantsMemory false failure = ⊥
+-- what memory is taken for: nothing, the words of a refusal, or the rules of a builtin and those words
+pub data Memory : Type 0 where
+  ForNothing : Memory
+  ForWords : Memory
+  ForRules : Memory
 
-module _ (memory : Bool) where
+-- memory ran out, where some is taken
+abbrev pub WantsMemory : Memory → ResolveError → Type 0
+WantsMemory ForNothing failure = ⊥
+WantsMemory ForWords failure = failure ≡ error.OutOfMemory
+WantsMemory ForRules failure = failure ≡ error.OutOfMemory
+
+-- memory ran out before there was a type, where some is taken for that
+abbrev pub WantsForType : Memory → ResolveError → Type 0
+WantsForType ForNothing failure = ⊥
+WantsForType ForWords failure = ⊥
+WantsForType ForRules failure = failure ≡ error.OutOfMemory
+
+module _ (memory : Memory) where
   -- the error is the refusal, with some words, or says that memory ran out
   abbrev pub IsRefusal : Refusal → ResolveError → Type 0
   IsRefusal refusal failure = (refusal_of failure ≡ refusal) ⊎ WantsMemory memory failure
@@ -83,5 +96,5 @@ module _ (memory : Bool) where
   abbrev pub Meets : Result TypeResolution ResolveError → Outcome → Type 0
   Meets (Ok resolution) (Given given) = resolution ≡ given
   Meets (Ok resolution) (Refused refusal) = ⊥
-  Meets (Err failure) (Given given) = WantsMemory memory failure
+  Meets (Err failure) (Given given) = WantsForType memory failure
   Meets (Err failure) (Refused refusal) = IsRefusal refusal failure

@@ -138,8 +138,8 @@ module _ (checked : Module) where
       (λ callee. length callee.arguments ≡ length arguments)
   CountMatches _ = Unit {0}
 
-  abbrev pub IsNoPointerArgument : FunctionArgument → Type 0
-  IsNoPointerArgument argument = IfSome (slice_get checked.types argument.ty) (λ type. IsNoValuePointer type.inner)
+  abbrev pub IsNoValuePointerArgument : FunctionArgument → Type 0
+  IsNoValuePointerArgument argument = IfSome (slice_get checked.types argument.ty) (λ type. IsNoValuePointer type.inner)
 
   -- a fact of each function, which has so many earlier ones, and of each entry point, to which all functions are earlier
   pub record EachFunction (Fact : ℕ → Function → Type 0) : Type 0 where
@@ -182,7 +182,7 @@ module _ (checked : Module) where
 
   -- no function takes an argument of a ValuePointer type
   abbrev pub NoValuePointerArguments : Type 0
-  NoValuePointerArguments = EachFunction (λ earlier function. All IsNoPointerArgument function.arguments)
+  NoValuePointerArguments = EachFunction (λ earlier function. All IsNoValuePointerArgument function.arguments)
 
   -- each expression of an Emit's range is in its function
   abbrev pub EmitsInRange : Type 0

@@ -11,7 +11,7 @@ use thiserror::Error;
 /// Why an expression has no type. A handle is printed as its place in brackets.
 #[derive(Debug, PartialEq, Drop, Error)]
 pub enum ResolveError {
-    /// A known index is past the components, members or elements of the base `expr`.
+    /// A known index is past the components of a vector, the columns of a matrix or the members of a struct, which is the base `expr`.
     #[error("Index {index} is out of bounds for expression {expr:?}")]
     OutOfBoundsIndex {
         expr: Handle<mark::Expression>,
@@ -35,10 +35,10 @@ pub enum ResolveError {
     /// What a `Swizzle` takes components of is no vector.
     #[error("Invalid vector {0:?}")]
     InvalidVector(Handle<mark::Expression>),
-    /// What is loaded through is no pointer.
+    /// What is loaded through is no pointer, or of a cooperative matrix a pointer to what has no scalar.
     #[error("Invalid pointer {0:?}")]
     InvalidPointer(Handle<mark::Expression>),
-    /// What is sampled, loaded from or asked is no image of the needed kind.
+    /// What is sampled, loaded from or asked for its size is no image.
     #[error("Invalid image {0:?}")]
     InvalidImage(Handle<mark::Expression>),
     /// For front ends, which look up functions by name; `resolve` never returns it.

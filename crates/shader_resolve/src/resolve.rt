@@ -22,20 +22,21 @@ use values::{copied, scalar_type};
 type Resolved = Result<TypeResolution, ResolveError>;
 
 impl<'a> ResolveContext<'a> {
-    ghost use Rattle.std.specs.Prelude.{◌≡◌, ℕ, Option, length, Some, IfOk, true};
+    ghost use Rattle.std.specs.Prelude.{◌≡◌, ℕ, Option, length, Some, IfOk};
     ghost use Rattle.shader_ir.specs.Key.{Key, inner_of, FitsTypes};
     ghost use Rattle.shader_ir.specs.TypeTree.{IsBackward, PointsBelow};
     ghost use Rattle.shader_resolve.specs.Context.{IsInRange, TypesInRange};
     ghost use Rattle.shader_resolve.specs.Rows.{math_row, row};
-    ghost use Rattle.shader_resolve.specs.Follows.{EachAsked, FitsTold, Follows, IsAccessing, IsOfImage, IsOperation, takes_memory};
+    ghost use Rattle.shader_resolve.specs.Follows.{EachAsked, FitsTold, Follows, IsAccessing, IsOfImage, IsOperation, memory_of};
+    ghost use Rattle.shader_resolve.specs.Outcome.{ForRules};
     ghost use Rattle.shader_resolve.specs.Typing.{HasKey, TellsKeys, typing};
 
     /// The type of an expression, where `past` tells those of its operands. Only the operands that the type rests on are asked.
     ///
     /// # Errors
     ///
-    /// The refusal of the expression's form; an error of `past`, the first that it returns; want of memory, for the forms that copy
-    /// an operand's type, ask for the rules of a builtin or name an operation in their refusal.
+    /// The refusal of the expression's form; an error of `past`, the first that it returns; want of memory, in place of a refusal that
+    /// names an operation, and for calls of builtins, which ask for their rules.
     pub fn resolve<F>(&self, alloc: Global, expr: &Expression, past: F) -> Resolved
     where
         F: Fn(Handle<mark::Expression>) -> Result<&'a TypeResolution, ResolveError>,
@@ -44,7 +45,7 @@ impl<'a> ResolveContext<'a> {
         requires asked { EachAsked (F.pre past) (row self.now expr.now) }
         requires told_fits { EachAsked (λ operand. (told : _) → F.post past operand told →
             FitsTold self.now.types told) (row self.now expr.now) }
-        ensures follows { Follows (takes_memory expr.now) (F.post past) result (row self.now expr.now) }
+        ensures follows { Follows (memory_of expr.now) (F.post past) result (row self.now expr.now) }
         ensures key { (keys : ℕ → Option Key) → TellsKeys self.now.types (F.post past) keys (row self.now expr.now) →
             HasKey self.now.types result (typing self.now keys expr.now) }
         ensures fits { TypesInRange self.now → IfOk result (λ resolution. FitsTypes self.now.types resolution) }
@@ -61,7 +62,7 @@ impl<'a> ResolveContext<'a> {
         requires asked { EachAsked (F.pre past) (row self.now expr.now) }
         requires told_fits { EachAsked (λ operand. (told : _) → F.post past operand told →
             FitsTold self.now.types told) (row self.now expr.now) }
-        ensures { Follows (takes_memory expr.now) (F.post past) result (row self.now expr.now) }
+        ensures { Follows (memory_of expr.now) (F.post past) result (row self.now expr.now) }
     {
         match expr {
             Expression::Access { .. }
@@ -101,7 +102,7 @@ impl<'a> ResolveContext<'a> {
         requires asked { EachAsked (F.pre past) (row self.now expr.now) }
         requires told_fits { EachAsked (λ operand. (told : _) → F.post past operand told →
             FitsTold self.now.types told) (row self.now expr.now) }
-        ensures { Follows (takes_memory expr.now) (F.post past) result (row self.now expr.now) }
+        ensures { Follows (memory_of expr.now) (F.post past) result (row self.now expr.now) }
     {
         match expr {
             Expression::Access { base, .. } => {
@@ -140,7 +141,7 @@ impl<'a> ResolveContext<'a> {
         requires asked { EachAsked (F.pre past) (row self.now expr.now) }
         requires told_fits { EachAsked (λ operand. (told : _) → F.post past operand told →
             FitsTold self.now.types told) (row self.now expr.now) }
-        ensures { Follows (takes_memory expr.now) (F.post past) result (row self.now expr.now) }
+        ensures { Follows (memory_of expr.now) (F.post past) result (row self.now expr.now) }
     {
         match expr {
             Expression::ImageSample {
@@ -161,6 +162,7 @@ impl<'a> ResolveContext<'a> {
     }
 
     /// The forms that compute with their operands.
+    #[tactic(auto, using(crate::proofs::CopyLemmas::held_types))]
     fn resolve_operation<F>(&self, alloc: Global, expr: &Expression, past: F) -> Resolved
     where
         F: Fn(Handle<mark::Expression>) -> Result<&'a TypeResolution, ResolveError>,
@@ -169,7 +171,7 @@ impl<'a> ResolveContext<'a> {
         requires asked { EachAsked (F.pre past) (row self.now expr.now) }
         requires told_fits { EachAsked (λ operand. (told : _) → F.post past operand told →
             FitsTold self.now.types told) (row self.now expr.now) }
-        ensures { Follows (takes_memory expr.now) (F.post past) result (row self.now expr.now) }
+        ensures { Follows (memory_of expr.now) (F.post past) result (row self.now expr.now) }
     {
         match expr {
             Expression::Unary { expr: operand, .. }
@@ -179,7 +181,7 @@ impl<'a> ResolveContext<'a> {
                 ..
             }
             | Expression::CooperativeMultiplyAdd { c: operand, .. } => {
-                Ok(copied(alloc, past(*operand)?)?)
+                Ok(copied(alloc, past(*operand)?))
             }
             Expression::Binary {
                 op: BinaryOperator::Multiply,
@@ -218,7 +220,7 @@ impl<'a> ResolveContext<'a> {
         requires asked { EachAsked (F.pre past) (math_row self.now fun arg arg1) }
         requires told_fits { EachAsked (λ operand. (told : _) → F.post past operand told →
             FitsTold self.now.types told) (math_row self.now fun arg arg1) }
-        ensures { Follows true (F.post past) result (math_row self.now fun arg arg1) }
+        ensures { Follows ForRules (F.post past) result (math_row self.now fun arg arg1) }
     {
         match arg1 {
             None => self.math_of_one(alloc, fun, past(arg)?),

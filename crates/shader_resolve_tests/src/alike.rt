@@ -1,9 +1,10 @@
 //! What a caller has from the law that equal operand types give equal types.
-ghost use Rattle.std.specs.Prelude.{◌<◌, ◌≡◌, length, slice_get, All, IfOk, IsOkAnd, IsTrue, Some, false};
+ghost use Rattle.std.specs.Prelude.{◌<◌, ◌≡◌, length, slice_get, All, IfOk, IsOkAnd, IsTrue, Some};
 ghost use Rattle.shader_ir.specs.Key.{FitsTypes};
 ghost use Rattle.shader_ir.specs.TypeTree.{IsBackward};
 ghost use Rattle.shader_resolve.specs.Context.{TypesInRange};
 ghost use Rattle.shader_resolve.specs.CongruenceLaws.{AreAlike};
+ghost use Rattle.shader_resolve.specs.Outcome.{ForNothing};
 
 use shader_arena::{Handle, UniqueArena};
 use shader_ir::{Expression, Type, TypeResolution, compare_types, mark};
@@ -18,7 +19,7 @@ fn are_alike(types: &UniqueArena<Type, mark::Type>, first: &Resolved, second: &R
     requires backward { IsBackward types.now }
     requires first_fits { IfOk first.now (FitsTypes types.now) }
     requires second_fits { IfOk second.now (FitsTypes types.now) }
-    ensures { AreAlike types.now false first.now second.now → IsTrue result }
+    ensures { AreAlike types.now ForNothing first.now second.now → IsTrue result }
 {
     match (first, second) {
         (Ok(first), Ok(second)) => compare_types(first, second, types),

@@ -6,9 +6,8 @@ use Rattle.std.proofs.Math.Seq.{take-append_seam, take-length}
 use Rattle.std.proofs.lemmas.Option.{get_or_from_slice_get, same_Some, slice_get_within}
 use Rattle.shader_arena.specs.Unique.{IsOnlyPlaceOf, has_equal, with_item}
 use Rattle.shader_ir.proofs.TypeTreeLemmas.{weaker}
-use Rattle.shader_ir.specs.Key.{FitsTypes, HoldsNoList}
+use Rattle.shader_ir.specs.Key.{FitsTypes, HoldsNoList, IsNoStruct}
 use Rattle.shader_ir.specs.SameLaws.{type_decides}
-use Rattle.shader_ir.specs.Shapes.{HoldsNoMembers}
 use Rattle.shader_ir.specs.TypeTree.{IsBackward, PointsBelow}
 use Rattle.shader_ir.specs.contracts.types.TypePartialEq.TheImpl as type
 use Rattle.shader_ir.specs.declared.proc.type_resolution.TypeResolution.{TypeResolution}
@@ -71,7 +70,7 @@ module _ (types : List «Type») (held : List TypeResolution) (place : ℕ) (tol
     is_told : (resolution : TypeResolution) → slice_get held place ≡ Some resolution → resolution ≡ Value inner
     is_told resolution is = sym (the_same resolution is) ∙ same
 
-    pub copy_asks : (HoldsNoMembers inner → ⊥) → OnErr r AsksForMissing
+    pub copy_asks : (IsNoStruct inner → ⊥) → OnErr r AsksForMissing
     copy_asks members = on_err {P = AsksForMissing} r
         (λ resolution is none. absurd (members (subst (λ v. HoldsNoList v) (is_told resolution is) none)))
 

@@ -1,16 +1,17 @@
 -- What is resolved over a table of types is what the row answers at the types held.
-use Rattle.std.proofs.Common.{◌≡◌, refl, sym, subst, ◌∙◌, ap, ◌⊎◌, inl, inr, ◌<◌, ℕ, Bool, true, false, List, Some, Result, Ok, Err}
+use Rattle.std.proofs.Common.{◌≡◌, refl, sym, subst, ◌∙◌, ap, ◌⊎◌, inl, inr, ◌<◌, ℕ, List, Some, Result, Ok, Err}
 use Rattle.std.proofs.Common.{All, IsOkAnd, slice_get, length, option_map}
 use Rattle.std.proofs.lemmas.Option.{get_or_from_slice_get, slice_get_within}
 use Rattle.shader_ir.specs.declared.expression.Expression.{Expression}
 use Rattle.shader_ir.specs.declared.proc.type_resolution.TypeResolution.{TypeResolution}
 use Rattle.shader_ir.specs.Key.{FitsTypes}
 use Rattle.shader_resolve.proofs.AskedLemmas.{asked, each-asked}
+use Rattle.shader_resolve.proofs.MemoryLemmas.{for_type, wanted}
 use Rattle.shader_resolve.specs.declared.error.ResolveError.{ResolveError}
 use Rattle.shader_resolve.specs.declared.error.ResolveError.TheVariants as resolve
 use Rattle.shader_resolve.specs.Context.{Context}
 use Rattle.shader_resolve.specs.Follows.{Told, Follows, EachAsked, FitsTold}
-use Rattle.shader_resolve.specs.Outcome.{Outcome, Given, Refused, Meets, WantsMemory, refusal_of}
+use Rattle.shader_resolve.specs.Outcome.{Given, Meets, Memory, Outcome, Refused, refusal_of}
 use Rattle.shader_resolve.specs.Rows.{Row, Plain, One, Two, row}
 use Rattle.shader_resolve.specs.WellFormed.{OperandsBelow}
 use Rattle.shader_typifier.specs.Grown.{outcome_at}
@@ -21,19 +22,15 @@ module _ (held : List TypeResolution) where
   Tells asks (Ok resolution) = outcome_at held asks ≡ Some (Given resolution)
   Tells asks (Err failure) = (outcome_at held asks ≡ Some (Refused (refusal_of failure))) ⊎ (failure ≡ resolve.OutOfMemory)
 
-  wanted : (memory : Bool) (failure : ResolveError) → WantsMemory memory failure → failure ≡ resolve.OutOfMemory
-  wanted true failure wants = wants
-  wanted false failure wants = absurd wants
-
-  concluded : (memory : Bool) (asks : Row) (result : Result TypeResolution ResolveError) (outcome : Outcome) →
+  concluded : (memory : Memory) (asks : Row) (result : Result TypeResolution ResolveError) (outcome : Outcome) →
       outcome_at held asks ≡ Some outcome → Meets memory result outcome → Tells asks result
   concluded memory asks (Ok resolution) (Given given) at meets = at ∙ ap (λ r. Some (Given r)) (sym meets)
   concluded memory asks (Ok resolution) (Refused refusal) at meets = absurd meets
-  concluded memory asks (Err failure) (Given given) at meets = inr (wanted memory failure meets)
+  concluded memory asks (Err failure) (Given given) at meets = inr (wanted memory failure (for_type memory failure meets))
   concluded memory asks (Err failure) (Refused refusal) at (inl same) = inl (at ∙ ap (λ r. Some (Refused r)) (sym same))
   concluded memory asks (Err failure) (Refused refusal) at (inr wants) = inr (wanted memory failure wants)
 
-  module _ (Post : ℕ → Told → Type 0) (memory : Bool) (result : Result TypeResolution ResolveError) where
+  module _ (Post : ℕ → Told → Type 0) (memory : Memory) (result : Result TypeResolution ResolveError) where
     pub follows_tells : (asks : Row) → Follows memory Post result asks →
         ((operand : ℕ) (told : Told) → Post operand told → IsOkAnd told (λ t. slice_get held operand ≡ Some t.now)) → Tells asks result
     follows_tells (Plain outcome) meets tells = concluded memory (Plain outcome) result outcome refl meets

@@ -1,5 +1,5 @@
 -- One more global expression, where those before it have their types.
-use Rattle.std.proofs.Common.{◌≡◌, refl, sym, ap, subst, ◌∙◌, ◌⊎◌, inl, inr, ℕ, ◌+◌, ◌<◌, Bool, true, false}
+use Rattle.std.proofs.Common.{◌≡◌, refl, sym, ap, subst, ◌∙◌, ◌⊎◌, inl, inr, ℕ, ◌+◌, ◌<◌}
 use Rattle.std.proofs.Common.{List, [], ◌∷◌, ◌++◌, Result, Ok, Err, IfOk, IfErr, length, length-append, arith}
 use Rattle.std.proofs.lemmas.Option.{slice_get_within}
 use Rattle.shader_chains.proofs.TypeLemmas.{types_are_unique}
@@ -12,8 +12,9 @@ use Rattle.shader_expression_types.specs.Typed.{AreOfTheFirst, IsToldOf}
 use Rattle.shader_ir.specs.Key.{FitsTypes}
 use Rattle.shader_ir.specs.declared.proc.type_resolution.TypeResolution.{TypeResolution}
 use Rattle.shader_resolve.proofs.ContextLemmas.{contexts_of_well_formed}
+use Rattle.shader_resolve.proofs.MemoryLemmas.{wanted}
 use Rattle.shader_resolve.specs.Context.{Context, IsInRange, TypesInRange, context_of}
-use Rattle.shader_resolve.specs.Outcome.{WantsMemory, refusal_of}
+use Rattle.shader_resolve.specs.Outcome.{Memory, refusal_of}
 use Rattle.shader_resolve.specs.WellFormed.{IsWellFormed}
 use Rattle.shader_resolve.specs.declared.error.ResolveError.{ResolveError}
 use Rattle.shader_resolve.specs.declared.error.ResolveError.TheVariants as resolve
@@ -26,28 +27,24 @@ use Rattle.shader_typing.specs.Reached.{IsReached}
 use Rattle.shader_typing.specs.Recorded.{Recorded}
 
 module _ (context : Context) (expressions : List Expression) (types : List TypeResolution) where
-  abbrev Told : Bool → Result TypeResolution ResolveError → Type 0
+  abbrev Told : Memory → Result TypeResolution ResolveError → Type 0
   Told memory result = AreOfTheFirst context expressions types → IsToldOf context expressions (length types) memory result
 
-  pub is_next : (memory : Bool) (result : Result TypeResolution ResolveError) → Told memory result →
+  pub is_next : (memory : Memory) (result : Result TypeResolution ResolveError) → Told memory result →
       (TypesInRange context → IfOk result (λ ty. FitsTypes context.types ty)) → IfOk result (IsNextType context expressions types)
   is_next memory (Ok ty) told fits = record { derived = told; fits = fits }
   is_next memory (Err failure) told fits = tt
 
-  no_memory : (memory : Bool) (failure : ResolveError) → WantsMemory memory failure → failure ≡ resolve.OutOfMemory
-  no_memory true failure is = is
-  no_memory false failure is = absurd is
-
-  refusal_alone : (memory : Bool) (failure : ResolveError) → (failure ≡ resolve.OutOfMemory → ⊥) → Told memory (Err failure) →
+  refusal_alone : (memory : Memory) (failure : ResolveError) → (failure ≡ resolve.OutOfMemory → ⊥) → Told memory (Err failure) →
       IsTypeRefusal context expressions types failure
   refusal_alone memory failure other told = inr (λ first. elim (told first)
-      [ inl refused ↦ refused | inr wants ↦ absurd (other (no_memory memory failure wants)) ])
+      [ inl refused ↦ refused | inr wants ↦ absurd (other (wanted memory failure wants)) ])
 
-  refusal : (memory : Bool) (failure : ResolveError) → Told memory (Err failure) → IsTypeRefusal context expressions types failure
+  refusal : (memory : Memory) (failure : ResolveError) → Told memory (Err failure) → IsTypeRefusal context expressions types failure
   refusal memory resolve.OutOfMemory told = inl refl
   refusal memory failure told = refusal_alone memory failure (λ is. absurd (cc)) told
 
-  pub is_refusal : (memory : Bool) (result : Result TypeResolution ResolveError) → Told memory result →
+  pub is_refusal : (memory : Memory) (result : Result TypeResolution ResolveError) → Told memory result →
       IfErr result (IsTypeRefusal context expressions types)
   is_refusal memory (Ok ty) told = tt
   is_refusal memory (Err failure) told = refusal memory failure told

@@ -1,7 +1,7 @@
 //! Parts of types, and accesses to them; vectors of a scalar or of components.
-ghost use Rattle.std.specs.Prelude.{◌≡◌, ◌<◌, false, length};
+ghost use Rattle.std.specs.Prelude.{◌≡◌, ◌<◌, length};
 ghost use Rattle.shader_ir.specs.TypeTree.{PointsBelow};
-ghost use Rattle.shader_resolve.specs.Outcome.{Meets};
+ghost use Rattle.shader_resolve.specs.Outcome.{ForNothing, Meets};
 ghost use Rattle.shader_resolve.specs.Part.{checked, indexed_member, lifted, part};
 ghost use Rattle.shader_resolve.specs.Rows.{splat_type, swizzle_type};
 
@@ -125,7 +125,7 @@ pub fn access(
     inner: &TypeInner,
 ) -> Result<TypeResolution, ResolveError>
     requires { PointsBelow (length types.now) inner.now }
-    ensures { Meets false result (lifted types.now base index inner.now) }
+    ensures { Meets ForNothing result (lifted types.now base index inner.now) }
 {
     let indexed = index.is_some();
     match inner {
@@ -170,7 +170,7 @@ impl NoPart {
 
 /// A vector of so many copies of a scalar.
 pub fn splat(size: VectorSize, value: Handle<mark::Expression>, inner: &TypeInner) -> Resolved
-    ensures { Meets false result (splat_type value size inner.now) }
+    ensures { Meets ForNothing result (splat_type value size inner.now) }
 {
     match inner {
         TypeInner::Scalar(scalar) => Ok(vector_type(size, *scalar)),
@@ -180,7 +180,7 @@ pub fn splat(size: VectorSize, value: Handle<mark::Expression>, inner: &TypeInne
 
 /// A vector of so many components of a vector.
 pub fn swizzle(size: VectorSize, vector: Handle<mark::Expression>, inner: &TypeInner) -> Resolved
-    ensures { Meets false result (swizzle_type vector size inner.now) }
+    ensures { Meets ForNothing result (swizzle_type vector size inner.now) }
 {
     match inner {
         TypeInner::Vector { scalar, .. } => Ok(vector_type(size, *scalar)),

@@ -1,5 +1,5 @@
 //! The types of calls of builtin functions.
-ghost use Rattle.std.specs.Prelude.{◌≡◌, ℕ, Bool, true, List, IfOk, length};
+ghost use Rattle.std.specs.Prelude.{◌≡◌, ℕ, Bool, List, IfOk, length};
 ghost use Rattle.shader_ir.specs.TypeTree.{IsBackward, PointsBelow};
 ghost use Rattle.shader_ir.specs.declared.types.«Type».{«Type»};
 ghost use Rattle.shader_ir.specs.declared.types.TypeInner.{TypeInner};
@@ -8,7 +8,7 @@ ghost use Rattle.shader_overloads.specs.Builtins.{acceptance_of};
 ghost use Rattle.shader_overloads.specs.Remaining.{RulesFit};
 ghost use Rattle.shader_overloads.specs.declared.rule.Rule.{Rule};
 ghost use Rattle.shader_resolve.specs.Builtins.{rules_after_one, rules_after_two};
-ghost use Rattle.shader_resolve.specs.Outcome.{BuiltinArgumentsInvalid, IsRefusal};
+ghost use Rattle.shader_resolve.specs.Outcome.{BuiltinArgumentsInvalid, ForRules, IsRefusal};
 
 use super::Resolved;
 use crate::{ResolveContext, ResolveError};
@@ -57,7 +57,7 @@ fn after_two(
 
 /// The error of arguments that no rule accepts, under the name of the builtin.
 fn invalid_arguments(name: Result<String, AllocError>) -> ResolveError
-    ensures { IsRefusal true BuiltinArgumentsInvalid result }
+    ensures { IsRefusal ForRules BuiltinArgumentsInvalid result }
 {
     match name {
         Ok(name) => ResolveError::BuiltinArgumentsInvalid(name),
@@ -66,13 +66,12 @@ fn invalid_arguments(name: Result<String, AllocError>) -> ResolveError
 }
 
 impl<'a> ResolveContext<'a> {
-    ghost use Rattle.std.specs.Prelude.{true};
     ghost use Rattle.shader_ir.specs.Key.{FitsTypes};
     ghost use Rattle.shader_ir.specs.TypeTree.{IsBackward};
     ghost use Rattle.shader_overloads.specs.AnySet.{rules_in};
     ghost use Rattle.shader_overloads.specs.Resolutions.{resolution_of};
     ghost use Rattle.shader_resolve.specs.Builtins.{concluded, first_conclusion, math_of_one, math_of_two};
-    ghost use Rattle.shader_resolve.specs.Outcome.{Meets};
+    ghost use Rattle.shader_resolve.specs.Outcome.{ForRules, Meets};
 
     /// The type of a call, by its first argument.
     #[inline(always)]
@@ -84,7 +83,7 @@ impl<'a> ResolveContext<'a> {
     ) -> Resolved
         requires backward { IsBackward self.now.types }
         requires fits { FitsTypes self.now.types first.now }
-        ensures { Meets true result (math_of_one self.now.types self.now.special_types fun first.now) }
+        ensures { Meets ForRules result (math_of_one self.now.types self.now.special_types fun first.now) }
     {
         let left = after_one(alloc, self.types, fun, self.inner(first))?;
         self.conclude(alloc, fun, &left)
@@ -102,7 +101,7 @@ impl<'a> ResolveContext<'a> {
         requires backward { IsBackward self.now.types }
         requires first_fits { FitsTypes self.now.types first.now }
         requires second_fits { FitsTypes self.now.types second.now }
-        ensures { Meets true result (math_of_two self.now.types self.now.special_types fun first.now second.now) }
+        ensures { Meets ForRules result (math_of_two self.now.types self.now.special_types fun first.now second.now) }
     {
         let left = after_two(
             alloc,
@@ -117,7 +116,7 @@ impl<'a> ResolveContext<'a> {
     /// What the first rule of a builtin's set concludes.
     #[inline(always)]
     fn conclude(&self, alloc: Global, fun: MathFunction, left: &AnyOverloadSet) -> Resolved
-        ensures { Meets true result (first_conclusion self.now.special_types (rules_in left.now)) }
+        ensures { Meets ForRules result (first_conclusion self.now.special_types (rules_in left.now)) }
     {
         if left.is_empty() {
             return Err(invalid_arguments(format!(in alloc; "{fun:?}")));
@@ -128,7 +127,7 @@ impl<'a> ResolveContext<'a> {
 
     #[inline(always)]
     fn conclusion_of(&self, rule: Rule) -> Resolved
-        ensures { Meets true result (concluded (resolution_of self.now.special_types rule.conclusion)) }
+        ensures { Meets ForRules result (concluded (resolution_of self.now.special_types rule.conclusion)) }
     {
         let resolution = rule.conclusion.into_resolution(self.special_types)?;
         Ok(resolution)

@@ -1,7 +1,7 @@
 //! What images hold, and how large they are.
-ghost use Rattle.std.specs.Prelude.{◌≡◌, false};
+ghost use Rattle.std.specs.Prelude.{◌≡◌};
 ghost use Rattle.shader_resolve.specs.Images.{extent_type, format_scalar, gather_type, sample_type};
-ghost use Rattle.shader_resolve.specs.Outcome.{Meets};
+ghost use Rattle.shader_resolve.specs.Outcome.{ForNothing, Meets};
 
 use super::Resolved;
 use super::values::{scalar_type, vector_type};
@@ -13,7 +13,7 @@ use shader_ir::{
 
 /// The type of four texels' components.
 pub fn gather(image: Handle<mark::Expression>, inner: &TypeInner) -> Resolved
-    ensures { Meets false result (gather_type image inner.now) }
+    ensures { Meets ForNothing result (gather_type image inner.now) }
 {
     let TypeInner::Image { class, .. } = inner else {
         return Err(ResolveError::InvalidImage(image));
@@ -56,7 +56,7 @@ fn scalar_of_format(format: StorageFormat) -> Scalar
 
 /// The type of a texel.
 pub fn sample(image: Handle<mark::Expression>, inner: &TypeInner) -> Resolved
-    ensures { Meets false result (sample_type image inner.now) }
+    ensures { Meets ForNothing result (sample_type image inner.now) }
 {
     let TypeInner::Image { class, .. } = inner else {
         return Err(ResolveError::InvalidImage(image));
@@ -79,7 +79,7 @@ pub fn sample(image: Handle<mark::Expression>, inner: &TypeInner) -> Resolved
 
 /// The type of an image's extent.
 pub fn image_extent(image: Handle<mark::Expression>, inner: &TypeInner) -> Resolved
-    ensures { Meets false result (extent_type image inner.now) }
+    ensures { Meets ForNothing result (extent_type image inner.now) }
 {
     let TypeInner::Image { dim, .. } = inner else {
         return Err(ResolveError::InvalidImage(image));

@@ -1,6 +1,6 @@
 //! The types of expressions that rest on no operand's.
-ghost use Rattle.std.specs.Prelude.{◌≡◌, false};
-ghost use Rattle.shader_resolve.specs.Outcome.{Meets};
+ghost use Rattle.std.specs.Prelude.{◌≡◌};
+ghost use Rattle.shader_resolve.specs.Outcome.{ForNothing, Meets};
 ghost use Rattle.shader_resolve.specs.Rows.{literal_scalar, special_type};
 
 use super::Resolved;
@@ -33,7 +33,7 @@ fn scalar_of_literal(literal: Literal) -> Scalar
 
 /// The type of what a module registers, if it does.
 fn special(ty: Option<Handle<mark::Type>>) -> Resolved
-    ensures { Meets false result (special_type ty) }
+    ensures { Meets ForNothing result (special_type ty) }
 {
     match ty {
         Some(ty) => Ok(TypeResolution::Handle(ty)),
@@ -42,10 +42,10 @@ fn special(ty: Option<Handle<mark::Type>>) -> Resolved
 }
 
 impl<'a> ResolveContext<'a> {
-    ghost use Rattle.std.specs.Prelude.{◌≡◌, ◌<◌, false, length, slice_get};
+    ghost use Rattle.std.specs.Prelude.{◌≡◌, ◌<◌, length, slice_get};
     ghost use Rattle.shader_resolve.specs.Context.{IsInRange};
     ghost use Rattle.shader_resolve.specs.Follows.{IsLeafAnswer};
-    ghost use Rattle.shader_resolve.specs.Outcome.{Given, Meets};
+    ghost use Rattle.shader_resolve.specs.Outcome.{ForNothing, Given, Meets};
     ghost use Rattle.shader_resolve.specs.Rows.{argument_type, call_type, global_type, local_type, row};
 
     /// The type of an expression whose form asks no operand, if it is of one.
@@ -85,7 +85,7 @@ impl<'a> ResolveContext<'a> {
 
     #[inline(always)]
     fn argument(&self, index: u32) -> Resolved
-        ensures { Meets false result (argument_type index (slice_get self.now.arguments index)) }
+        ensures { Meets ForNothing result (argument_type index (slice_get self.now.arguments index)) }
     {
         match self.arguments.get(index as usize) {
             Some(argument) => Ok(TypeResolution::Handle(argument.ty)),
@@ -122,7 +122,7 @@ impl<'a> ResolveContext<'a> {
     #[inline(always)]
     fn call(&self, function: Handle<mark::Function>) -> Resolved
         requires { function < length self.now.functions }
-        ensures { Meets false result (call_type (slice_get self.now.functions function)) }
+        ensures { Meets ForNothing result (call_type (slice_get self.now.functions function)) }
     {
         match &self.functions[function].result {
             Some(result) => Ok(TypeResolution::Handle(result.ty)),

@@ -1,24 +1,25 @@
 //! The types of tests, products and conversions.
-ghost use Rattle.std.specs.Prelude.{true};
-ghost use Rattle.shader_resolve.specs.Operations.{cast_type, logical_type, product_of, product_type, test_type};
-ghost use Rattle.shader_resolve.specs.Outcome.{IncompatibleOperands, IsRefusal, Meets};
+ghost use Rattle.std.specs.Prelude.{◌≡◌};
+ghost use Rattle.shader_resolve.specs.Operations.{cast_type, logical_type, product_of, test_type};
+ghost use Rattle.shader_resolve.specs.Outcome.{ForWords, IncompatibleOperands, IsRefusal, Meets};
 
 use super::Resolved;
-use super::values::{cooperative_type, copied, matrix_type, scalar_type, vector_type};
+use super::values::{copied, matrix_type, scalar_type, vector_type};
 use crate::{ResolveContext, ResolveError};
 use shader_ir::{BinaryOperator, Scalar, ScalarKind, TypeInner, TypeResolution};
 use std::alloc::{AllocError, Global};
 use std::fmt::Debug;
 
 impl<'a> ResolveContext<'a> {
-    ghost use Rattle.std.specs.Prelude.{true};
     ghost use Rattle.shader_ir.specs.Key.{FitsTypes};
     ghost use Rattle.shader_ir.specs.TypeTree.{IsBackward};
+    ghost use Rattle.shader_resolve.specs.Follows.{memory_of_binary};
     ghost use Rattle.shader_resolve.specs.Operations.{left_type, product};
-    ghost use Rattle.shader_resolve.specs.Outcome.{Meets};
+    ghost use Rattle.shader_resolve.specs.Outcome.{ForWords, Meets};
 
     /// The type of a product.
     #[inline(always)]
+    #[tactic(auto, using(crate::proofs::CopyLemmas::held_types))]
     pub(super) fn product(
         &self,
         alloc: Global,
@@ -28,13 +29,19 @@ impl<'a> ResolveContext<'a> {
         requires backward { IsBackward self.now.types }
         requires left_fits { FitsTypes self.now.types left.now }
         requires right_fits { FitsTypes self.now.types right.now }
-        ensures { Meets true result (product self.now.types left.now right.now) }
+        ensures { Meets ForWords result (product self.now.types left.now right.now) }
     {
-        product(alloc, self.inner(left), self.inner(right), left, right)
+        match product_of(self.inner(left), self.inner(right)) {
+            Product::AsLeft => Ok(copied(alloc, left)),
+            Product::AsRight => Ok(copied(alloc, right)),
+            Product::Made(inner) => Ok(TypeResolution::Value(inner)),
+            Product::NoProduct => Err(incompatible("Multiply".to_string(alloc))),
+        }
     }
 
     /// The type of a binary operation that asks its left side alone.
     #[inline(always)]
+    #[tactic(auto, using(crate::proofs::CopyLemmas::held_types))]
     pub(super) fn left_type(
         &self,
         alloc: Global,
@@ -43,7 +50,7 @@ impl<'a> ResolveContext<'a> {
     ) -> Resolved
         requires backward { IsBackward self.now.types }
         requires fits { FitsTypes self.now.types left.now }
-        ensures { Meets true result (left_type self.now.types op left.now) }
+        ensures { Meets (memory_of_binary op) result (left_type self.now.types op left.now) }
     {
         match op {
             BinaryOperator::Equal
@@ -55,14 +62,14 @@ impl<'a> ResolveContext<'a> {
             BinaryOperator::LogicalAnd | BinaryOperator::LogicalOr => {
                 logical(alloc, &op, self.inner(left))
             }
-            _ => Ok(copied(alloc, left)?),
+            _ => Ok(copied(alloc, left)),
         }
     }
 }
 
 /// The error of operands that don't go together, under the name of the operation.
 fn incompatible(name: Result<String, AllocError>) -> ResolveError
-    ensures { IsRefusal true IncompatibleOperands result }
+    ensures { IsRefusal ForWords IncompatibleOperands result }
 {
     match name {
         Ok(name) => ResolveError::IncompatibleOperands(name),
@@ -73,7 +80,7 @@ fn incompatible(name: Result<String, AllocError>) -> ResolveError
 /// The type of a test of each component.
 #[inline(always)]
 pub fn component_test(alloc: Global, operation: &impl Debug, inner: &TypeInner) -> Resolved
-    ensures { Meets true result (test_type inner.now) }
+    ensures { Meets ForWords result (test_type inner.now) }
 {
     match inner {
         TypeInner::Scalar(_) => Ok(scalar_type(Scalar::BOOL)),
@@ -84,7 +91,7 @@ pub fn component_test(alloc: Global, operation: &impl Debug, inner: &TypeInner) 
 
 /// The type of a conjunction or a disjunction.
 fn logical(alloc: Global, operation: &impl Debug, inner: &TypeInner) -> Resolved
-    ensures { Meets true result (logical_type inner.now) }
+    ensures { Meets ForWords result (logical_type inner.now) }
 {
     match inner {
         TypeInner::Scalar(scalar) if *scalar == Scalar::BOOL => Ok(scalar_type(Scalar::BOOL)),
@@ -94,7 +101,7 @@ fn logical(alloc: Global, operation: &impl Debug, inner: &TypeInner) -> Resolved
 
 /// The type of a conversion to a kind, and to a width where one is given.
 pub fn cast(alloc: Global, kind: ScalarKind, convert: Option<u8>, inner: &TypeInner) -> Resolved
-    ensures { Meets true result (cast_type kind convert inner.now) }
+    ensures { Meets ForWords result (cast_type kind convert inner.now) }
 {
     match inner {
         TypeInner::Scalar(old) => {
@@ -120,23 +127,33 @@ pub fn cast(alloc: Global, kind: ScalarKind, convert: Option<u8>, inner: &TypeIn
     }
 }
 
-/// The type of a product of operands with these shapes and resolutions.
+/// The type of a product: that of a side, or a new one.
+#[derive(Drop)]
+pub enum Product {
+    AsLeft,
+    AsRight,
+    Made(TypeInner),
+    NoProduct,
+}
+
+/// Which type a product of operands with these shapes has.
 #[inline(always)]
-fn product(
-    alloc: Global,
-    left_inner: &TypeInner,
-    right_inner: &TypeInner,
-    left: &TypeResolution,
-    right: &TypeResolution,
-) -> Resolved
-    ensures { Meets true result (product_type (product_of left_inner.now right_inner.now) left.now right.now) }
+fn product_of(left: &TypeInner, right: &TypeInner) -> Product
+    ensures { result ≡ product_of left.now right.now }
 {
-    match (left_inner, right_inner) {
+    match (left, right) {
         (TypeInner::Matrix { rows, scalar, .. }, TypeInner::Matrix { columns, .. }) => {
-            Ok(matrix_type(*columns, *rows, *scalar))
+            Product::Made(TypeInner::Matrix {
+                columns: *columns,
+                rows: *rows,
+                scalar: *scalar,
+            })
         }
         (TypeInner::Matrix { rows, scalar, .. }, TypeInner::Vector { .. }) => {
-            Ok(vector_type(*rows, *scalar))
+            Product::Made(TypeInner::Vector {
+                size: *rows,
+                scalar: *scalar,
+            })
         }
         (
             TypeInner::Vector { .. },
@@ -145,10 +162,13 @@ fn product(
                 scalar,
                 ..
             },
-        ) => { Ok(vector_type(*columns, *scalar)) }
-        (TypeInner::Scalar(_), _) => Ok(copied(alloc, right)?),
+        ) => Product::Made(TypeInner::Vector {
+            size: *columns,
+            scalar: *scalar,
+        }),
+        (TypeInner::Scalar(_), _) => Product::AsRight,
         (_, TypeInner::Scalar(_)) | (TypeInner::Vector { .. }, TypeInner::Vector { .. }) => {
-            Ok(copied(alloc, left)?)
+            Product::AsLeft
         }
         (
             TypeInner::CooperativeMatrix {
@@ -158,7 +178,12 @@ fn product(
                 ..
             },
             TypeInner::CooperativeMatrix { columns, .. },
-        ) => Ok(cooperative_type(*columns, *rows, *scalar, *role)),
-        _ => Err(incompatible("Multiply".to_string(alloc))),
+        ) => Product::Made(TypeInner::CooperativeMatrix {
+            columns: *columns,
+            rows: *rows,
+            scalar: *scalar,
+            role: *role,
+        }),
+        _ => Product::NoProduct,
     }
 }

@@ -7,16 +7,16 @@ use shader_arena::Handle;
 use shader_ir::{CooperativeRole, CooperativeSize, Scalar, TypeInner, TypeResolution, mark};
 
 impl<'a> ResolveContext<'a> {
-    ghost use Rattle.std.specs.Prelude.{◌≡◌, false, length};
+    ghost use Rattle.std.specs.Prelude.{◌≡◌, length};
     ghost use Rattle.shader_ir.specs.TypeTree.{PointsBelow};
-    ghost use Rattle.shader_resolve.specs.Outcome.{Meets};
+    ghost use Rattle.shader_resolve.specs.Outcome.{ForNothing, Meets};
     ghost use Rattle.shader_resolve.specs.Rows.{load_type, pointed_scalar, tile_type};
 
     /// What a pointer points to; of an atomic its scalar.
     #[inline(always)]
     pub(super) fn load(&self, pointer: Handle<mark::Expression>, inner: &TypeInner) -> Resolved
         requires { PointsBelow (length self.now.types) inner.now }
-        ensures { Meets false result (load_type pointer self.now.types inner.now) }
+        ensures { Meets ForNothing result (load_type pointer self.now.types inner.now) }
     {
         match inner {
             TypeInner::Pointer { base, .. } => match &self.types[*base].inner {
@@ -57,7 +57,7 @@ impl<'a> ResolveContext<'a> {
         inner: &TypeInner,
     ) -> Resolved
         requires { PointsBelow (length self.now.types) inner.now }
-        ensures { Meets false result (tile_type pointer self.now.types columns rows role inner.now) }
+        ensures { Meets ForNothing result (tile_type pointer self.now.types columns rows role inner.now) }
     {
         match self.pointed_scalar(inner) {
             Some(scalar) => Ok(cooperative_type(columns, rows, scalar, role)),

@@ -1,8 +1,9 @@
 //! Free-standing types.
-ghost use Rattle.std.specs.Prelude.{◌≡◌, IfOk};
+ghost use Rattle.std.specs.Prelude.{◌≡◌};
+ghost use Rattle.shader_ir.specs.Key.{HoldsNoList};
 
 use shader_ir::{CooperativeRole, CooperativeSize, Scalar, TypeInner, TypeResolution, VectorSize};
-use std::alloc::{AllocError, Global};
+use std::alloc::Global;
 
 pub fn scalar_type(scalar: Scalar) -> TypeResolution
     ensures { result ≡ TypeResolution.Value (TypeInner.Scalar scalar) }
@@ -42,16 +43,18 @@ pub fn cooperative_type(
     })
 }
 
-/// Returns an equal resolution. Scalars and vectors, as most operands are, are copied where the call stands.
+/// Returns an equal resolution, which takes no memory. Scalars and vectors, as most operands are, are copied where the call stands.
 #[inline(always)]
-pub fn copied(alloc: Global, resolution: &TypeResolution) -> Result<TypeResolution, AllocError>
-    ensures { IfOk result (λ copy. copy ≡ resolution.now) }
+pub fn copied(alloc: Global, resolution: &TypeResolution) -> TypeResolution
+    requires { HoldsNoList resolution.now }
+    ensures { result ≡ resolution.now }
 {
     match resolution {
-        TypeResolution::Value(TypeInner::Scalar(scalar)) => Ok(scalar_type(*scalar)),
-        TypeResolution::Value(TypeInner::Vector { size, scalar }) => {
-            Ok(vector_type(*size, *scalar))
-        }
-        _ => resolution.copy(alloc),
+        TypeResolution::Value(TypeInner::Scalar(scalar)) => scalar_type(*scalar),
+        TypeResolution::Value(TypeInner::Vector { size, scalar }) => vector_type(*size, *scalar),
+        _ => match resolution.copy(alloc) {
+            Ok(copy) => copy,
+            Err(_) => unreachable!(),
+        },
     }
 }

@@ -1,6 +1,6 @@
 use Rattle.std.proofs.Common.{rules, refl, length}
 use Rattle.shader_expression_types.proofs.TypedLemmas.{is_told, may_ask, told_fits}
-use Rattle.shader_resolve.specs.Follows.{takes_memory}
+use Rattle.shader_resolve.specs.Follows.{memory_of}
 use Rattle.shader_expression_types.proofs.one.type_of.Goals as goal
 
 pub resolve-requires : goal.resolve-requires
@@ -22,5 +22,5 @@ resolve-requires c κs = (
 pub returns-clause-told : goal.returns-clause-told
 returns-clause-told c = λ expressions is first.
     is_told c.args.context.now expressions c.args.types.now first (length c.args.types.now) c.args.expression.now is c.requires.operands
-    (takes_memory c.args.expression.now)
+    (memory_of c.args.expression.now)
     _ (λ operand told post. search rules) c.resolve.result c.resolve.ensures.follows

@@ -5,7 +5,7 @@ use Rattle.shader_expression_types.proofs.ListLemmas.{at_place, operands_below}
 use Rattle.shader_expression_types.specs.Checked.{NamesFault}
 use Rattle.shader_expression_types.specs.Typed.{IsToldOf}
 use Rattle.shader_resolve.specs.Context.{IsInRange}
-use Rattle.shader_resolve.specs.Follows.{takes_memory}
+use Rattle.shader_resolve.specs.Follows.{memory_of}
 use Rattle.shader_resolve.specs.WellFormed.{OperandsBelow}
 use Rattle.shader_expression_types.proofs.sweep.next_type.Goals as goal
 
@@ -39,7 +39,7 @@ pub returns-in-Ok-clause-sound : goal.returns-in-Ok-clause-sound
 returns-in-Ok-clause-sound c = λ infos found.
     let earlier = subst (λ v. OperandsBelow v c.index-expression.result.now) c.requires.place
     (operands_below c.args.function.now c.requires.operands c.args.handle c.index-expression.result.now c.index-expression.ensures) in
-    let memory = takes_memory c.index-expression.result.now in
+    let memory = memory_of c.index-expression.result.now in
     let told = told_here c.args.module.now infos c.args.function.now c.args.facts.now found c.requires.operands c.args.capabilities
     c.args.types.now c.requires.first c.args.handle
     c.requires.place c.index-expression.result.now c.index-expression.ensures earlier c.context_of-context.result
@@ -55,7 +55,7 @@ pub returns-in-Err-clause-named : goal.returns-in-Err-clause-named
 returns-in-Err-clause-named c = λ infos found.
     let earlier = subst (λ v. OperandsBelow v c.index-expression.result.now) c.requires.place
     (operands_below c.args.function.now c.requires.operands c.args.handle c.index-expression.result.now c.index-expression.ensures) in
-    let memory = takes_memory c.index-expression.result.now in
+    let memory = memory_of c.index-expression.result.now in
     let told = told_here c.args.module.now infos c.args.function.now c.args.facts.now found c.requires.operands c.args.capabilities
     c.args.types.now c.requires.first c.args.handle
     c.requires.place c.index-expression.result.now c.index-expression.ensures earlier c.context_of-context.result

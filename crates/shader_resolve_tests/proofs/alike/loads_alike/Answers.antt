@@ -1,5 +1,5 @@
 -- What both closures tell of the pointer has one key.
-use Rattle.std.proofs.Common.{rules, ◌≡◌, ◌∙◌, ◌<◌, ℕ, ap, sym, subst, false, List, Option}
+use Rattle.std.proofs.Common.{rules, ◌≡◌, ◌∙◌, ◌<◌, ℕ, ap, sym, subst, List, Option}
 use Rattle.std.proofs.Common.{Some, Ok, Err, IsOkAnd, length, slice_get, get_or, arith}
 use Rattle.shader_ir.specs.declared.types.«Type».{«Type»}
 use Rattle.shader_ir.specs.declared.expression.Expression.TheVariants as form
@@ -8,6 +8,7 @@ use Rattle.shader_ir.specs.Key.{key_of}
 use Rattle.shader_overloads.proofs.MaskLemmas.{found}
 use Rattle.shader_resolve.specs.CongruenceLaws.{AreAlike, AreToldAlike}
 use Rattle.shader_resolve.specs.Follows.{Told}
+use Rattle.shader_resolve.specs.Outcome.{ForNothing}
 use Rattle.shader_resolve_tests.proofs.alike.loads_alike.Goals as goal
 
 alike : (types : List «Type») (here there : Option TypeResolution) (first second : TypeResolution) → here ≡ Some first →
@@ -30,7 +31,7 @@ pub returns : goal.returns
 returns c =
     let types_are = ap (λ context. context.types) c.context.view_is in
     c.are_alike-alike.ensures
-    (subst (λ types. AreAlike types false c.resolve-first.result c.resolve-second.result) (sym types_are)
+    (subst (λ types. AreAlike types ForNothing c.resolve-first.result c.resolve-second.result) (sym types_are)
     (c.equal_operand_types_give_equal_types.ensures c.args.context.now (form.Load c.args.pointer) c.resolve-first.result
     c.resolve-second.result
     (λ told other posted also.

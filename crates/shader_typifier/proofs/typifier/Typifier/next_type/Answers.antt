@@ -1,5 +1,5 @@
 use Rattle.std.proofs.Common.{rules, refl, subst, inr}
-use Rattle.shader_resolve.specs.Follows.{takes_memory}
+use Rattle.shader_resolve.specs.Follows.{memory_of}
 use Rattle.shader_resolve.specs.Rows.{row}
 use Rattle.shader_typifier.proofs.TypedLemmas.{Tells, follows_tells, may_ask, told_fits}
 use Rattle.shader_typifier.proofs.typifier.Typifier.next_type.Goals as goal
@@ -24,7 +24,7 @@ pub returns-in-Err-clause-refused : goal.returns-in-Err-clause-refused
 returns-in-Err-clause-refused c =
     let asks = row c.args.context.now c.args.expression.now in
     subst (Tells c.args.self.now asks) c.in-Err.is
-    (follows_tells c.args.self.now _ (takes_memory c.args.expression.now) c.resolve-resolved.result asks
+    (follows_tells c.args.self.now _ (memory_of c.args.expression.now) c.resolve-resolved.result asks
     c.resolve-resolved.ensures.follows (λ operand told post. search rules))
 
 pub returns-then-fits-clause-typed : goal.returns-then-fits-clause-typed
@@ -34,7 +34,7 @@ returns-then-fits-clause-typed c =
       names = search rules;
       operands = search rules;
       told = subst (Tells c.args.self.now asks) c.in-Ok.is
-          (follows_tells c.args.self.now _ (takes_memory c.args.expression.now) c.resolve-resolved.result asks
+          (follows_tells c.args.self.now _ (memory_of c.args.expression.now) c.resolve-resolved.result asks
           c.resolve-resolved.ensures.follows (λ operand told post. search rules));
       fits = search rules;
     }
@@ -45,7 +45,7 @@ returns-else-fits-clause-refused c =
     inr (record {
       resolution = c.in-Ok.resolution;
       told = subst (Tells c.args.self.now asks) c.in-Ok.is
-          (follows_tells c.args.self.now _ (takes_memory c.args.expression.now) c.resolve-resolved.result asks
+          (follows_tells c.args.self.now _ (memory_of c.args.expression.now) c.resolve-resolved.result asks
           c.resolve-resolved.ensures.follows (λ operand told post. search rules));
       unfit = λ fits. search rules;
     })

@@ -1,11 +1,11 @@
 use Rattle.std.proofs.Common.{◌≡◌, Some, slice_get, subst}
-use Rattle.shader_resolve.specs.Follows.{takes_memory}
+use Rattle.shader_resolve.specs.Follows.{memory_of}
 use Rattle.shader_typing.proofs.TypedLemmas.{is_next, is_refusal}
 use Rattle.shader_typing.proofs.valid.module_info.next_type.Goals as goal
 
 pub returns-clause-next : goal.returns-clause-next
 returns-clause-next c =
-    is_next c.args.resolve_context.now c.args.gctx.now.global_expressions.now c.args.types.now (takes_memory c.index-expression.result.now)
+    is_next c.args.resolve_context.now c.args.gctx.now.global_expressions.now c.args.types.now (memory_of c.index-expression.result.now)
     c.type_of.result
     (c.type_of.ensures.told c.args.gctx.now.global_expressions.now
     (subst (λ v. slice_get c.args.gctx.now.global_expressions.now v ≡ Some c.index-expression.result.now) c.requires.next
@@ -14,7 +14,7 @@ returns-clause-next c =
 pub returns-clause-refused : goal.returns-clause-refused
 returns-clause-refused c =
     is_refusal c.args.resolve_context.now c.args.gctx.now.global_expressions.now c.args.types.now
-    (takes_memory c.index-expression.result.now) c.type_of.result
+    (memory_of c.index-expression.result.now) c.type_of.result
     (c.type_of.ensures.told c.args.gctx.now.global_expressions.now
     (subst (λ v. slice_get c.args.gctx.now.global_expressions.now v ≡ Some c.index-expression.result.now) c.requires.next
     c.index-expression.ensures))
