@@ -1,0 +1,18 @@
+//! Tells the literals among the global expressions of a module that is read as JSON: a program for tests alone.
+#![tactic(auto)]
+
+mod answer;
+mod running;
+mod texts;
+
+use crate::running::run;
+use program_io::{FromReader, ToWriter};
+use std::io;
+use std::process::ExitCode;
+
+fn main(rt: HostRuntime) -> ExitCode {
+    let mut reader = FromReader::new(rt.reader());
+    let mut writer = ToWriter::new(io::writer(&rt));
+    let status = run(rt.alloc(), &mut reader, &mut writer);
+    ExitCode::from(status as u8)
+}
