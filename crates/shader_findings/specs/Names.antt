@@ -1,5 +1,5 @@
 -- How what has a name is printed, and what has none.
-use Rattle.std.specs.Prelude.{ℕ, Bool, List, [], ◌∷◌, ◌++◌, Option, Some, None, codes, if◌then◌else◌}
+use Rattle.std.specs.Prelude.{ℕ, Bool, ◌||◌, ◌==◌, List, [], ◌∷◌, ◌++◌, Option, Some, None, codes, if◌then◌else◌}
 use Rattle.std.specs.Char.{is_ascii_control}
 use Rattle.std.specs.Fmt.{decimal}
 use Rattle.std.specs.List.{list_any}
@@ -13,9 +13,13 @@ abbrev pub name_text : List ℕ → ℕ → List ℕ
 name_text [] place = codes "#" ++ decimal place
 name_text (c ∷ cs) place = c ∷ cs
 
-abbrev pub has_control : List ℕ → Bool
-has_control name = list_any is_ascii_control name
+-- the byte is a control character of ASCII, or the first of a character from U+0080 to U+00BF, of which half are controls
+abbrev pub may_begin_control : ℕ → Bool
+may_begin_control byte = is_ascii_control byte || (byte == 194)
 
--- a name with a control character is escaped, and no clause says how
+abbrev pub may_have_control : List ℕ → Bool
+may_have_control name = list_any may_begin_control name
+
+-- a name that may have a control character is escaped, and no clause says how
 abbrev pub named_text : List ℕ → ℕ → Option (List ℕ)
-named_text name place = if has_control name then None else Some (name_text name place)
+named_text name place = if may_have_control name then None else Some (name_text name place)

@@ -1,6 +1,6 @@
 //! Names, and numbers for what has none.
 ghost use Rattle.std.specs.Prelude.{◌≡◌};
-ghost use Rattle.shader_findings.specs.Names.{given_name, has_control, named_text};
+ghost use Rattle.shader_findings.specs.Names.{given_name, may_have_control, named_text};
 
 use crate::lookup::{item_at, type_at};
 use shader_arena::Handle;
@@ -17,14 +17,17 @@ pub fn given(name: &Option<Name>) -> &str
     }
 }
 
-/// Whether a name has a control character, as one that breaks the line.
-fn has_control(name: &str) -> bool
-    ensures { result ≡ has_control name.now }
+/// Whether a name may have a control character: one of ASCII, as one that breaks the line, or one from U+0080 to U+009F, which a
+/// terminal may take for the beginning of a command. In UTF-8 these begin with a byte that all characters up to U+00BF share.
+fn may_have_control(name: &str) -> bool
+    ensures { result ≡ may_have_control name.now }
 {
-    name.as_bytes().iter().any(|byte| byte.is_ascii_control())
+    name.as_bytes()
+        .iter()
+        .any(|byte| byte.is_ascii_control() || *byte == 0xC2)
 }
 
-/// A name, in quotes and escaped where it has control characters, or where it is empty the number behind a `#`.
+/// A name, in quotes and escaped where it may have control characters, or where it is empty the number behind a `#`.
 #[derive(Clone, Copy)]
 pub struct NameText<'a> {
     pub name: &'a str,
@@ -37,7 +40,7 @@ impl fmt::Display for NameText<'_> {
     fn fmt<W: fmt::Write>(&self, f: &mut fmt::Formatter<W>) -> fmt::Result {
         if self.name.is_empty() {
             write!(f, "#{}", self.place)
-        } else if has_control(self.name) {
+        } else if may_have_control(self.name) {
             write!(f, "{:?}", self.name)
         } else {
             f.write_str(self.name)
