@@ -197,8 +197,9 @@ class Types:
         if text.isdecimal():
             return int(text)
         if text.startswith("#"):
-            named = [at for at, it in enumerate(self.items) if it["name"] == text[1:]]
-            return int(text[1:]) if text[1:].isdecimal() else named[0]
+            if text[1:].isdecimal():
+                return int(text[1:])
+            return [at for at, it in enumerate(self.items) if it["name"] == text[1:]][0]
         inner = self.inner(text)
         for handle, item in enumerate(self.items):
             if item["inner"] == inner:

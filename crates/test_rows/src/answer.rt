@@ -1,15 +1,39 @@
 //! The answer to each line of an input.
-use crate::analysis;
 use crate::words::Words;
+use crate::{analysis, indexes, layouts, lengths, operands, parts, sizes, types};
 use shader_ir::Module;
 use shader_json::{ReadError, read_module};
 use std::alloc::{AllocError, Global};
 
-/// What is replied to a question about the module, if a kind of question knows it and it can be asked of this module.
+/// What is replied to a question about the module, or about a copy of it where the first word is `copied`.
 fn reply(alloc: Global, question: &str, module: &Module) -> Result<Option<String>, AllocError> {
+    match question.strip_prefix("copied ") {
+        Some(question) => {
+            let copy = module.copy(alloc)?;
+            let reply = reply_of_kind(alloc, question, &copy);
+            drop(copy);
+            reply
+        }
+        None => reply_of_kind(alloc, question, module),
+    }
+}
+
+/// What is replied to a question, if a kind of question knows it and it can be asked of this module.
+fn reply_of_kind(
+    alloc: Global,
+    question: &str,
+    module: &Module,
+) -> Result<Option<String>, AllocError> {
     let mut words = Words::new(question);
     match words.next_word() {
         "analysis" => analysis::reply(alloc, words, module),
+        "index" => indexes::reply(alloc, words, module),
+        "layouts" => layouts::reply(alloc, words, module),
+        "length" => lengths::reply(alloc, words, module),
+        "operands" => operands::reply(alloc, words, module),
+        "part" => parts::reply(alloc, words, module),
+        "size" => sizes::reply(alloc, words, module),
+        "type" => types::reply(alloc, words, module),
         _ => Ok(None),
     }
 }

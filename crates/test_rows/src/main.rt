@@ -3,7 +3,15 @@
 
 mod analysis;
 mod answer;
+mod indexes;
+mod layouts;
+mod lengths;
+mod operands;
+mod parts;
 mod running;
+mod sizes;
+mod told;
+mod types;
 mod words;
 
 use crate::running::run;
