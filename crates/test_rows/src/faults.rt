@@ -37,12 +37,14 @@ pub fn nests(
         let Ok(levels) = word.parse::<usize>() else {
             return Ok(None);
         };
-        let told = if nests_within(module, levels) {
-            "yes "
+        if !text.is_empty() {
+            text.push_str(" ")?;
+        }
+        text.push_str(if nests_within(module, levels) {
+            "yes"
         } else {
-            "no "
-        };
-        text.push_str(told)?;
+            "no"
+        })?;
     }
     Ok(Some(text))
 }

@@ -4,7 +4,7 @@
 //! - `held`: the types that are held, behind their number;
 //! - `shape N`: the shape of the type of expression N;
 //! - `register N`: the place of that type in an arena, at first of the module's types, and how many there are then;
-//! - `reset`: forgets all types, and says nothing.
+//! - `reset`: forgets all types: `ok`.
 mod steps;
 
 use crate::resolve::first_function;

@@ -74,7 +74,7 @@ impl<'a> Table<'a> {
         let text = match self.changed(change, handle) {
             Some(Ok(())) => "ok".to_string(self.alloc),
             Some(Err(TypifyError::Resolve(ResolveError::OutOfMemory))) => Err(AllocError),
-            Some(Err(error)) => format!(in self.alloc; "refused: {error}"),
+            Some(Err(error)) => format!(in self.alloc; "refused: {error:?}"),
             None => return Ok(None),
         };
         text.map(Some)
@@ -129,7 +129,7 @@ impl<'a> Table<'a> {
             "held" => self.held().map(Some),
             "reset" => {
                 self.typifier.reset();
-                Ok(Some(String::new(self.alloc)))
+                "ok".to_string(self.alloc).map(Some)
             }
             word => match words.number() {
                 Some(place) => self.take_at(word, Handle::from_index(place)),
