@@ -3,7 +3,10 @@
 
 mod analysis;
 mod answer;
+mod faults;
+mod resolve;
 mod running;
+mod typifier;
 mod words;
 
 use crate::running::run;
