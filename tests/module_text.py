@@ -3,7 +3,7 @@ import re
 
 from expression_text import expression
 from statement_text import Blocks
-from type_text import SIZES, TextError, Types, binding, flags, need, parts, scalar, values
+from type_text import TextError, Types, binding, flags, need, parts, scalar, values
 
 OPTIONS = {"clamp", "comparison", "committed", "row_major"}
 STAGES = {"vertex", "fragment", "compute", "mesh", "task"}

@@ -1,6 +1,8 @@
 //! The answer to each line of an input.
 use crate::words::Words;
-use crate::{analysis, indexes, layouts, lengths, operands, parts, sizes, types};
+use crate::{
+    analysis, faults, known, layouts, lengths, operands, parts, resolve, sizes, typifier, types,
+};
 use shader_ir::Module;
 use shader_json::{ReadError, read_module};
 use std::alloc::{AllocError, Global};
@@ -27,13 +29,17 @@ fn reply_of_kind(
     let mut words = Words::new(question);
     match words.next_word() {
         "analysis" => analysis::reply(alloc, words, module),
-        "index" => indexes::reply(alloc, words, module),
+        "fault" => faults::fault(alloc, words, module),
+        "known" => known::reply(alloc, words, module),
         "layouts" => layouts::reply(alloc, words, module),
         "length" => lengths::reply(alloc, words, module),
+        "nests" => faults::nests(alloc, words, module),
         "operands" => operands::reply(alloc, words, module),
         "part" => parts::reply(alloc, words, module),
+        "resolve" => resolve::reply(alloc, words, module),
         "size" => sizes::reply(alloc, words, module),
         "type" => types::reply(alloc, words, module),
+        "typifier" => typifier::reply(alloc, words, module),
         _ => Ok(None),
     }
 }

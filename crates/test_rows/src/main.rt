@@ -3,15 +3,18 @@
 
 mod analysis;
 mod answer;
-mod indexes;
+mod faults;
+mod known;
 mod layouts;
 mod lengths;
 mod operands;
 mod parts;
+mod resolve;
 mod running;
 mod sizes;
 mod told;
 mod types;
+mod typifier;
 mod words;
 
 use crate::running::run;
