@@ -1,7 +1,5 @@
-//! Tests of `shader_ir` by its public items alone: clauses by values from outside, refused memory, and what no clause says.
+//! Tests of `shader_ir` by its public items alone: refused memory, and what no row of `tests/samples/rows` shows.
 #![tactic(auto)]
 
-#[cfg(test)]
-mod shapes;
 #[cfg(test)]
 mod tests;

@@ -1,14 +1,10 @@
-//! A file for each part of the library: rows of values from outside, and what no clause says.
+//! What stands by itself, without a module: its parts are asked by rows.
 mod alignments;
-mod conversion;
-mod copies;
 mod data;
-mod keys;
-mod known_numbers;
-mod layouts;
-mod operands;
-mod queries;
 mod refusals;
-mod samples;
-mod sizes;
+mod same;
+mod scalars;
 mod texts;
+
+/// What a test says that fails for want of memory alone.
+const WANT: &str = "want of memory";

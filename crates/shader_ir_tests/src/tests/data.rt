@@ -1,10 +1,9 @@
-//! Names, lists, maps, counts and sets of bits, and what a module lends.
-use crate::tests::samples::{WANT, add};
+//! Names, lists, maps, counts and sets of bits.
+use crate::tests::WANT;
 use bitflags::Flags;
 use shader_arena::Handle;
 use shader_ir::{
-    Barrier, Count, Function, GlobalCtx, Items, Map, Module, Name, PredeclaredType, Scalar,
-    ShaderStages, StorageAccess, TypeInner, mark,
+    Barrier, Count, Items, Map, Name, PredeclaredType, Scalar, ShaderStages, StorageAccess, mark,
 };
 use std::process::Abort;
 
@@ -55,12 +54,6 @@ fn a_map_keeps_the_last_value_of_a_key(rt: HostRuntime) {
     assert!(rt; set(&rt, &mut map, 4).is_none());
     assert!(rt; set(&rt, &mut map, 5) == Some(Handle::from_index(4)));
     assert!(rt; map.len() == 1);
-}
-
-#[test]
-fn a_map_has_the_values_of_its_keys(rt: HostRuntime) {
-    let mut map: Predeclared = Map::new(rt.alloc());
-    assert!(rt; set(&rt, &mut map, 5).is_none());
     assert!(rt; map.get(&modf(Scalar::F16)).is_none());
     assert!(rt; map.get(&modf(Scalar::F32)) == Some(&Handle::from_index(5)));
 }
@@ -99,38 +92,12 @@ fn accesses_have_their_bits(rt: HostRuntime) {
 }
 
 #[test]
-fn barriers_have_their_bits(rt: HostRuntime) {
+fn barriers_and_stages_have_their_bits(rt: HostRuntime) {
     let barrier = Barrier::WORK_GROUP | Barrier::SUB_GROUP | Barrier::TEXTURE;
     assert!(rt; barrier.bits() == 14);
     assert!(rt; (barrier & Barrier::TEXTURE).bits() == 8);
-}
-
-#[test]
-fn stages_have_their_bits(rt: HostRuntime) {
     assert!(rt; ShaderStages::all().bits() == 31);
     let stages = ShaderStages::FRAGMENT | ShaderStages::TASK;
     assert!(rt; stages.bits() == 18);
     assert!(rt; (stages & ShaderStages::VERTEX).bits() == 0);
-}
-
-#[test]
-fn a_new_function_has_nothing_in_it(rt: HostRuntime) {
-    let function = Function::new(rt.alloc());
-    assert!(rt; function.arguments.is_empty() && function.expressions.is_empty());
-    assert!(rt; function.body.statements.is_empty() && function.named_expressions.is_empty());
-}
-
-fn lends_one_type(ctx: GlobalCtx<'_>) -> bool {
-    ctx.types.len() == 1
-        && ctx.constants.len() == 0
-        && ctx.overrides.len() == 0
-        && ctx.global_expressions.len() == 0
-}
-
-#[test]
-fn a_module_lends_its_arenas(rt: HostRuntime) {
-    let mut module = Module::new(rt.alloc());
-    add(&rt, &mut module.types, TypeInner::Scalar(Scalar::F32));
-    assert!(rt; lends_one_type(module.to_ctx()));
-    drop(module);
 }

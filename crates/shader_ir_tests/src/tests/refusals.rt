@@ -4,15 +4,17 @@
 //! With ample memory nothing is refused. Where the allocator refuses the Nth request of a test's
 //! process, the test passes still, and prints a line with `was refused`. The first N at which no
 //! test prints one is past all requests.
-use crate::tests::samples::{Arenas, Types, WANT, array, counted};
-use shader_arena::{Handle, UniqueArena};
+use crate::tests::WANT;
+use shader_arena::{Arena, Handle, UniqueArena};
 use shader_ir::{
-    GlobalCtx, Items, Layouter, Map, Name, Scalar, StructMember, Type, TypeInner, TypeResolution,
+    ArraySize, Count, GlobalCtx, Items, Layouter, Map, Name, Scalar, StructMember, Type, TypeInner,
     UpdateError, mark, sizes_in_range,
 };
 use std::alloc::{AllocError, AllocFailed, Global};
 use std::io::Print;
 use std::process::Abort;
+
+type Types = UniqueArena<Type, mark::Type>;
 
 fn tell<R: Abort + Print>(rt: &R, what: &str) {
     println!(rt; "{what} was refused").expect(rt, "standard output");
@@ -49,9 +51,10 @@ const PLACES: u32 = 12;
 
 /// Adds arrays of one item whose stride is their place, behind a scalar.
 fn add_strided<R: Abort + Print>(rt: &R, types: &mut Types, first: u32, past: u32) {
+    let size = ArraySize::Constant(Count::new(1).expect(rt, "a count"));
     for stride in first..past {
-        let next = array(Handle::from_index(0), counted(rt, 1), stride);
-        add(rt, types, next);
+        let base = Handle::from_index(0);
+        add(rt, types, TypeInner::Array { base, size, stride });
     }
 }
 
@@ -84,16 +87,29 @@ fn update_again_if_refused<R: Abort + Print>(rt: &R, layouter: &mut Layouter, ct
     check_held(rt, layouter);
 }
 
+/// Updates where there is nothing but types.
+fn update<R: Abort + Print>(rt: &R, alloc: Global, layouter: &mut Layouter, types: &Types) {
+    let constants = Arena::new(alloc);
+    let overrides = Arena::new(alloc);
+    let global_expressions = Arena::new(alloc);
+    let ctx = GlobalCtx {
+        types,
+        constants: &constants,
+        overrides: &overrides,
+        global_expressions: &global_expressions,
+    };
+    update_again_if_refused(rt, layouter, ctx);
+}
+
 #[test]
 fn of_update(rt: HostRuntime) {
-    let mut arenas = Arenas::new(rt.alloc());
-    add(&rt, &mut arenas.types, TypeInner::Scalar(Scalar::F32));
-    add_strided(&rt, &mut arenas.types, 1, BEFORE);
+    let mut types: Types = UniqueArena::new(rt.alloc());
+    add(&rt, &mut types, TypeInner::Scalar(Scalar::F32));
+    add_strided(&rt, &mut types, 1, BEFORE);
     let mut layouter = Layouter::new(rt.alloc());
-    update_again_if_refused(&rt, &mut layouter, arenas.ctx());
-    add_strided(&rt, &mut arenas.types, BEFORE, PLACES);
-    update_again_if_refused(&rt, &mut layouter, arenas.ctx());
-    drop(arenas);
+    update(&rt, rt.alloc(), &mut layouter, &types);
+    add_strided(&rt, &mut types, BEFORE, PLACES);
+    update(&rt, rt.alloc(), &mut layouter, &types);
     assert!(rt; layouter.len() == PLACES as usize);
 }
 
@@ -161,32 +177,6 @@ fn named_struct<R: Abort + Print>(rt: &R, alloc: Global) -> Type {
 }
 
 #[test]
-fn of_a_copy_of_a_name(rt: HostRuntime) {
-    let name = name(&rt, rt.alloc(), "Pair");
-    let copy = match name.copy(rt.alloc()) {
-        Ok(copy) => copy,
-        Err(AllocError) => {
-            tell(&rt, "a copy of a name");
-            name.copy(rt.alloc()).expect(&rt, WANT)
-        }
-    };
-    assert!(rt; copy.as_str() == "Pair");
-}
-
-#[test]
-fn of_a_copy_of_a_member(rt: HostRuntime) {
-    let member = named_member(&rt, rt.alloc());
-    let copy = match member.copy(rt.alloc()) {
-        Ok(copy) => copy,
-        Err(AllocError) => {
-            tell(&rt, "a copy of a member");
-            member.copy(rt.alloc()).expect(&rt, WANT)
-        }
-    };
-    assert!(rt; copy == member);
-}
-
-#[test]
 fn of_a_copy_of_a_type(rt: HostRuntime) {
     let ty = named_struct(&rt, rt.alloc());
     let copy = match ty.copy(rt.alloc()) {
@@ -197,33 +187,6 @@ fn of_a_copy_of_a_type(rt: HostRuntime) {
         }
     };
     assert!(rt; copy == ty);
-}
-
-#[test]
-fn of_a_copy_of_a_type_without_its_name(rt: HostRuntime) {
-    let inner = named_struct(&rt, rt.alloc()).inner;
-    let copy = match inner.copy(rt.alloc()) {
-        Ok(copy) => copy,
-        Err(AllocError) => {
-            tell(&rt, "a copy of a struct");
-            inner.copy(rt.alloc()).expect(&rt, WANT)
-        }
-    };
-    assert!(rt; copy == inner);
-}
-
-#[test]
-fn of_a_copy_of_a_resolution(rt: HostRuntime) {
-    let inner = named_struct(&rt, rt.alloc()).inner;
-    let resolution = TypeResolution::Value(inner);
-    let copy = match resolution.copy(rt.alloc()) {
-        Ok(copy) => copy,
-        Err(AllocError) => {
-            tell(&rt, "a copy of a resolution");
-            resolution.copy(rt.alloc()).expect(&rt, WANT)
-        }
-    };
-    assert!(rt; copy == resolution);
 }
 
 #[test]

@@ -1,4 +1,0 @@
-//! Rows of what each call answers, and texts.
-mod indexes;
-mod lengths;
-mod modules;
