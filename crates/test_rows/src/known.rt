@@ -3,6 +3,7 @@
 //! - `global E`: that of a global expression;
 //! - `among E`: the same, as it is looked for among the expressions of a function;
 //! - `local E`: that of an expression of the first function.
+use crate::resolve::first_function;
 use crate::told::{Reply, told};
 use crate::words::Words;
 use shader_arena::Handle;
@@ -19,12 +20,12 @@ fn tell_global(alloc: Global, expression: Handle<mark::Expression>, ctx: GlobalC
 }
 
 fn tell_local(alloc: Global, expression: Handle<mark::Expression>, module: &Module) -> Reply {
-    let first = Handle::from_index(0);
-    if module.functions.contains_handle(first) {
-        let expressions = &module.functions[first].expressions;
-        told(alloc, known_index_among(expressions, expression, module))
-    } else {
-        Ok(None)
+    match first_function(module) {
+        Some(function) => {
+            let index = known_index_among(&function.expressions, expression, module);
+            told(alloc, index)
+        }
+        None => Ok(None),
     }
 }
 

@@ -5,8 +5,8 @@
 //! - `atomic-pointer T`, `canonical T`: what depends on the type that it names;
 //! - `abstract T`, `constructible T`, `dynamic T`, `leaf T`, `needs-bytes T`: what depends on all types that it leads to;
 //! - `converts T T`, `equivalent T T`, `same T T`, `named-same T T`: what is told of two types, the last with their names;
-//! - `compare R R`, `equal R R`, `fits R`, `inner R`, `handle R`: what is told of what expressions resolve to, an R as `h3`, the
-//!   handle of a type, or `v3`, a type equal to it as a value;
+//! - `compare R R`, `equal R R`, `fits R`, `inner R`, `handle R`, `copy R`: what is told of what expressions resolve to, the last whether a
+//!   copy is equal; an R is as `h3`, the handle of a type, or `v3`, a type equal to it as a value;
 //! - `backward`: whether each type names earlier ones alone.
 //!
 //! A T is the number of a type. Values are told as `Debug` prints them.
@@ -42,7 +42,7 @@ pub fn reply(alloc: Global, mut words: Words<'_>, module: &Module) -> Reply {
         "backward" => told(alloc, types_backward(types)),
         "part" => queries::reply_of_part(alloc, words, types),
         "compare" | "equal" => resolutions::reply_of_two(alloc, query, words, types),
-        "fits" | "inner" | "handle" => resolutions::reply(alloc, query, words, types),
+        "copy" | "fits" | "inner" | "handle" => resolutions::reply(alloc, query, words, types),
         "converts" | "equivalent" | "same" | "named-same" => {
             pairs::reply(alloc, query, words, types)
         }

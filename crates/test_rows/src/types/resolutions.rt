@@ -52,6 +52,7 @@ fn tell(alloc: Global, query: &str, resolution: &TypeResolution, types: &Types) 
     match query {
         "fits" => told(alloc, resolution.fits(types)),
         "handle" => told(alloc, resolution.handle()),
+        "copy" => told(alloc, resolution.copy(alloc)? == *resolution),
         _ => {
             if resolution.fits(types) {
                 format!(in alloc; "{:?}", resolution.inner_with(types)).map(Some)
