@@ -16,6 +16,9 @@ BOUND = {
     "Argument": None, "LocationArgument": "location0", "WorkGroupIdArgument": "WorkGroupId",
     "WorkGroupSizeArgument": "WorkGroupSize", "NumWorkGroupsArgument": "NumWorkGroups", "OtherArgument": "VertexIndex",
 }  # fmt: skip
+LISTS = [
+    "constants", "overrides", "global_variables", "global_expressions", "functions", "entry_points", "diagnostic_filters",
+]  # fmt: skip
 TOKEN = re.compile(r"'[^']*'|\S+")
 
 
@@ -138,10 +141,7 @@ class Module:
     def __init__(self):
         self.types = Types()
         self.special = {"ray_intersection": None, "ray_vertex_return": None, "predeclared_types": []}
-        self.lists = {
-            name: []
-            for name in ("constants", "overrides", "global_variables", "global_expressions", "functions", "entry_points", "diagnostic_filters")
-        }
+        self.lists = {name: [] for name in LISTS}
 
     def declare(self, clause):
         """Takes a clause of the first part."""
