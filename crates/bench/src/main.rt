@@ -1,8 +1,8 @@
 //! Repeats a public call, whose instructions `tests/speed` counts: a program for measurements alone.
 //!
-//! `bench CALL ROUNDS [LEVELS]` reads a module as JSON, or lines `NAME TYPE..` for the calls of built-in functions, and makes the call
-//! so many times. LEVELS is how many `If`s are put one in another, as no text nests so deep. The answer is a number that no round can do
-//! without; it is 0 where nothing was done.
+//! The first line of the input is `CALL ROUNDS [LEVELS]`: the call, how often it is made, and how many `If`s are put one in another, as no
+//! text nests so deep. Behind it stands a module as JSON, or a line `NAME TYPE..` for each call of a built-in function. The answer is a
+//! number that no round can do without; it is 0 where nothing was done.
 #![tactic(auto)]
 
 mod calls;
@@ -12,15 +12,11 @@ mod types;
 mod work;
 
 use crate::work::work;
-use std::alloc::AllocError;
 use std::io::{self, Read};
-use std::env;
 
 fn main(rt: HostRuntime) -> io::Result<()> {
-    let words: Result<Vec<String>, AllocError> = env::args(&rt)?.skip(1).collect(rt.alloc());
-    let words = words?;
     let mut input = Vec::new(rt.alloc());
     rt.reader().read_to_end(&mut input)?;
-    let done = work(rt.alloc(), words.as_slice(), input.as_slice())?;
+    let done = work(rt.alloc(), input.as_slice())?;
     println!(rt; "{done}")
 }

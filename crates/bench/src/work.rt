@@ -6,12 +6,13 @@ use crate::modules::{analyze, check, nest};
 use crate::types::{compare, convert, lay_out};
 use shader_ir::Module;
 use shader_json::read_module;
+use shader_text::{Pieces, index_of, number_from_word};
 use std::alloc::{AllocError, Global};
 
 /// The number that a word is, 0 where it is none.
-fn number(word: Option<&String>) -> usize {
+fn number(word: Option<&[u8]>) -> usize {
     match word {
-        Some(word) => word.as_str().parse::<usize>().unwrap_or(0),
+        Some(word) => number_from_word(word).unwrap_or(0) as usize,
         None => 0,
     }
 }
@@ -34,7 +35,7 @@ fn work_on_module(
     }
 }
 
-/// Makes the call on the module that a text is.
+/// Makes the call on the module that a text is, once its first function is nested so deep.
 fn work_on_text(
     alloc: Global,
     call: &[u8],
@@ -45,21 +46,25 @@ fn work_on_text(
     let Ok(mut module) = read_module(alloc, text) else {
         return Ok(0);
     };
-    nest(alloc, &mut module, levels)?;
+    let nested = nest(alloc, &mut module, levels);
     let done = work_on_module(alloc, call, &module, rounds);
     drop(module);
+    nested?;
     done
 }
 
-/// Does what the words ask for over the input.
-pub fn work(alloc: Global, words: &[String], input: &[u8]) -> Result<usize, AllocError> {
-    let Some(call) = words.first() else {
+/// Does what the first line of the input asks for over the lines behind it.
+pub fn work(alloc: Global, input: &[u8]) -> Result<usize, AllocError> {
+    let Some(end) = index_of(input, b'\n') else {
         return Ok(0);
     };
-    let rounds = number(words.get(1));
-    match call.as_bytes() {
-        b"arg" => resolve_calls(alloc, calls_of(alloc, input)?.as_slice(), rounds),
-        b"overloads" => make_sets(alloc, calls_of(alloc, input)?.as_slice(), rounds),
-        call => work_on_text(alloc, call, input, rounds, number(words.get(2))),
+    let mut words = Pieces::new(&input[..end], b' ');
+    let call = words.next().unwrap_or(b"");
+    let rounds = number(words.next());
+    let text = &input[end + 1..];
+    match call {
+        b"arg" => resolve_calls(alloc, calls_of(alloc, text)?.as_slice(), rounds),
+        b"overloads" => make_sets(alloc, calls_of(alloc, text)?.as_slice(), rounds),
+        _ => work_on_text(alloc, call, text, rounds, number(words.next())),
     }
 }
