@@ -1,0 +1,64 @@
+//! The answer to each line of an input.
+use crate::analysis;
+use crate::words::Words;
+use shader_ir::Module;
+use shader_json::{ReadError, read_module};
+use std::alloc::{AllocError, Global};
+
+/// What is replied to a question about the module, if a kind of question knows it and it can be asked of this module.
+fn reply(alloc: Global, question: &str, module: &Module) -> Result<Option<String>, AllocError> {
+    let mut words = Words::new(question);
+    match words.next_word() {
+        "analysis" => analysis::reply(alloc, words, module),
+        _ => Ok(None),
+    }
+}
+
+/// The question and the text of the module that stand in a line.
+fn parts(line: &[u8]) -> Option<(&str, &str)> {
+    match str::from_utf8(line) {
+        Ok(text) => text.split_once('\t'),
+        Err(_) => None,
+    }
+}
+
+fn add_reply(text: &mut String, reply: Option<String>) -> Result<(), AllocError> {
+    match reply {
+        Some(reply) => writeln!(text, "{reply}"),
+        None => text.push_str("bad question\n"),
+    }
+}
+
+/// Adds what is replied to a question about the module that the text is.
+fn add_answer(
+    alloc: Global,
+    text: &mut String,
+    question: &str,
+    module: &str,
+) -> Result<(), AllocError> {
+    match read_module(alloc, module.as_bytes()) {
+        Ok(module) => {
+            let reply = reply(alloc, question, &module);
+            drop(module);
+            add_reply(text, reply?)
+        }
+        Err(ReadError::OutOfMemory) => Err(AllocError),
+        Err(_) => text.push_str("bad module\n"),
+    }
+}
+
+fn add_line(alloc: Global, text: &mut String, line: &[u8]) -> Result<(), AllocError> {
+    match parts(line) {
+        Some((question, module)) => add_answer(alloc, text, question, module),
+        None => text.push_str("bad question\n"),
+    }
+}
+
+/// The answers to the lines of the input, each on a line of its own.
+pub fn answer(alloc: Global, input: &[u8]) -> Result<String, AllocError> {
+    let mut text = String::new(alloc);
+    for line in input.split_inclusive(|b| *b == b'\n') {
+        add_line(alloc, &mut text, line.strip_suffix(b"\n").unwrap_or(line))?;
+    }
+    Ok(text)
+}
