@@ -1,6 +1,6 @@
 //! The answer to each line of an input.
-use crate::analysis;
 use crate::words::Words;
+use crate::{analysis, indexes, origins};
 use shader_ir::Module;
 use shader_json::{ReadError, read_module};
 use std::alloc::{AllocError, Global};
@@ -10,6 +10,8 @@ fn reply(alloc: Global, question: &str, module: &Module) -> Result<Option<String
     let mut words = Words::new(question);
     match words.next_word() {
         "analysis" => analysis::reply(alloc, words, module),
+        "indexes" => indexes::reply(alloc, words, module),
+        "origins" => origins::reply(alloc, words, module),
         _ => Ok(None),
     }
 }

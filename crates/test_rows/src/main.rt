@@ -3,6 +3,8 @@
 
 mod analysis;
 mod answer;
+mod indexes;
+mod origins;
 mod running;
 mod words;
 
