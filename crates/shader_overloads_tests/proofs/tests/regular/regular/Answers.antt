@@ -4,7 +4,7 @@ use Rattle.shader_overloads.specs.declared.constructor_set.ConstructorSize.{Cons
 use Rattle.shader_overloads.specs.declared.regular.ConclusionRule.TheVariants.{ArgumentType}
 use Rattle.shader_overloads.specs.Constructors.{constructors_in}
 use Rattle.shader_overloads.specs.Rules.{can_conclude}
-use Rattle.shader_overloads_tests.proofs.tests.rows.regular.Goals as goal
+use Rattle.shader_overloads_tests.proofs.tests.regular.regular.Goals as goal
 
 -- any constructor's type is a conclusion
 all_conclude : (sizes : List ConstructorSize) → list_all (can_conclude ArgumentType) sizes ≡ true
