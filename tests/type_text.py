@@ -13,7 +13,8 @@ SPACES = {
     "immediate": "Immediate", "task_payload": "TaskPayload", "ray_payload": "RayPayload", "incoming_ray_payload": "IncomingRayPayload",
 }  # fmt: skip
 ACCESSES = {"read": "LOAD", "write": "STORE", "read_write": "LOAD | STORE", "atomic": "LOAD | STORE | ATOMIC"}
-IMAGE = re.compile(r"texture_(?:(?P<class>multisampled|depth_multisampled|depth|storage)_)?(?P<dim>1d|2d|3d|cube)(?P<arrayed>_array)?")
+IMAGE = re.compile(r"texture_(?:(?P<class>(?:depth_)?multisampled|depth|storage|external)_)?(?P<dim>1d|2d|3d|cube)(?P<arrayed>_array)?")
+FORMAT = re.compile(r"(\w+?)([us]norm|[us]int|u?float)")
 # Built-ins that are objects in naga's JSON.
 BUILTINS = {"Position": {"Position": {"invariant": False}}, "Barycentric": {"Barycentric": {"perspective": True}}}
 
@@ -77,6 +78,13 @@ def binding(word):
     return {"Location": {"location": int(located[1])}} if located else {"BuiltIn": BUILTINS.get(word, word)}
 
 
+def storage_format(word):
+    """The name of a storage format, as Rgba8Sint, from its lower-case letters."""
+    found = FORMAT.fullmatch(word)
+    need(found, f"{word} is no storage format")
+    return "".join(it.capitalize() for it in found.groups())
+
+
 def image(word, given):
     """The image of this name, with what stands between its brackets."""
     if word == "texture_external":
@@ -85,7 +93,9 @@ def image(word, given):
     need(found, f"{word} is no type")
     kind = found["class"] or ""
     if kind == "storage":
-        form = {"Storage": {"format": given[0].capitalize(), "access": access(given[1])}}
+        form = {"Storage": {"format": storage_format(given[0]), "access": access(given[1])}}
+    elif kind == "external":
+        form = "External"
     elif kind.startswith("depth"):
         form = {"Depth": {"multi": kind.endswith("multisampled")}}
     else:

@@ -1,12 +1,4 @@
-mod accesses;
-mod builtins;
-mod conclusions;
-mod images;
-mod leaves;
 mod loads;
-mod modules;
 mod nesting;
-mod operations;
 mod refusals;
-mod rows;
 mod texts;

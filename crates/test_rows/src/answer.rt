@@ -1,6 +1,6 @@
 //! The answer to each line of an input.
 use crate::words::Words;
-use crate::{analysis, indexes, origins};
+use crate::{analysis, faults, indexes, origins, resolve, typifier};
 use shader_ir::Module;
 use shader_json::{ReadError, read_module};
 use std::alloc::{AllocError, Global};
@@ -10,8 +10,12 @@ fn reply(alloc: Global, question: &str, module: &Module) -> Result<Option<String
     let mut words = Words::new(question);
     match words.next_word() {
         "analysis" => analysis::reply(alloc, words, module),
+        "fault" => faults::fault(alloc, words, module),
+        "nests" => faults::nests(alloc, words, module),
         "indexes" => indexes::reply(alloc, words, module),
         "origins" => origins::reply(alloc, words, module),
+        "resolve" => resolve::reply(alloc, words, module),
+        "typifier" => typifier::reply(alloc, words, module),
         _ => Ok(None),
     }
 }

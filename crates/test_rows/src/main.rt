@@ -3,9 +3,12 @@
 
 mod analysis;
 mod answer;
+mod faults;
 mod indexes;
 mod origins;
+mod resolve;
 mod running;
+mod typifier;
 mod words;
 
 use crate::running::run;

@@ -34,6 +34,11 @@ impl<'a> Words<'a> {
         }
     }
 
+    /// The words that are left.
+    pub fn rest(self) -> &'a str {
+        self.rest
+    }
+
     /// Whether no word is left.
     pub fn is_done(self) -> bool {
         self.rest.is_empty()

@@ -3,19 +3,15 @@ ghost use Rattle.std.specs.Prelude.{All, IsTrue};
 ghost use Rattle.shader_ir.specs.Key.{FitsTypes};
 
 use crate::alike::loads_alike;
-use crate::held::load_held;
-use crate::tests::rows::{Resolved, module, of, pointer, value_pointer, vector};
 use shader_arena::{Arena, Handle, UniqueArena};
 use shader_ir::{
-    AddressSpace, Module, Scalar, Type, TypeResolution, VectorSize, compare_types, mark,
+    AddressSpace, Module, Scalar, Type, TypeInner, TypeResolution, VectorSize, compare_types, mark,
     types_backward,
 };
 use shader_resolve::laws::contexts_of_well_formed_modules_fit;
 use shader_resolve::{ResolveContext, check_module};
 use std::alloc::Global;
 use std::process::Abort;
-
-const BI: VectorSize = VectorSize::Bi;
 
 /// Whether each held type is there, or is built of types that are.
 fn all_fit(types: &UniqueArena<Type, mark::Type>, held: &[TypeResolution]) -> bool
@@ -44,27 +40,6 @@ fn are_alike(
     are_alike
 }
 
-/// The type of a load.
-fn loaded(rt: &impl Abort, alloc: Global, module: &Module, held: [TypeResolution; 1]) -> Resolved {
-    assert!(rt; check_module(module).is_ok());
-    contexts_of_well_formed_modules_fit();
-    let locals = Arena::new(alloc);
-    let context = ResolveContext::with_locals(module, &locals, &[]);
-    assert!(rt; all_fit(&module.types, &held));
-    let told = load_held(&context, alloc, &held, Handle::from_index(0));
-    drop(held);
-    drop(locals);
-    told
-}
-
-/// A pointer to the module's vec2 of f32, or the value pointer that is equal to it.
-fn to_pair(is_value: bool) -> [TypeResolution; 1] {
-    if is_value {
-        return [value_pointer(Some(BI), Scalar::F32)];
-    }
-    [pointer(1, AddressSpace::Private)]
-}
-
 /// Whether two types, each alone in its list, are the same.
 fn are_same(
     rt: &impl Abort,
@@ -83,21 +58,41 @@ fn are_same(
     are_same
 }
 
-#[test]
-fn loads_through_equal_pointers_are_alike(rt: HostRuntime) {
-    let module = module(&rt, rt.alloc());
-    assert!(rt; are_same(&rt, &module, to_pair(false), to_pair(true)));
-    assert!(rt; are_alike(&rt, rt.alloc(), &module, to_pair(false), to_pair(true)));
-    drop(module);
+/// A pointer to the module's vec2 of f32, or the value pointer that is equal to it.
+fn to_pair(is_value: bool) -> [TypeResolution; 1] {
+    let space = AddressSpace::Private;
+    if is_value {
+        return [TypeResolution::Value(TypeInner::ValuePointer {
+            size: Some(VectorSize::Bi),
+            scalar: Scalar::F32,
+            space,
+        })];
+    }
+    [TypeResolution::Value(TypeInner::Pointer {
+        base: Handle::from_index(0),
+        space,
+    })]
+}
+
+/// A module of one type, a vec2 of f32.
+fn with_pair(rt: &impl Abort, alloc: Global) -> Module {
+    let mut module = Module::new(alloc);
+    let inner = TypeInner::Vector {
+        size: VectorSize::Bi,
+        scalar: Scalar::F32,
+    };
+    assert!(rt; module.types.len() < 10);
+    module
+        .types
+        .insert(Type { name: None, inner })
+        .expect(rt, "want of memory");
+    module
 }
 
 #[test]
-fn loads_through_equal_pointers_are_of_one_type(rt: HostRuntime) {
-    let module = module(&rt, rt.alloc());
-    let named = loaded(&rt, rt.alloc(), &module, to_pair(false));
-    assert!(rt; named == Ok(of(1)));
-    let written = loaded(&rt, rt.alloc(), &module, to_pair(true));
-    assert!(rt; written == Ok(vector(BI, Scalar::F32)));
-    assert!(rt; are_same(&rt, &module, [of(1)], [vector(BI, Scalar::F32)]));
+fn loads_through_equal_pointers_are_alike(rt: HostRuntime) {
+    let module = with_pair(&rt, rt.alloc());
+    assert!(rt; are_same(&rt, &module, to_pair(false), to_pair(true)));
+    assert!(rt; are_alike(&rt, rt.alloc(), &module, to_pair(false), to_pair(true)));
     drop(module);
 }

@@ -2,12 +2,14 @@
 //!
 //! With ample memory nothing is refused. Where the allocator refuses the Nth request of a test's process, the test passes
 //! still, and prints a line with `was refused`. The first N at which no test prints one is past all requests.
-use crate::held::resolve_held;
-use crate::tests::rows::{at, is_want, vector};
-use shader_arena::Arena;
+mod held;
+mod tables;
+
+use crate::tests::refusals::held::resolve_held;
+use shader_arena::{Arena, Handle};
 use shader_ir::{
     BinaryOperator, Expression, MathFunction, Module, Scalar, ScalarKind, TypeInner,
-    TypeResolution, VectorSize,
+    TypeResolution, VectorSize, mark,
 };
 use shader_resolve::{ResolveContext, ResolveError};
 use std::alloc::Global;
@@ -16,6 +18,10 @@ use std::process::Abort;
 use std::test::Fail;
 
 type Answer = Option<Result<TypeResolution, ResolveError>>;
+
+fn at(place: u32) -> Handle<mark::Expression> {
+    Handle::from_index(place)
+}
 
 /// The answer for an expression in a context, asked again where memory was refused.
 fn answer_in<R: Abort + Print>(
@@ -26,7 +32,7 @@ fn answer_in<R: Abort + Print>(
     expr: &Expression,
 ) -> Result<Answer, Fail> {
     let first = resolve_held(context, alloc, held, expr);
-    if !is_want(&first) {
+    if !matches!(first, Some(Err(ResolveError::OutOfMemory))) {
         return Ok(first);
     }
     drop(first);
@@ -84,18 +90,18 @@ fn call(fun: MathFunction) -> Expression {
     }
 }
 
+fn pair(scalar: Scalar) -> TypeResolution {
+    TypeResolution::Value(TypeInner::Vector {
+        size: VectorSize::Bi,
+        scalar,
+    })
+}
+
 /// Two operands that no operation takes.
 fn unlike() -> [TypeResolution; 2] {
     [
-        vector(VectorSize::Bi, Scalar::F32),
+        pair(Scalar::F32),
         TypeResolution::Value(TypeInner::Sampler { comparison: false }),
-    ]
-}
-
-fn pair_of(scalar: Scalar) -> [TypeResolution; 2] {
-    [
-        vector(VectorSize::Bi, scalar),
-        vector(VectorSize::Bi, scalar),
     ]
 }
 
@@ -127,19 +133,14 @@ fn of_operations(rt: HostRuntime) -> Result<(), Fail> {
 
 #[test]
 fn of_builtins(rt: HostRuntime) -> Result<(), Fail> {
-    let held = pair_of(Scalar::F32);
+    let held = [pair(Scalar::F32), pair(Scalar::F32)];
     let told = answer(&rt, rt.alloc(), held, call(MathFunction::Max))?;
-    assert!(rt; is_type(told, vector(VectorSize::Bi, Scalar::F32)));
-    let held = pair_of(Scalar::F32);
+    assert!(rt; is_type(told, pair(Scalar::F32)));
+    let held = [pair(Scalar::F32), pair(Scalar::F32)];
     let told = answer(&rt, rt.alloc(), held, call(MathFunction::Cross))?;
     assert!(rt; is_invalid(told, "Cross"));
-    Ok(())
-}
-
-#[test]
-fn of_listed_builtins(rt: HostRuntime) -> Result<(), Fail> {
-    let held = pair_of(Scalar::F16);
+    let held = [pair(Scalar::F16), pair(Scalar::F16)];
     let told = answer(&rt, rt.alloc(), held, call(MathFunction::Refract))?;
-    assert!(rt; is_type(told, vector(VectorSize::Bi, Scalar::F16)));
+    assert!(rt; is_type(told, pair(Scalar::F16)));
     Ok(())
 }

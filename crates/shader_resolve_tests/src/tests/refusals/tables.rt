@@ -1,0 +1,156 @@
+//! A table of types that grows over a literal, a vector of it and a sum: where a growth is refused, the types that were held stay, and the
+//! call made again goes on behind them.
+ghost use Rattle.std.specs.Prelude.{◌<◌, All, length};
+ghost use Rattle.shader_ir.specs.Key.{FitsTypes};
+ghost use Rattle.shader_ir.specs.TypeTree.{IsBackward};
+
+use crate::tests::refusals::at;
+use shader_arena::{Arena, Handle, UniqueArena};
+use shader_ir::{
+    BinaryOperator, Expression, Literal, Module, Scalar, Type, TypeInner, TypeResolution,
+    VectorSize, mark, types_backward,
+};
+use shader_resolve::{ResolveContext, ResolveError};
+use shader_typifier::{Typifier, TypifyError};
+use std::alloc::Global;
+use std::io::Print;
+use std::process::Abort;
+
+const WANT: &str = "want of memory";
+
+type Expressions = Arena<Expression, mark::Expression>;
+
+/// Says that memory was refused, for the sweep over refused requests.
+fn say(rt: &impl Print, what: &str) {
+    match println!(rt; "{what} was refused") {
+        Ok(()) | Err(_) => {}
+    }
+}
+
+/// Adds an expression last, and again where memory was refused.
+fn add(rt: &(impl Abort + Print), expressions: &mut Expressions, expression: Expression) {
+    assert!(rt; expressions.len() < 10);
+    match expressions.append(expression) {
+        Ok(_) => {}
+        Err(failed) => {
+            say(rt, "an expression");
+            expressions.append(failed.value).expect(rt, WANT);
+        }
+    }
+}
+
+fn expressions(rt: &(impl Abort + Print), alloc: Global) -> Expressions {
+    let mut expressions = Arena::new(alloc);
+    add(rt, &mut expressions, Expression::Literal(Literal::F32(0)));
+    let (size, value) = (VectorSize::Tri, at(0));
+    add(rt, &mut expressions, Expression::Splat { size, value });
+    let sum = Expression::Binary {
+        op: BinaryOperator::Add,
+        left: at(1),
+        right: at(1),
+    };
+    add(rt, &mut expressions, sum);
+    expressions
+}
+
+/// Lets a table grow, and again where memory was refused.
+fn grow(
+    rt: &(impl Abort + Print),
+    alloc: Global,
+    typifier: &mut Typifier,
+    handle: Handle<mark::Expression>,
+    expressions: &Expressions,
+    context: &ResolveContext<'_>,
+) -> Result<(), TypifyError>
+    requires backward { IsBackward context.now.types }
+    requires fit { All (FitsTypes context.now.types) typifier.old }
+    requires there { handle < length expressions.now }
+    ensures { All (FitsTypes context.now.types) typifier.new }
+{
+    let before = typifier.len();
+    let told = typifier.grow(alloc, handle, expressions, context);
+    if !matches!(told, Err(TypifyError::Resolve(ResolveError::OutOfMemory))) {
+        return told;
+    }
+    say(rt, "a type");
+    assert!(rt; typifier.len() >= before);
+    typifier.grow(alloc, handle, expressions, context)
+}
+
+/// Registers a type, and again where memory was refused.
+fn register(
+    rt: &(impl Abort + Print),
+    alloc: Global,
+    typifier: &Typifier,
+    handle: Handle<mark::Expression>,
+    types: &mut UniqueArena<Type, mark::Type>,
+) -> Handle<mark::Type> {
+    let before = types.len();
+    assert!(rt; before < 10 && handle.index() < typifier.len());
+    match typifier.register_type(alloc, handle, types) {
+        Ok(ty) => ty,
+        Err(_) => {
+            say(rt, "a registered type");
+            assert!(rt; types.len() == before);
+            typifier
+                .register_type(alloc, handle, types)
+                .expect(rt, WANT)
+        }
+    }
+}
+
+/// Asserts that a table holds a float and two vectors of it.
+fn holds(rt: &impl Abort, typifier: &Typifier) {
+    assert!(rt; typifier.len() == 3);
+    assert!(rt;
+        matches!(
+            typifier[at(0)],
+            TypeResolution::Value(TypeInner::Scalar(Scalar::F32))
+        )
+    );
+    for place in 1..3 {
+        assert!(rt;
+            matches!(
+                typifier[at(place)],
+                TypeResolution::Value(TypeInner::Vector {
+                    size: VectorSize::Tri,
+                    scalar: Scalar::F32,
+                })
+            )
+        );
+    }
+}
+
+/// A table of the types of all expressions, which has grown over the first, over all, and anew from the first on.
+fn grown(rt: &(impl Abort + Print), alloc: Global, expressions: &Expressions) -> Typifier {
+    let module = Module::new(alloc);
+    let locals = Arena::new(alloc);
+    let context = ResolveContext::with_locals(&module, &locals, &[]);
+    let mut typifier = Typifier::new(alloc);
+    assert!(rt; types_backward(&module.types) && expressions.len() == 3);
+    let told = grow(rt, alloc, &mut typifier, at(0), expressions, &context);
+    assert!(rt; told.is_ok() && typifier.len() == 1);
+    let told = grow(rt, alloc, &mut typifier, at(2), expressions, &context);
+    assert!(rt; told.is_ok());
+    holds(rt, &typifier);
+    let told = typifier.invalidate(alloc, at(0), expressions, &context);
+    assert!(rt; told.is_ok() && typifier.len() == 1);
+    let told = grow(rt, alloc, &mut typifier, at(2), expressions, &context);
+    assert!(rt; told.is_ok());
+    drop(locals);
+    drop(module);
+    typifier
+}
+
+#[test]
+fn of_grow(rt: HostRuntime) {
+    let expressions = expressions(&rt, rt.alloc());
+    let typifier = grown(&rt, rt.alloc(), &expressions);
+    holds(&rt, &typifier);
+    let mut types = UniqueArena::new(rt.alloc());
+    for place in 0..3 {
+        let ty = register(&rt, rt.alloc(), &typifier, at(place), &mut types);
+        assert!(rt; ty.index() == if place == 0 { 0 } else { 1 });
+    }
+    assert!(rt; types.len() == 2);
+}

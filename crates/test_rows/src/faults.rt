@@ -1,0 +1,50 @@
+//! Questions about whether a module is well formed, and how deep its blocks nest:
+//!
+//! - `fault`: `none`, or the first place at which something is wrong and what that is, as `Type([0]) TypeNotEarlier`;
+//! - `nests NUMBER..`: for each number `yes` where the blocks nest no deeper, or else `no`.
+use crate::words::Words;
+use shader_ir::Module;
+use shader_resolve::{check_module, find_fault, nests_within};
+use std::alloc::{AllocError, Global};
+
+/// What is replied to `fault`. Where the two calls differ in the fault, that is told.
+pub fn fault(
+    alloc: Global,
+    words: Words<'_>,
+    module: &Module,
+) -> Result<Option<String>, AllocError> {
+    if !words.is_done() {
+        return Ok(None);
+    }
+    let text = match (check_module(module), find_fault(module)) {
+        (Ok(()), None) => "none".to_string(alloc),
+        (Err(told), Some((place, fault))) if told == fault => {
+            format!(in alloc; "{place:?} {fault:?}")
+        }
+        (told, found) => format!(in alloc; "{told:?} is no {found:?}"),
+    };
+    text.map(Some)
+}
+
+/// What is replied to the numbers that the words are, if they are.
+pub fn nests(
+    alloc: Global,
+    words: Words<'_>,
+    module: &Module,
+) -> Result<Option<String>, AllocError> {
+    let mut text = String::new(alloc);
+    for word in words.rest().split_whitespace() {
+        let Ok(levels) = word.parse::<usize>() else {
+            return Ok(None);
+        };
+        if !text.is_empty() {
+            text.push_str(" ")?;
+        }
+        text.push_str(if nests_within(module, levels) {
+            "yes"
+        } else {
+            "no"
+        })?;
+    }
+    Ok(Some(text))
+}
