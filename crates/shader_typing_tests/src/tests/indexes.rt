@@ -3,11 +3,11 @@
 ghost use Rattle.std.specs.Prelude.{◌<◌, length};
 ghost use Rattle.shader_resolve.specs.WellFormed.{IsWellFormed};
 
-use crate::tests::infos::WANT;
+use crate::tests::infos::{WANT, info};
 use shader_arena::{Handle, UniqueArena};
 use shader_ir::{
-    AddressSpace, ArraySize, Expression, Function, Items, LocalVariable, Module, Scalar,
-    ShaderStages, TypeInner, TypeResolution, mark,
+    AddressSpace, ArraySize, Expression, Function, Items, LocalVariable, Module, Scalar, TypeInner,
+    TypeResolution, mark,
 };
 use shader_resolve::check_module;
 use shader_samples::parts::{arena_of, argument, at, call, function_of, module_of};
@@ -15,11 +15,9 @@ use shader_typing::proc::index::{
     BoundsCheckPolicies, BoundsCheckPolicy, find_checked_indexes, oob_local_types,
 };
 use shader_typing::valid::{
-    Capabilities, ExpressionInfo, FunctionInfo, ModuleInfo, Uniformity, UniformityRequirements,
-    ValidationFlags, analyze_module,
+    Capabilities, ExpressionInfo, GlobalUse, ModuleInfo, ValidationFlags, analyze_module,
 };
 use std::alloc::{AllocError, Global};
-use std::collections::HashSet;
 use std::io::Print;
 use std::process::Abort;
 
@@ -144,36 +142,15 @@ fn refusals_of_searches(rt: HostRuntime) {
     drop(module);
 }
 
-fn uniformity() -> Uniformity {
-    Uniformity {
-        non_uniform_result: None,
-        requirements: UniformityRequirements(0),
-    }
-}
-
-/// An info that records a type of one expression, which is none of an empty module.
-fn info(rt: &impl Abort, alloc: Global) -> FunctionInfo {
+#[test]
+fn a_type_that_is_not_there_has_the_policy_of_indexes(rt: HostRuntime) {
+    let mut info = info(&rt, rt.alloc(), GlobalUse::READ);
     let expression = ExpressionInfo {
-        uniformity: uniformity(),
+        uniformity: info.uniformity,
         ref_count: 0,
         ty: TypeResolution::Handle(Handle::from_index(0)),
     };
-    let expressions = vec![in alloc; expression].expect(rt, WANT);
-    FunctionInfo {
-        available_stages: ShaderStages::VERTEX,
-        uniformity: uniformity(),
-        may_kill: false,
-        sampling_set: HashSet::new(alloc),
-        global_uses: Items::from(Vec::new(alloc)),
-        expressions: Items::from(expressions),
-        sampling: HashSet::new(alloc),
-        dual_source_blending: false,
-    }
-}
-
-#[test]
-fn a_type_that_is_not_there_has_the_policy_of_indexes(rt: HostRuntime) {
-    let info = info(&rt, rt.alloc());
+    info.expressions = Items::from(vec![in rt.alloc(); expression].expect(&rt, WANT));
     let types = UniqueArena::new(rt.alloc());
     assert!(rt; POLICIES.choose_policy(at(0), &types, &info) == POLICIES.index);
     assert!(rt; BoundsCheckPolicy::default() == BoundsCheckPolicy::Unchecked);
