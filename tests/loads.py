@@ -10,10 +10,12 @@ GROUP = 10
 
 
 def binary(op, left, right):
+    """An operation on two expressions."""
     return {"Binary": {"op": op, "left": left, "right": right}}
 
 
 def math(fun, first, second):
+    """A call of a built-in function on two expressions."""
     return {"Math": {"fun": fun, "arg": first, "arg1": second, "arg2": None, "arg3": None}}
 
 
@@ -84,15 +86,17 @@ def of_expressions(mix, count):
 
 
 def one_function(mix):
+    """What makes a module of one function of a mix."""
     return lambda size: module([of_expressions(mix, size)])
 
 
 def functions_of(count):
-    """Functions that have so many expressions each, and as many expressions in all as is asked for."""
+    """What makes a module of functions that have so many expressions each, and as many expressions in all as is asked for."""
     return lambda size: module([of_expressions("without_lists", count)] * (size // count))
 
 
 def calls(callee, result=None):
+    """A call of a function, whose result is an expression where one is given."""
     return {"Call": {"function": callee, "arguments": [], "result": result}}
 
 
@@ -113,11 +117,13 @@ def condition(_size):
     return module([function([{"Literal": {"Bool": True}}], [])])
 
 
-def variable(ty, space="Private"):
+def variable(ty, space):
+    """A global of a type in a space."""
     return {"space": space, "ty": ty}
 
 
 def storage(ty):
+    """A global of a type in a storage buffer."""
     return variable(ty, {"Storage": {"access": "LOAD | STORE"}})
 
 
@@ -188,6 +194,7 @@ def all_types(size):
 
 
 def type_at(place):
+    """The type of a place, over one of the half of it."""
     base = place // 2
     return [
         {"Scalar": FLOAT},
