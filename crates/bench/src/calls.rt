@@ -1,8 +1,5 @@
 //! Calls of built-in functions, resolved.
-ghost use Rattle.std.specs.Prelude.{IfOk};
 ghost use Rattle.shader_ir.specs.TypeTree.{IsBackward};
-ghost use Rattle.shader_overloads.specs.AnySet.{rules_in};
-ghost use Rattle.shader_overloads.specs.Remaining.{RulesFit};
 
 use shader_arena::UniqueArena;
 use shader_ir::{MathFunction, Type, TypeInner, mark, types_backward};
@@ -49,9 +46,10 @@ fn supply(
 {
     let mut left = call.function.overloads(alloc)?;
     for (i, ty) in call.arguments.iter().enumerate() {
-        if ty.is_in_range(types) {
-            left = left.arg(alloc, i, ty, types)?;
+        if !ty.is_in_range(types) {
+            return Ok(left);
         }
+        left = left.arg(alloc, i, ty, types)?;
     }
     Ok(left)
 }
