@@ -12,7 +12,8 @@ use shader_typing::proc::index::{
     GuardedIndex, access_needs_check, find_checked_indexes, length_of_base, oob_local_types,
 };
 use shader_typing::valid::{
-    Capabilities, FunctionInfo, ModuleInfo, ValidationFlags, analyze_module,
+    AnalysisError, Capabilities, FunctionError, FunctionInfo, ModuleInfo, ValidationFlags,
+    analyze_module,
 };
 use std::alloc::{AllocError, Global};
 
@@ -109,6 +110,14 @@ fn told_of_entry_point(
     told_by(alloc, module, function, info, asked)
 }
 
+/// That nothing can be asked of a module that is refused, but for want of memory.
+fn refused(error: &AnalysisError) -> Result<Option<String>, AllocError> {
+    match &error.cause {
+        FunctionError::OutOfMemory => Err(AllocError),
+        _ => Ok(None),
+    }
+}
+
 /// What is told of the function at the place of a well-formed module that is accepted, if there is one.
 pub fn told(
     alloc: Global,
@@ -119,8 +128,9 @@ pub fn told(
     if check_module(module).is_err() {
         return Ok(None);
     }
-    let Ok(infos) = analyze_module(alloc, module, FLAGS, CAPABILITIES) else {
-        return Ok(None);
+    let infos = match analyze_module(alloc, module, FLAGS, CAPABILITIES) {
+        Ok(infos) => infos,
+        Err(error) => return refused(&error),
     };
     let text = match place {
         Place::Function(place) => told_of_function(alloc, module, &infos, place, asked),
