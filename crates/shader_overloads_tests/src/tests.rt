@@ -1,22 +1,16 @@
-//! A file for each kind of test, and what they share.
-mod calls;
+//! A file for each kind of test, and what they share. How sets narrow is asked line by line (tests/samples/call.in, narrow.in and rules.in).
+mod conclusions;
+mod lists;
 mod refusals;
-mod rows;
+mod regular;
 mod sets;
-mod texts;
-
-ghost use Rattle.std.specs.Prelude.{All};
-ghost use Rattle.shader_overloads.specs.Remaining.{CallFits};
 
 pub use crate::made::{Made, inner};
 use shader_arena::{Arena, UniqueArena};
 use shader_ir::{
-    Constant, Expression, GlobalCtx, MathFunction, Override, Scalar, Type, TypeResolution,
-    VectorSize, mark, types_backward,
+    Constant, Expression, GlobalCtx, Override, Scalar, Type, TypeResolution, VectorSize, mark,
 };
-use shader_overloads::{
-    AnyOverloadSet, Conclusion, ConstructorSize, MathOverloads, OverloadSet, Rule, SetCall, narrow,
-};
+use shader_overloads::{Conclusion, ConstructorSize, OverloadSet, Rule};
 use std::alloc::{AllocError, Global};
 use std::process::Abort;
 
@@ -46,18 +40,18 @@ pub fn is_type(resolution: &TypeResolution, wanted: Made) -> bool {
     }
 }
 
-pub fn concludes(rule: &Rule, wanted: Made) -> bool {
+/// Whether the rule takes arguments of these types and gives the type.
+pub fn is_rule(rule: &Rule, arguments: &[Made], gives: Made) -> bool {
+    let is_each = rule
+        .arguments
+        .iter()
+        .zip(arguments.iter())
+        .all(|(found, wanted)| is_type(found, *wanted));
     match &rule.conclusion {
-        Conclusion::Value(found) => *found == inner(wanted),
+        Conclusion::Value(found) => {
+            is_each && rule.arguments.len() == arguments.len() && *found == inner(gives)
+        }
         Conclusion::Predeclared(_) => false,
-    }
-}
-
-/// Whether the rule takes two arguments of these types and gives the third.
-pub fn is_rule(rule: &Rule, first: Made, second: Made, gives: Made) -> bool {
-    match rule.arguments.as_slice() {
-        [left, right] => is_type(left, first) && is_type(right, second) && concludes(rule, gives),
-        _ => false,
     }
 }
 
@@ -101,11 +95,6 @@ pub fn list_rules<S: OverloadSet>(alloc: Global, set: &S) -> Result<Vec<Rule>, A
     rules
 }
 
-/// The same, where want of memory ends the test.
-pub fn listed<S: OverloadSet>(rt: &impl Abort, alloc: Global, set: &S) -> Vec<Rule> {
-    list_rules(alloc, set).expect(rt, WANT)
-}
-
 /// The types that a set allows as the argument of a place, in a module without types.
 pub fn list_allowed<S: OverloadSet>(
     alloc: Global,
@@ -118,16 +107,6 @@ pub fn list_allowed<S: OverloadSet>(
     types
 }
 
-/// The same, where want of memory ends the test.
-pub fn allowed<S: OverloadSet>(
-    rt: &impl Abort,
-    alloc: Global,
-    set: &S,
-    place: usize,
-) -> Vec<TypeResolution> {
-    list_allowed(alloc, set, place).expect(rt, WANT)
-}
-
 /// How many items there are, which are let go.
 pub fn counted<T: Drop>(items: Vec<T>) -> usize {
     let count = items.len();
@@ -135,44 +114,19 @@ pub fn counted<T: Drop>(items: Vec<T>) -> usize {
     count
 }
 
-/// Whether a rule is left, of which the preferred one concludes so.
-pub fn prefers<S: OverloadSet>(rt: &impl Abort, alloc: Global, set: &S, wanted: Made) -> bool {
+/// Whether a rule is left, of which the preferred one takes arguments of these types and gives the type.
+pub fn prefers<S: OverloadSet>(
+    rt: &impl Abort,
+    alloc: Global,
+    set: &S,
+    arguments: &[Made],
+    gives: Made,
+) -> bool {
     if set.is_empty() {
         return false;
     }
     let rule = set.most_preferred(alloc).expect(rt, WANT);
-    let is_wanted = concludes(&rule, wanted);
+    let is_wanted = is_rule(&rule, arguments, gives);
     drop(rule);
     is_wanted
-}
-
-/// What is left of the set of a builtin after the calls.
-pub fn left_after(
-    rt: &impl Abort,
-    alloc: Global,
-    function: MathFunction,
-    calls: &[SetCall],
-    types: &UniqueArena<Type, mark::Type>,
-) -> Result<AnyOverloadSet, AllocError>
-    requires { All (CallFits types.now) calls.now }
-{
-    assert!(rt; types_backward(types));
-    let set = function.overloads(alloc)?;
-    narrow(alloc, set, calls, types)
-}
-
-/// What is left after the second argument was an integer literal, and all arguments are concrete.
-pub fn narrowed(
-    rt: &impl Abort,
-    alloc: Global,
-    function: MathFunction,
-) -> Result<AnyOverloadSet, AllocError> {
-    let types = UniqueArena::new(alloc);
-    let calls = [
-        SetCall::Arg(1, inner((SCALAR, Scalar::ABSTRACT_INT))),
-        SetCall::ConcreteOnly,
-    ];
-    let left = left_after(rt, alloc, function, &calls, &types);
-    drop(types);
-    left
 }

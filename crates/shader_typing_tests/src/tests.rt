@@ -1,4 +1,5 @@
 mod depth;
+mod indexes;
 mod infos;
 mod modules;
 mod refusals;

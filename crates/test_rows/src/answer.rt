@@ -1,7 +1,8 @@
 //! The answer to each line of an input.
 use crate::words::Words;
 use crate::{
-    analysis, faults, known, layouts, lengths, operands, parts, resolve, sizes, typifier, types,
+    analysis, faults, indexes, known, layouts, lengths, operands, origins, parts, resolve, sizes,
+    typifier, types,
 };
 use shader_ir::Module;
 use shader_json::{ReadError, read_module};
@@ -30,11 +31,13 @@ fn reply_of_kind(
     match words.next_word() {
         "analysis" => analysis::reply(alloc, words, module),
         "fault" => faults::fault(alloc, words, module),
+        "indexes" => indexes::reply(alloc, words, module),
         "known" => known::reply(alloc, words, module),
         "layouts" => layouts::reply(alloc, words, module),
         "length" => lengths::reply(alloc, words, module),
         "nests" => faults::nests(alloc, words, module),
         "operands" => operands::reply(alloc, words, module),
+        "origins" => origins::reply(alloc, words, module),
         "part" => parts::reply(alloc, words, module),
         "resolve" => resolve::reply(alloc, words, module),
         "size" => sizes::reply(alloc, words, module),

@@ -4,10 +4,12 @@
 mod analysis;
 mod answer;
 mod faults;
+mod indexes;
 mod known;
 mod layouts;
 mod lengths;
 mod operands;
+mod origins;
 mod parts;
 mod resolve;
 mod running;

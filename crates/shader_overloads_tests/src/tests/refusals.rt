@@ -2,106 +2,62 @@
 //!
 //! With ample memory nothing is refused. Where the allocator refuses the Nth request of a test's process, the test passes still,
 //! and prints a line with `was refused`.
-use crate::tests::{SCALAR, VEC2, counted, inner, is_rule, list_allowed, list_rules, narrowed};
+ghost use Rattle.std.specs.Prelude.{All};
+ghost use Rattle.shader_overloads.specs.Remaining.{CallFits};
+
+use crate::tests::{Made, SCALAR, VEC2, counted, inner, is_rule, list_allowed, list_rules};
 use shader_arena::UniqueArena;
 use shader_ir::{MathFunction, Scalar, Type, mark, types_backward};
 use shader_overloads::utils::{list, rule};
-use shader_overloads::{AnyOverloadSet, List, MathOverloads, OverloadSet, Rule};
+use shader_overloads::{AnyOverloadSet, List, MathOverloads, OverloadSet, Rule, SetCall, narrow};
 use std::alloc::{AllocError, Global};
 use std::io::Print;
 use std::process::Abort;
 
 const WANT: &str = "memory, which is refused once";
 
-fn tell<R: Abort + Print>(rt: &R, what: &str) {
-    rt.println(what).expect(rt, "standard output");
-}
-
-fn rules_of_refract<R: Abort + Print>(rt: &R, alloc: Global) -> AnyOverloadSet {
-    match MathFunction::Refract.overloads(alloc) {
-        Ok(set) => set,
+/// What is asked, asked again where it was refused.
+fn again<R: Abort + Print, T, F: Fn() -> Result<T, AllocError>>(rt: &R, what: &str, ask: &F) -> T
+    requires { F.IsAlwaysCallable ask.now }
+{
+    match ask() {
+        Ok(answer) => answer,
         Err(AllocError) => {
-            tell(rt, "overloads was refused");
-            MathFunction::Refract.overloads(alloc).expect(rt, WANT)
-        }
-    }
-}
-
-fn listed<R: Abort + Print>(rt: &R, alloc: Global, set: &AnyOverloadSet) -> Vec<Rule> {
-    match list_rules(alloc, set) {
-        Ok(rules) => rules,
-        Err(AllocError) => {
-            tell(rt, "overload_list was refused");
-            list_rules(alloc, set).expect(rt, WANT)
-        }
-    }
-}
-
-fn allowed<R: Abort + Print>(rt: &R, alloc: Global, set: &AnyOverloadSet) -> usize {
-    match list_allowed(alloc, set, 0) {
-        Ok(types) => counted(types),
-        Err(AllocError) => {
-            tell(rt, "allowed_args was refused");
-            counted(list_allowed(alloc, set, 0).expect(rt, WANT))
-        }
-    }
-}
-
-/// How many arguments a rule takes.
-fn arguments_of(rule: Rule) -> usize {
-    let count = rule.arguments.len();
-    drop(rule);
-    count
-}
-
-fn preferred<R: Abort + Print>(rt: &R, alloc: Global, set: &AnyOverloadSet) -> usize {
-    assert!(rt; !set.is_empty());
-    match set.most_preferred(alloc) {
-        Ok(rule) => arguments_of(rule),
-        Err(AllocError) => {
-            tell(rt, "most_preferred was refused");
-            arguments_of(set.most_preferred(alloc).expect(rt, WANT))
+            println!(rt; "{what} was refused").expect(rt, "standard output");
+            ask().expect(rt, WANT)
         }
     }
 }
 
 /// Asserts that what a set tells of its first argument and its preferred rule goes on after a refusal.
 fn tells_again<R: Abort + Print>(rt: &R, alloc: Global, set: &AnyOverloadSet, rules: usize) {
-    assert!(rt; counted(listed(rt, alloc, set)) == rules);
-    assert!(rt; allowed(rt, alloc, set) == rules);
-    assert!(rt; preferred(rt, alloc, set) == 2);
+    let listed = again(rt, "overload_list", &|| list_rules(alloc, set));
+    assert!(rt; counted(listed) == rules);
+    let allowed = again(rt, "allowed_args", &|| list_allowed(alloc, set, 0));
+    assert!(rt; counted(allowed) == rules);
+    prefers_two(rt, alloc, set);
 }
 
+/// Asserts that the preferred rule takes two arguments.
+fn prefers_two<R: Abort + Print>(rt: &R, alloc: Global, set: &AnyOverloadSet) {
+    assert!(rt; !set.is_empty());
+    let rule = again(rt, "most_preferred", &|| set.most_preferred(alloc));
+    assert!(rt; rule.arguments.len() == 2);
+    drop(rule);
+}
+
+/// The rules of a regular set are made when they are asked for, those of a list stand there.
 #[test]
 fn refused_builtins_can_be_asked_again(rt: HostRuntime) {
-    let set = rules_of_refract(&rt, rt.alloc());
+    let alloc = rt.alloc();
+    for (function, rules) in [(MathFunction::Dot4I8Packed, 1), (MathFunction::Cross, 4)] {
+        let set = again(&rt, "overloads", &|| function.overloads(alloc));
+        tells_again(&rt, alloc, &set, rules);
+        drop(set);
+    }
+    let set = again(&rt, "overloads", &|| MathFunction::Refract.overloads(alloc));
     assert!(rt; !set.is_empty());
     drop(set);
-}
-
-#[test]
-fn refused_combinations_can_be_asked_again(rt: HostRuntime) {
-    let set = MathFunction::Dot4I8Packed
-        .overloads(rt.alloc())
-        .expect(&rt, WANT);
-    tells_again(&rt, rt.alloc(), &set, 1);
-    drop(set);
-}
-
-/// The rules of a regular set are made when they are asked for.
-#[test]
-fn refused_regular_sets_can_be_asked_again(rt: HostRuntime) {
-    let set = MathFunction::Cross.overloads(rt.alloc()).expect(&rt, WANT);
-    tells_again(&rt, rt.alloc(), &set, 4);
-    drop(set);
-}
-
-/// How a set is made of that of a builtin.
-#[derive(Clone, Copy)]
-enum Way {
-    Copied,
-    Supplied,
-    Narrowed,
 }
 
 fn copied(alloc: Global, function: MathFunction) -> Result<AnyOverloadSet, AllocError> {
@@ -111,122 +67,85 @@ fn copied(alloc: Global, function: MathFunction) -> Result<AnyOverloadSet, Alloc
     copy
 }
 
-/// The set of a builtin after its second argument was an integer literal.
-fn supplied<R: Abort>(
-    rt: &R,
+/// What is left of the set of a builtin after the calls.
+fn left_after(
     alloc: Global,
     function: MathFunction,
+    calls: &[SetCall],
     types: &UniqueArena<Type, mark::Type>,
-) -> Result<AnyOverloadSet, AllocError> {
-    assert!(rt; types_backward(types));
+) -> Result<AnyOverloadSet, AllocError>
+    requires { All (CallFits types.now) calls.now }
+{
     let set = function.overloads(alloc)?;
-    set.arg(alloc, 1, &inner((SCALAR, Scalar::ABSTRACT_INT)), types)
-}
-
-fn made_of<R: Abort>(
-    rt: &R,
-    alloc: Global,
-    function: MathFunction,
-    way: Way,
-) -> Result<AnyOverloadSet, AllocError> {
-    match way {
-        Way::Copied => copied(alloc, function),
-        Way::Supplied => supplied(rt, alloc, function, &UniqueArena::new(alloc)),
-        Way::Narrowed => narrowed(rt, alloc, function),
+    if types_backward(types) {
+        narrow(alloc, set, calls, types)
+    } else {
+        Ok(set)
     }
 }
 
-/// Asserts that a set made so, again where it was refused, has rules of two arguments.
-fn makes_again<R: Abort + Print>(rt: &R, alloc: Global, function: MathFunction, way: Way) {
-    let set = match made_of(rt, alloc, function, way) {
-        Ok(set) => set,
-        Err(AllocError) => {
-            tell(rt, "a set was refused");
-            made_of(rt, alloc, function, way).expect(rt, WANT)
-        }
-    };
-    assert!(rt; preferred(rt, alloc, &set) == 2);
-    drop(set);
+/// The set of a builtin after its second argument was an integer literal, and all arguments are concrete.
+fn narrowed(alloc: Global, function: MathFunction) -> Result<AnyOverloadSet, AllocError> {
+    let types = UniqueArena::new(alloc);
+    let calls = [
+        SetCall::Arg(1, inner((SCALAR, Scalar::ABSTRACT_INT))),
+        SetCall::ConcreteOnly,
+    ];
+    let left = left_after(alloc, function, &calls, &types);
+    drop(types);
+    left
 }
 
 #[test]
 fn refused_sets_can_be_made_again(rt: HostRuntime) {
-    for way in [Way::Copied, Way::Supplied, Way::Narrowed] {
-        makes_again(&rt, rt.alloc(), MathFunction::Ldexp, way);
-        makes_again(&rt, rt.alloc(), MathFunction::Max, way);
+    let alloc = rt.alloc();
+    for function in [MathFunction::Ldexp, MathFunction::Max] {
+        let copy = again(&rt, "copy", &|| copied(alloc, function));
+        prefers_two(&rt, alloc, &copy);
+        drop(copy);
+        let left = again(&rt, "narrow", &|| narrowed(alloc, function));
+        prefers_two(&rt, alloc, &left);
+        drop(left);
     }
 }
+
+const VECTOR: Made = (VEC2, Scalar::F16);
+
+const INDEX: Made = (SCALAR, Scalar::I32);
 
 fn made(alloc: Global) -> Result<Rule, AllocError> {
-    let args = [inner((VEC2, Scalar::F16)), inner((SCALAR, Scalar::I32))];
-    rule(alloc, &args, inner((VEC2, Scalar::F16)))
-}
-
-fn made_again_if_refused<R: Abort + Print>(rt: &R, alloc: Global) -> Rule {
-    match made(alloc) {
-        Ok(rule) => rule,
-        Err(AllocError) => {
-            tell(rt, "rule was refused");
-            made(alloc).expect(rt, WANT)
-        }
-    }
-}
-
-fn copied_again_if_refused<R: Abort + Print>(rt: &R, alloc: Global, rule: &Rule) -> Rule {
-    match rule.copy(alloc) {
-        Ok(rule) => rule,
-        Err(AllocError) => {
-            tell(rt, "copy of a rule was refused");
-            rule.copy(alloc).expect(rt, WANT)
-        }
-    }
+    rule(alloc, &[inner(VECTOR), inner(INDEX)], inner(VECTOR))
 }
 
 #[test]
 fn refused_rules_can_be_made_again(rt: HostRuntime) {
-    let made = made_again_if_refused(&rt, rt.alloc());
-    let copy = copied_again_if_refused(&rt, rt.alloc(), &made);
-    let vector = (VEC2, Scalar::F16);
-    assert!(rt; is_rule(&copy, vector, (SCALAR, Scalar::I32), vector));
+    let alloc = rt.alloc();
+    let rule = again(&rt, "rule", &|| made(alloc));
+    let copy = again(&rt, "copy of a rule", &|| rule.copy(alloc));
+    assert!(rt; is_rule(&copy, &[VECTOR, INDEX], VECTOR));
     drop(copy);
-    drop(made);
+    drop(rule);
 }
 
-/// A list of one rule, made by one call or the other.
-fn one_rule<R: Abort>(
-    rt: &R,
-    alloc: Global,
-    is_listed: bool,
-) -> Result<AnyOverloadSet, AllocError> {
-    let mut rules = Vec::new(alloc);
-    rules.push(made(alloc)?)?;
-    assert!(rt; List::can_hold(rules.as_slice()));
+/// A list of one rule, made by one call or the other, or none where no list can hold it.
+fn one_rule(alloc: Global, is_listed: bool) -> Result<Option<List>, AllocError> {
+    let rules = vec![in alloc; made(alloc)?]?;
+    if !List::can_hold(rules.as_slice()) {
+        return Ok(None);
+    }
     if is_listed {
-        return Ok(AnyOverloadSet::List(list(alloc, rules)?));
+        return Ok(Some(list(alloc, rules)?));
     }
-    Ok(AnyOverloadSet::List(List::from_rules(alloc, rules)?))
-}
-
-fn one_rule_again_if_refused<R: Abort + Print>(
-    rt: &R,
-    alloc: Global,
-    is_listed: bool,
-) -> AnyOverloadSet {
-    match one_rule(rt, alloc, is_listed) {
-        Ok(set) => set,
-        Err(AllocError) => {
-            tell(rt, "a list was refused");
-            one_rule(rt, alloc, is_listed).expect(rt, WANT)
-        }
-    }
+    Ok(Some(List::from_rules(alloc, rules)?))
 }
 
 #[test]
 fn refused_lists_can_be_asked_again(rt: HostRuntime) {
-    let set = one_rule_again_if_refused(&rt, rt.alloc(), false);
-    tells_again(&rt, rt.alloc(), &set, 1);
-    drop(set);
-    let set = one_rule_again_if_refused(&rt, rt.alloc(), true);
-    tells_again(&rt, rt.alloc(), &set, 1);
-    drop(set);
+    let alloc = rt.alloc();
+    for is_listed in [false, true] {
+        let list = again(&rt, "a list", &|| one_rule(alloc, is_listed));
+        let set = AnyOverloadSet::List(list.expect(&rt, "a list"));
+        tells_again(&rt, alloc, &set, 1);
+        drop(set);
+    }
 }

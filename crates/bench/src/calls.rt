@@ -1,0 +1,101 @@
+//! Calls of built-in functions, resolved.
+ghost use Rattle.shader_ir.specs.TypeTree.{IsBackward};
+
+use shader_arena::UniqueArena;
+use shader_ir::{MathFunction, Type, TypeInner, mark, types_backward};
+use shader_overloads::{AnyOverloadSet, MathOverloads, OverloadSet};
+use shader_text::{Pieces, PlainType, builtin_from_word};
+use std::alloc::{AllocError, Global};
+
+/// A call of a built-in function, by the types of its arguments.
+#[derive(Drop)]
+pub struct Call {
+    function: MathFunction,
+    arguments: Vec<TypeInner>,
+}
+
+/// The calls that lines stand for, each `NAME TYPE..`, up to the first that is none.
+pub fn calls_of(alloc: Global, input: &[u8]) -> Result<Vec<Call>, AllocError> {
+    let mut calls = Vec::new(alloc);
+    for line in Pieces::new(input, b'\n') {
+        let mut words = Pieces::new(line, b' ');
+        let Some(function) = words.next().and_then(|name| builtin_from_word(name)) else {
+            return Ok(calls);
+        };
+        let mut arguments = Vec::new(alloc);
+        for word in words {
+            if let Some(plain) = PlainType::from_word(word) {
+                arguments.push(plain.inner())?;
+            }
+        }
+        calls.push(Call {
+            function,
+            arguments,
+        })?;
+    }
+    Ok(calls)
+}
+
+/// The rules of a built-in function that take these arguments.
+fn supply(
+    alloc: Global,
+    call: &Call,
+    types: &UniqueArena<Type, mark::Type>,
+) -> Result<AnyOverloadSet, AllocError>
+    requires { IsBackward types.now }
+{
+    let mut left = call.function.overloads(alloc)?;
+    for (i, ty) in call.arguments.iter().enumerate() {
+        if !ty.is_in_range(types) {
+            return Ok(left);
+        }
+        left = left.arg(alloc, i, ty, types)?;
+    }
+    Ok(left)
+}
+
+/// How many arguments the preferred rule of a call takes, or 0 where no rule takes its arguments.
+fn resolve(
+    alloc: Global,
+    call: &Call,
+    types: &UniqueArena<Type, mark::Type>,
+) -> Result<usize, AllocError> {
+    if !types_backward(types) {
+        return Ok(0);
+    }
+    let left = supply(alloc, call, types)?;
+    if left.is_empty() {
+        return Ok(0);
+    }
+    let rule = left.most_preferred(alloc)?;
+    Ok(rule.arguments.len())
+}
+
+/// Resolves the calls one after the other, so many in all.
+pub fn resolve_calls(alloc: Global, calls: &[Call], size: usize) -> Result<usize, AllocError> {
+    let types = UniqueArena::new(alloc);
+    let mut done = 0usize;
+    for place in 0..size {
+        if calls.is_empty() {
+            return Ok(done);
+        }
+        let arguments = resolve(alloc, &calls[place % calls.len()], &types)?;
+        done = done.wrapping_add(arguments);
+    }
+    Ok(done)
+}
+
+/// Makes the sets of the built-in functions one after the other, so many in all, and tells how many have rules.
+pub fn make_sets(alloc: Global, calls: &[Call], size: usize) -> Result<usize, AllocError> {
+    let mut done = 0usize;
+    for place in 0..size {
+        if calls.is_empty() {
+            return Ok(done);
+        }
+        let set = calls[place % calls.len()].function.overloads(alloc)?;
+        if !set.is_empty() {
+            done = done.wrapping_add(1);
+        }
+    }
+    Ok(done)
+}

@@ -1,0 +1,111 @@
+//! Types, compared, converted and laid out.
+ghost use Rattle.std.specs.Prelude.{length, All};
+ghost use Rattle.shader_ir.specs.Key.{FitsTypes};
+ghost use Rattle.shader_ir.specs.TypeTree.{IsBackward, PointsBelow};
+
+use shader_arena::UniqueArena;
+use shader_ir::{
+    Layouter, Module, Type, TypeInner, TypeResolution, compare_types, mark, sizes_in_range,
+    types_backward,
+};
+use std::alloc::{AllocError, Global};
+
+/// Lays out all types of a module so many times.
+pub fn lay_out(alloc: Global, module: &Module, rounds: usize) -> Result<usize, AllocError> {
+    let mut done = 0usize;
+    for _ in 0..rounds {
+        let ctx = module.to_ctx();
+        let mut layouter = Layouter::new(alloc);
+        if sizes_in_range(ctx) && layouter.update(ctx).is_ok() {
+            done = done.wrapping_add(layouter.len());
+        }
+    }
+    Ok(done)
+}
+
+/// The types, outside of their arena.
+fn leaves(
+    alloc: Global,
+    types: &UniqueArena<Type, mark::Type>,
+) -> Result<Vec<TypeInner>, AllocError> {
+    let mut leaves = Vec::new(alloc);
+    for (_, ty) in types.iter() {
+        leaves.push(ty.inner.copy(alloc)?)?;
+    }
+    Ok(leaves)
+}
+
+/// Compares so many pairs of types, and tells how many are of the same type.
+fn count_same(
+    leaves: &[TypeResolution],
+    types: &UniqueArena<Type, mark::Type>,
+    size: usize,
+) -> usize
+    requires backward { IsBackward types.now }
+    requires fit { All (λ leaf. FitsTypes types.now leaf) leaves.now }
+{
+    let mut same = 0usize;
+    for place in 0..size {
+        if leaves.is_empty() {
+            return same;
+        }
+        let left = &leaves[place % leaves.len()];
+        let right = &leaves[place / leaves.len() % leaves.len()];
+        if compare_types(left, right, types) {
+            same = same.wrapping_add(1);
+        }
+    }
+    same
+}
+
+/// Compares so many pairs of a module's types, each free-standing, and tells how many are of the same type.
+pub fn compare(
+    alloc: Global,
+    types: &UniqueArena<Type, mark::Type>,
+    size: usize,
+) -> Result<usize, AllocError> {
+    let mut resolutions = Vec::new(alloc);
+    for leaf in leaves(alloc, types)? {
+        resolutions.push(TypeResolution::Value(leaf))?;
+    }
+    if !types_backward(types) || !resolutions.iter().all(|leaf| leaf.fits(types)) {
+        return Ok(0);
+    }
+    Ok(count_same(resolutions.as_slice(), types, size))
+}
+
+/// Converts so many pairs of types, and tells how many convert.
+fn count_conversions(
+    leaves: &[TypeInner],
+    types: &UniqueArena<Type, mark::Type>,
+    size: usize,
+) -> usize
+    requires backward { IsBackward types.now }
+    requires in_range { All (λ leaf. PointsBelow (length types.now) leaf) leaves.now }
+{
+    let mut converted = 0usize;
+    for place in 0..size {
+        if leaves.is_empty() {
+            return converted;
+        }
+        let left = &leaves[place % leaves.len()];
+        let right = &leaves[place / leaves.len() % leaves.len()];
+        if left.automatically_converts_to(right, types).is_some() {
+            converted = converted.wrapping_add(1);
+        }
+    }
+    converted
+}
+
+/// Converts so many pairs of a module's types, and tells how many convert.
+pub fn convert(
+    alloc: Global,
+    types: &UniqueArena<Type, mark::Type>,
+    size: usize,
+) -> Result<usize, AllocError> {
+    let leaves = leaves(alloc, types)?;
+    if !types_backward(types) || !leaves.iter().all(|leaf| leaf.is_in_range(types)) {
+        return Ok(0);
+    }
+    Ok(count_conversions(leaves.as_slice(), types, size))
+}

@@ -1,4 +1,0 @@
-mod asked;
-mod chains;
-mod made;
-mod refusals;
