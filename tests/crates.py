@@ -108,10 +108,13 @@ def function_at(file, lines, place):
 
 
 class Edit:
-    """One wrong body: a file, the texts that it exchanges there, and the functions that tell of it, where it says which."""
+    """One wrong body: a file, the texts that it exchanges there, and the functions that tell of it, where it says which.
+
+    A control has a line that says what must come of it: it is harmless, or unfit to be tried.
+    """
 
     def __init__(self, path, crate):
-        self.name = path.stem
+        self.name, self.path, self.control = path.stem, path, ""
         self.file, self.pairs, self.asks, old = "", [], [], ""
         for line in path.read_text().splitlines():
             word, _, text = line.partition(": ")
@@ -119,6 +122,8 @@ class Edit:
                 self.file = text
             elif word == "asks":
                 self.asks.append(text)
+            elif word == "control":
+                self.control = text
             elif word == "old":
                 old = text
             elif word == "new":
@@ -130,16 +135,33 @@ class Edit:
         # None where the edit changes more than functions.
         self.functions = {it.key(): it for it in found} if all(found) else {}
         self.constants = set() if self.functions else constants_of(text, self.pairs)
-        self.is_refused, self.is_kept, self.seconds = False, False, 0.0
+        # What a check tells of its functions is judged, where no other edit hides it.
+        self.is_refused, self.is_judged, self.is_kept, self.seconds, self.how = False, False, False, 0.0, ""
+
+    def label(self):
+        return f"controls/{self.name}" if self.control else self.name
+
+    def is_settled(self):
+        return self.is_refused or self.is_judged
+
+    def passes(self):
+        """Returns whether what came of it is as it must be."""
+        if self.control == "unfit":
+            return not self.fits
+        return self.fits and (self.is_judged and not self.is_refused if self.control else self.is_refused)
+
+    def settle(self):
+        """Takes what an earlier run found: that it passes."""
+        self.is_kept, self.is_judged, self.is_refused = True, True, not self.control
 
     def fits_in(self, text):
         """Returns whether each old text stands exactly once in a text, as in that of its file that other edits have changed."""
         return bool(self.pairs) and all(text.count(old) == 1 for old, _ in self.pairs)
 
     def apply(self, text):
-        for old, new in self.pairs:
-            text = text.replace(old, new)
-        return text
+        """Exchanges all texts at once, so that two may change places."""
+        new = dict(self.pairs)
+        return re.sub("|".join(map(re.escape, new)), lambda found: new[found[0]], text)
 
 
 def homes_of(folder):
@@ -180,3 +202,7 @@ def constants_within(folder):
 
 def edits_of(crate):
     return [Edit(it, crate) for it in sorted((crate / "wrong-bodies").glob("*.edit"))]
+
+
+def controls_of(crate):
+    return [Edit(it, crate) for it in sorted((crate / "wrong-bodies/controls").glob("*.edit"))]

@@ -1,0 +1,73 @@
+"""Chooses which edits of crates/*/wrong-bodies a run tries, by what git tells of the commit.
+
+Those of a crate are all tried where its src/ or specs/ changed since the newest commit that is a day older than HEAD, and so is an edit
+that changed itself. Of all others an eighth is tried: the number of commits on HEAD tells which, so that any eight commits in a row try
+all. Those in tests/mutants-always.txt are tried in every run. Where git doesn't tell, as in a clone without the history, all are.
+"""
+import hashlib
+import re
+import subprocess
+
+from crates import TOP
+
+ALWAYS = TOP / "tests/mutants-always.txt"
+PARTS = 8
+LATELY = 24 * 60 * 60
+SOURCE = re.compile(r"crates/(\w+)/(?:src|specs)/")
+EDIT = re.compile(r"crates/(\w+)/wrong-bodies/(\w+)\.edit")
+
+
+def git(*words):
+    """Returns the lines that a command of git prints, none where it fails."""
+    try:
+        ran = subprocess.run(["git", *words], cwd=TOP, capture_output=True, text=True)
+    except OSError:
+        return []
+    return ran.stdout.splitlines() if ran.returncode == 0 else []
+
+
+def commit_before(lines, seconds=LATELY):
+    """Returns the newest of the commits, each a line 'NAME TIME' and HEAD's first, that is so much older than HEAD; none where none is."""
+    rows = [(int(time), name) for name, _, time in (it.partition(" ") for it in lines)]
+    found = [it for it in rows if it[0] <= rows[0][0] - seconds]
+    return max(found, key=lambda it: it[0])[1] if found else None
+
+
+def part_of(crate, name):
+    """Returns the part to which an edit belongs, the same on every machine."""
+    return int.from_bytes(hashlib.sha256(f"{crate}/{name}".encode()).digest()[:8], "big") % PARTS
+
+
+def names_in(text):
+    """Returns the lines CRATE/NAME of a list, without comments."""
+    return {it.strip() for it in text.splitlines() if it.strip() and not it.startswith("#")}
+
+
+class Choice:
+    """Which edits a run tries: all, those of the crates that it is given, or those that the commit chooses."""
+
+    def __init__(self, crates, is_all):
+        self.crates, self.always = set(crates), names_in(ALWAYS.read_text())
+        lines = git("log", "--format=%H %ct") if not crates and not is_all else []
+        self.since = commit_before(lines) if lines else None
+        self.takes_all = self.since is None
+        self.turn, self.changed, self.edits = len(lines) % PARTS, set(), set()
+        if self.since:
+            files = [*git("diff", "--name-only", self.since), *git("ls-files", "--others", "--exclude-standard")]
+            self.changed = {it[1] for it in map(SOURCE.match, files) if it}
+            self.edits = {f"{it[1]}/{it[2]}" for it in map(EDIT.match, files) if it}
+
+    def takes(self, crate, name):
+        which = f"{crate}/{name}"
+        is_chosen = crate in self.changed or which in self.edits or which in self.always
+        return self.takes_all or is_chosen or part_of(crate, name) == self.turn
+
+    def told(self):
+        """Returns what is chosen, in a line."""
+        if self.crates:
+            return f"all of {', '.join(sorted(self.crates))}"
+        if self.takes_all:
+            return "all"
+        changed = ", ".join(sorted(self.changed)) or "none"
+        part = f"part {self.turn + 1} of {PARTS}, {len(self.always)} that every run tries"
+        return f"{part}, and all of what changed since {self.since[:9]}: {changed}"
