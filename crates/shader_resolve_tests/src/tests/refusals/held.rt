@@ -1,6 +1,6 @@
 //! The types of expressions whose operands' types are held in a list.
 ghost use Rattle.std.specs.Prelude.{IsTrue};
-ghost use Rattle.shader_resolve.specs.Context.{Context, IsInRange};
+ghost use Rattle.shader_resolve.specs.Context.{IsInRange};
 ghost use Rattle.shader_resolve.specs.Follows.{FitsTold};
 
 use shader_arena::{Handle, UniqueArena};
@@ -28,24 +28,25 @@ fn told<'a>(
     }
 }
 
-/// Whether an expression is one of those that name nothing but operands.
-fn names_operands(expr: &Expression) -> bool
-    ensures { (context : Context) → IsTrue result → IsInRange context expr.now }
+/// Whether what an expression names beside its operands is there. Only of those that name nothing else it is told.
+fn names_in_range(context: &ResolveContext<'_>, expr: &Expression) -> bool
+    ensures { IsTrue result → IsInRange context.now expr.now }
 {
-    matches!(
-        expr,
-        Expression::Binary { .. } | Expression::As { .. } | Expression::Math { .. }
-    )
+    match expr {
+        Expression::ZeroValue(ty) => context.types.contains_handle(*ty),
+        Expression::Binary { .. } | Expression::As { .. } | Expression::Math { .. } => true,
+        _ => false,
+    }
 }
 
-/// The type of an expression that names its operands alone, which are places in `held`. None of any other.
+/// The type of an expression that names types or its operands alone, which are places in `held`. None of any other.
 pub fn resolve_held<'a>(
     context: &ResolveContext<'a>,
     alloc: Global,
     held: &'a [TypeResolution],
     expr: &Expression,
 ) -> Option<Result<TypeResolution, ResolveError>> {
-    if !types_backward(context.types) || !names_operands(expr) {
+    if !types_backward(context.types) || !names_in_range(context, expr) {
         return None;
     }
     let types = context.types;

@@ -99,6 +99,17 @@ fn register(
     }
 }
 
+/// Whether a resolution is a vector of three floats.
+fn is_vector(resolution: &TypeResolution) -> bool {
+    matches!(
+        resolution,
+        TypeResolution::Value(TypeInner::Vector {
+            size: VectorSize::Tri,
+            scalar: Scalar::F32,
+        })
+    )
+}
+
 /// Asserts that a table holds a float and two vectors of it.
 fn holds(rt: &impl Abort, typifier: &Typifier) {
     assert!(rt; typifier.len() == 3);
@@ -108,17 +119,7 @@ fn holds(rt: &impl Abort, typifier: &Typifier) {
             TypeResolution::Value(TypeInner::Scalar(Scalar::F32))
         )
     );
-    for place in 1..3 {
-        assert!(rt;
-            matches!(
-                typifier[at(place)],
-                TypeResolution::Value(TypeInner::Vector {
-                    size: VectorSize::Tri,
-                    scalar: Scalar::F32,
-                })
-            )
-        );
-    }
+    assert!(rt; is_vector(&typifier[at(1)]) && is_vector(&typifier[at(2)]));
 }
 
 /// A table of the types of all expressions, which has grown over the first, over all, and anew from the first on.
