@@ -1,7 +1,7 @@
 //! The answer to each line of an input.
 use crate::words::Words;
 use crate::{
-    analysis, faults, known, layouts, lengths, operands, parts, resolve, sizes, typifier, types,
+    analysis, faults, known, layouts, lengths, operands, parts, resolve, sizes, types, typifier,
 };
 use shader_ir::Module;
 use shader_json::{ReadError, read_module};
