@@ -48,7 +48,7 @@ fn reply_of_kind(
 }
 
 /// The question and the text of the module that stand in a line.
-fn parts(line: &[u8]) -> Option<(&str, &str)> {
+fn split_line(line: &[u8]) -> Option<(&str, &str)> {
     match str::from_utf8(line) {
         Ok(text) => text.split_once('\t'),
         Err(_) => None,
@@ -81,7 +81,7 @@ fn add_answer(
 }
 
 fn add_line(alloc: Global, text: &mut String, line: &[u8]) -> Result<(), AllocError> {
-    match parts(line) {
+    match split_line(line) {
         Some((question, module)) => add_answer(alloc, text, question, module),
         None => text.push_str("bad question\n"),
     }

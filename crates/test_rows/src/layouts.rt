@@ -24,11 +24,17 @@ fn add_layout(text: &mut String, layout: TypeLayout) -> Result<(), AllocError>
     write!(text, " {}/{}/{stride}", layout.size, layout.alignment)
 }
 
-/// Adds all layouts that are held.
-fn add_layouts(text: &mut String, layouter: &Layouter) -> Result<(), AllocError> {
+/// Adds how many layouts are held, and those of the context's types.
+fn add_layouts(
+    text: &mut String,
+    layouter: &Layouter,
+    ctx: GlobalCtx<'_>,
+) -> Result<(), AllocError> {
     write!(text, "{layouter:?}")?;
-    for place in 0..layouter.len() {
-        add_layout(text, layouter[Handle::from_index(place as u32)])?;
+    for (handle, _) in ctx.types.iter() {
+        if handle.index() < layouter.len() {
+            add_layout(text, layouter[handle])?;
+        }
     }
     Ok(())
 }
@@ -51,7 +57,7 @@ fn add_update(
     requires { AreTypeSizesInRange ctx }
 {
     let outcome = layouter.update(ctx);
-    add_layouts(text, layouter)?;
+    add_layouts(text, layouter, ctx)?;
     add_outcome(text, outcome)
 }
 
@@ -112,7 +118,7 @@ fn add_one_by_one(
         types.insert(ty.copy(alloc)?)?;
         add_added(text, layouter, with_types(&types, module))?;
     }
-    add_layouts(text, layouter)
+    add_layouts(text, layouter, module.to_ctx())
 }
 
 /// Updates a layouter, and adds how many layouts it holds then.
