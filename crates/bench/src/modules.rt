@@ -7,12 +7,8 @@ use shader_ir::{Block, Module, Statement};
 use shader_typing::valid::{Capabilities, ValidationFlags, analyze_module, check_module};
 use std::alloc::{AllocError, Global};
 
-/// Puts so many `If`s on the first expression one in another, in place of what the first function does.
-pub fn nest(alloc: Global, module: &mut Module, levels: usize) -> Result<(), AllocError> {
-    let first = Handle::from_index(0);
-    if levels == 0 || !module.functions.contains_handle(first) {
-        return Ok(());
-    }
+/// So many `If`s on the first expression, one in another.
+fn nested(alloc: Global, levels: usize) -> Result<Block, AllocError> {
     let mut body = Block::new(alloc);
     for _ in 0..levels {
         let mut outer = Block::new(alloc);
@@ -23,7 +19,19 @@ pub fn nest(alloc: Global, module: &mut Module, levels: usize) -> Result<(), All
         })?;
         body = outer;
     }
-    module.functions[first].body = body;
+    Ok(body)
+}
+
+/// Puts so many `If`s in place of what the first function does, where there are any.
+pub fn nest(alloc: Global, module: &mut Module, levels: usize) -> Result<(), AllocError> {
+    if levels == 0 {
+        return Ok(());
+    }
+    let body = nested(alloc, levels)?;
+    let first = Handle::from_index(0);
+    if module.functions.contains_handle(first) {
+        module.functions[first].body = body;
+    }
     Ok(())
 }
 

@@ -1,5 +1,5 @@
 //! Types, compared, converted and laid out.
-ghost use Rattle.std.specs.Prelude.{length, All};
+ghost use Rattle.std.specs.Prelude.{length, All, IsTrue};
 ghost use Rattle.shader_ir.specs.Key.{FitsTypes};
 ghost use Rattle.shader_ir.specs.TypeTree.{IsBackward, PointsBelow};
 
@@ -35,6 +35,25 @@ fn leaves(
     Ok(leaves)
 }
 
+/// The types as free-standing ones.
+fn resolutions(
+    alloc: Global,
+    types: &UniqueArena<Type, mark::Type>,
+) -> Result<Vec<TypeResolution>, AllocError> {
+    let mut resolutions = Vec::new(alloc);
+    for leaf in leaves(alloc, types)? {
+        resolutions.push(TypeResolution::Value(leaf))?;
+    }
+    Ok(resolutions)
+}
+
+/// Whether all of them fit the types.
+fn all_fit(leaves: &[TypeResolution], types: &UniqueArena<Type, mark::Type>) -> bool
+    ensures { IsTrue result → All (λ leaf. FitsTypes types.now leaf) leaves.now }
+{
+    leaves.iter().all(|leaf| leaf.fits(types))
+}
+
 /// Compares so many pairs of types, and tells how many are of the same type.
 fn count_same(
     leaves: &[TypeResolution],
@@ -64,14 +83,20 @@ pub fn compare(
     types: &UniqueArena<Type, mark::Type>,
     size: usize,
 ) -> Result<usize, AllocError> {
-    let mut resolutions = Vec::new(alloc);
-    for leaf in leaves(alloc, types)? {
-        resolutions.push(TypeResolution::Value(leaf))?;
+    let resolutions = resolutions(alloc, types)?;
+    let leaves = resolutions.as_slice();
+    if types_backward(types) && all_fit(leaves, types) {
+        Ok(count_same(leaves, types, size))
+    } else {
+        Ok(0)
     }
-    if !types_backward(types) || !resolutions.iter().all(|leaf| leaf.fits(types)) {
-        return Ok(0);
-    }
-    Ok(count_same(resolutions.as_slice(), types, size))
+}
+
+/// Whether all of them name types in range alone.
+fn all_in_range(leaves: &[TypeInner], types: &UniqueArena<Type, mark::Type>) -> bool
+    ensures { IsTrue result → All (λ leaf. PointsBelow (length types.now) leaf) leaves.now }
+{
+    leaves.iter().all(|leaf| leaf.is_in_range(types))
 }
 
 /// Converts so many pairs of types, and tells how many convert.
@@ -103,9 +128,11 @@ pub fn convert(
     types: &UniqueArena<Type, mark::Type>,
     size: usize,
 ) -> Result<usize, AllocError> {
-    let leaves = leaves(alloc, types)?;
-    if !types_backward(types) || !leaves.iter().all(|leaf| leaf.is_in_range(types)) {
-        return Ok(0);
+    let copies = leaves(alloc, types)?;
+    let leaves = copies.as_slice();
+    if types_backward(types) && all_in_range(leaves, types) {
+        Ok(count_conversions(leaves, types, size))
+    } else {
+        Ok(0)
     }
-    Ok(count_conversions(leaves.as_slice(), types, size))
 }
