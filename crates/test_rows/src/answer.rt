@@ -2,7 +2,7 @@
 use crate::words::Words;
 use crate::{
     analysis, faults, indexes, known, layouts, lengths, operands, origins, parts, resolve, sizes,
-    typifier, types,
+    types, typifier,
 };
 use shader_ir::Module;
 use shader_json::{ReadError, read_module};
