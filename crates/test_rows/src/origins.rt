@@ -87,7 +87,7 @@ pub fn reply(
 ) -> Result<Option<String>, AllocError> {
     let mut words = words;
     match link_from_word(words.next_word()) {
-        Some(link) => told(alloc, module, link),
-        None => Ok(None),
+        Some(link) if words.is_done() => told(alloc, module, link),
+        _ => Ok(None),
     }
 }

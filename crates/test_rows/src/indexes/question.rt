@@ -97,18 +97,27 @@ fn asked_from_words(words: &mut Words<'_>) -> Option<Asked> {
     }
 }
 
+fn question_from_words(words: &mut Words<'_>) -> Option<Question> {
+    let place = match words.next_word() {
+        "policies" => {
+            return policies_from_word(words.next_word()).map(Question::Policies);
+        }
+        "function" => Place::Function(words.number()?),
+        "entry" => Place::EntryPoint(words.number()?),
+        _ => return None,
+    };
+    Some(Question::Function(place, asked_from_words(words)?))
+}
+
 impl Question {
     /// The question that the words are, if they are one.
     pub fn from_words(words: Words<'_>) -> Option<Question> {
         let mut words = words;
-        let place = match words.next_word() {
-            "policies" => {
-                return policies_from_word(words.next_word()).map(Question::Policies);
-            }
-            "function" => Place::Function(words.number()?),
-            "entry" => Place::EntryPoint(words.number()?),
-            _ => return None,
-        };
-        Some(Question::Function(place, asked_from_words(&mut words)?))
+        let question = question_from_words(&mut words)?;
+        if words.is_done() {
+            Some(question)
+        } else {
+            None
+        }
     }
 }
