@@ -16,12 +16,13 @@ pub fn fault(
     if !words.is_done() {
         return Ok(None);
     }
-    let text = match (check_module(module), find_fault(module)) {
-        (Ok(()), None) => "none".to_string(alloc),
-        (Err(told), Some((place, fault))) if told == fault => {
-            format!(in alloc; "{place:?} {fault:?}")
-        }
-        (told, found) => format!(in alloc; "{told:?} is no {found:?}"),
+    let found = find_fault(module);
+    let text = if check_module(module).err() != found.map(|(_, fault)| fault) {
+        "check_module tells another fault".to_string(alloc)
+    } else if let Some((place, fault)) = found {
+        format!(in alloc; "{place:?} {fault:?}")
+    } else {
+        "none".to_string(alloc)
     };
     text.map(Some)
 }
