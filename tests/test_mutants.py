@@ -21,8 +21,8 @@ def said(name):
 
 
 def beside(first, then, right):
-    """Returns whether an edit is refused by the check without its answers that failed, beside the right body."""
-    return said(then).whole().is_refused_beside(said(right).whole(), said(first).whole().answers)
+    """Returns why an edit is refused by the check without its answers that failed, beside the right body; nothing where it isn't."""
+    return said(then).whole().refusal_beside(said(right).whole(), said(first).whole().answers)
 
 
 class Judgement(unittest.TestCase):

@@ -99,18 +99,18 @@ class Part:
         gone = {clause_of(name) for it in self.answers if it.is_gone for name in it.names}
         return any(is_false or clause_of(name) not in gone for name, is_false in self.goals.items())
 
-    def is_refused_beside(self, right, taken):
-        """Returns whether it is refused without the answers that were taken out, where the right body without them leaves what it does."""
+    def refusal_beside(self, right, taken):
+        """Returns in words why it is refused without the answers that were taken out, beside the right body without them, or nothing."""
         if self.failures:
-            return False
+            return ""
         left = {clause_of(it) for it in right.goals}
         gone = {clause_of(name) for it in taken if it.is_gone for name in it.names}
         named = {name for it in taken for name in it.names}
         is_open = lambda name: clause_of(name) in left and (name in named or clause_of(name) in gone)
         if any(is_false or not is_open(name) for name, is_false in self.goals.items()):
-            return True
+            return "which the right body doesn't leave"
         unfit = {name for it in taken if not it.is_trivial and not it.is_by_name for name in it.names}
-        return bool(unfit & self.goals.keys())
+        return "for which its answer doesn't fit" if unfit & self.goals.keys() else ""
 
 
 def without(text, names):
