@@ -1,7 +1,7 @@
 """Reads the expressions of module texts (tests/samples/rows/README.md)."""
 import re
 
-from type_text import KINDS, SCALARS, SIZES, need, scalar
+from type_text import KINDS, SCALARS, SIZES, scalar
 
 NUMBERS = ["Constant", "Override", "FunctionArgument", "GlobalVariable", "LocalVariable", "CallResult", "ArrayLength"]
 UNITS = ["RayQueryProceedResult", "SubgroupBallotResult"]
@@ -138,5 +138,4 @@ def expression(clause):
         return name
     if name in FIELDS:
         return {name: clause.fields(*FIELDS[name].split())}
-    found = composed(clause) or operation(clause) or of_image(clause)
-    return found
+    return composed(clause) or operation(clause) or of_image(clause)

@@ -3,7 +3,7 @@ import re
 
 from expression_text import expression
 from statement_text import Blocks
-from type_text import SIZES, TextError, Types, binding, flags, need, parts, scalar, values
+from type_text import TextError, Types, binding, flags, need, parts, scalar, values
 
 OPTIONS = {"clamp", "comparison", "committed", "row_major"}
 STAGES = {"vertex", "fragment", "compute", "mesh", "task"}
@@ -16,6 +16,9 @@ BOUND = {
     "Argument": None, "LocationArgument": "location0", "WorkGroupIdArgument": "WorkGroupId",
     "WorkGroupSizeArgument": "WorkGroupSize", "NumWorkGroupsArgument": "NumWorkGroups", "OtherArgument": "VertexIndex",
 }  # fmt: skip
+LISTS = [
+    "constants", "overrides", "global_variables", "global_expressions", "functions", "entry_points", "diagnostic_filters",
+]  # fmt: skip
 TOKEN = re.compile(r"'[^']*'|\S+")
 
 
@@ -138,10 +141,7 @@ class Module:
     def __init__(self):
         self.types = Types()
         self.special = {"ray_intersection": None, "ray_vertex_return": None, "predeclared_types": []}
-        self.lists = {
-            name: []
-            for name in ("constants", "overrides", "global_variables", "global_expressions", "functions", "entry_points", "diagnostic_filters")
-        }
+        self.lists = {name: [] for name in LISTS}
 
     def declare(self, clause):
         """Takes a clause of the first part."""

@@ -1,17 +1,5 @@
-mod asked;
-mod chains;
 mod depth;
-mod filters;
-mod flow;
 mod infos;
-mod labels;
 mod modules;
-mod places;
 mod refusals;
-mod rows;
-mod samples;
-mod sources;
-mod statements;
-mod telling;
 mod texts;
-mod written;

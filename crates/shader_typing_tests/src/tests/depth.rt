@@ -1,91 +1,61 @@
-//! Chains and nests of 200.
-use crate::tests::asked::{Question, answers, asks, tells};
+//! Nests of 200 blocks, which no text of JSON may have.
 use crate::tests::infos::WANT;
-use shader_arena::Handle;
-use shader_typing::valid::GlobalOrArgument;
-use std::alloc::AllocError;
+use shader_ir::{Block, Module, Statement};
+use shader_resolve::check_module;
+use shader_samples::parts::{branch, emit};
+use shader_samples::{over_a_float, with_matrix};
+use shader_typing::valid::{
+    AnalysisError, Capabilities, FunctionError, ModuleInfo, UniformityDisruptor, ValidationFlags,
+    analyze_module,
+};
+use std::alloc::{AllocError, Global};
 use std::process::Abort;
 
-/// An image and a sampler. The first function samples its argument with the sampler.
-const FIRST: &str = "Handle texture_2d<f32> Handle sampler ;
-    Argument texture_2d<f32> FunctionArgument 0 GlobalVariable 1 ZeroValue vec2<f32> SampleZero 0 1 2 Emit 3 4";
-
-/// Each next one calls the one before it with its own argument, and the last the one before it with the image.
-fn add_chain(text: &mut String) -> Result<(), AllocError> {
-    text.push_str(FIRST)?;
-    for callee in 0..198 {
-        write!(
-            text,
-            "; Argument texture_2d<f32> FunctionArgument 0 Call {callee} 0"
-        )?;
-    }
-    text.push_str("; GlobalVariable 0 Call 198 0")
-}
-
-/// What is told of them: the image is used by the last alone, which alone has the pair.
-fn add_answer(text: &mut String) -> Result<(), AllocError> {
-    text.push_str("fn 0 uses 0,1 pairs - counts 1,1,1,0 result uniform")?;
-    for place in 1..199 {
-        write!(
-            text,
-            "; fn {place} uses 0,1 pairs - counts 1 result uniform"
-        )?;
-    }
-    text.push_str("; fn 199 uses 1,1 pairs 0/1 counts 1 result uniform")
-}
-
-/// 200 functions, each of which calls the one before it.
-fn chain(rt: &(impl Abort + AllocGlobal)) -> String {
-    let mut text = String::new(rt.alloc());
-    add_chain(&mut text).expect(rt, WANT);
-    text
-}
-
-#[test]
-fn an_image_is_led_through_200_functions(rt: HostRuntime) {
-    let mut wanted = String::new(rt.alloc());
-    add_answer(&mut wanted).expect(&rt, WANT);
-    tells(&rt, chain(&rt).as_str(), wanted.as_str());
-}
-
-#[test]
-fn all_but_the_last_sample_their_argument(rt: HostRuntime) {
-    let sampler = GlobalOrArgument::Global(Handle::from_index(1));
-    let asked = Question::Samplings(GlobalOrArgument::Argument(0), sampler);
-    asks(&rt, chain(&rt).as_str(), asked, "199");
-}
-
-/// A function over the expressions of the sample `exit`. The matrix, expression 4, is loaded after the statement was run 200 blocks
-/// deep inside a branch on its argument.
-fn add_nest(text: &mut String, innermost: &str) -> Result<(), AllocError> {
-    text.push_str("Storage f32 ; Argument bool FunctionArgument 0 LiteralI32")?;
-    text.push_str(" GlobalVariable 0 Literal 8 CooperativeLoad 2 3 If 0 {")?;
+/// The statement, 200 blocks deep.
+fn deep(alloc: Global, innermost: Statement) -> Result<Vec<Statement>, AllocError> {
+    let mut statements = vec![in alloc; innermost]?;
     for _ in 0..200 {
-        text.push_str(" Block {")?;
+        let block = Statement::Block(Block { statements });
+        statements = vec![in alloc; block]?;
     }
-    write!(text, " {innermost} ")?;
-    for _ in 0..200 {
-        text.push_str(" }")?;
-    }
-    text.push_str(" } Else { } Emit 4 5")
+    Ok(statements)
 }
 
-fn nest(rt: &(impl Abort + AllocGlobal), innermost: &str) -> String {
-    let mut text = String::new(rt.alloc());
-    add_nest(&mut text, innermost).expect(rt, WANT);
-    text
+/// A matrix is loaded after the statement was run 200 blocks deep inside a branch on what varies.
+fn nest(alloc: Global, innermost: Statement) -> Result<Module, AllocError> {
+    let choice = branch(0, deep(alloc, innermost)?, Vec::new(alloc));
+    let statements = vec![in alloc; choice, emit(4, 5)]?;
+    let function = with_matrix(alloc, statements)?;
+    over_a_float(alloc, vec![in alloc; function]?)
+}
+
+fn analyzed(
+    rt: &impl Abort,
+    alloc: Global,
+    innermost: Statement,
+) -> Result<ModuleInfo, AnalysisError> {
+    let module = nest(alloc, innermost).expect(rt, WANT);
+    assert!(rt; check_module(&module).is_ok());
+    let flags = ValidationFlags::CONTROL_FLOW_UNIFORMITY;
+    let answer = analyze_module(alloc, &module, flags, Capabilities(0));
+    drop(module);
+    answer
+}
+
+fn is_behind_kill(cause: &FunctionError) -> bool {
+    match cause {
+        FunctionError::NonUniformControlFlow(_, _, disruptor) => {
+            matches!(disruptor, UniformityDisruptor::Discard)
+        }
+        _ => false,
+    }
 }
 
 #[test]
 fn exits_are_found_deep_inside(rt: HostRuntime) {
-    answers(
-        &rt,
-        nest(&rt, "Kill").as_str(),
-        "fn 0 A2 at 4 needs 8: There is a Discard earlier in the entry point across all called functions",
-    );
-    tells(
-        &rt,
-        nest(&rt, "").as_str(),
-        "fn 0 uses 1 pairs - counts 1,0,1,1,0 result uniform",
-    );
+    match analyzed(&rt, rt.alloc(), Statement::Kill) {
+        Ok(_) => panic!(&rt; "accepted"),
+        Err(error) => assert!(rt; is_behind_kill(&error.cause)),
+    }
+    assert!(rt; analyzed(&rt, rt.alloc(), Statement::Break).is_ok());
 }

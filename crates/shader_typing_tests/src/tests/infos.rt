@@ -70,16 +70,6 @@ fn uses_dominate_those_among_them(rt: HostRuntime) {
 }
 
 #[test]
-fn pairs_with_an_argument_are_told(rt: HostRuntime) {
-    let alloc = rt.alloc();
-    let sampled = info(&rt, alloc, GlobalUse::READ);
-    assert!(rt; sampled.has_sampling(IMAGE, global(0)));
-    assert!(rt; !sampled.has_sampling(global(0), IMAGE));
-    assert!(rt; !sampled.has_sampling(global(0), global(0)));
-    drop(sampled);
-}
-
-#[test]
 fn a_copy_has_all(rt: HostRuntime) {
     let alloc = rt.alloc();
     let first = info(&rt, alloc, GlobalUse::QUERY);

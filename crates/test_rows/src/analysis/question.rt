@@ -130,13 +130,22 @@ fn first_from_words(words: &mut Words<'_>) -> Option<Question> {
     }
 }
 
+fn question_from_words(words: &mut Words<'_>) -> Option<Question> {
+    match words.next_word() {
+        "first" => first_from_words(words),
+        kind => Some(Question::Analyzed(asked_from_words(kind, words)?)),
+    }
+}
+
 impl Question {
     /// The question that the words are, if they are one.
     pub fn from_words(words: Words<'_>) -> Option<Question> {
         let mut words = words;
-        match words.next_word() {
-            "first" => first_from_words(&mut words),
-            kind => Some(Question::Analyzed(asked_from_words(kind, &mut words)?)),
+        let question = question_from_words(&mut words)?;
+        if words.is_done() {
+            Some(question)
+        } else {
+            None
         }
     }
 }
