@@ -4,10 +4,19 @@
 //! - `nests NUMBER..`: for each number `yes` where the blocks nest no deeper, or else `no`.
 use crate::words::Words;
 use shader_ir::Module;
-use shader_resolve::{check_module, find_fault, nests_within};
+use shader_resolve::{ModuleFault, ModulePlace, check_module, find_fault, nests_within};
 use std::alloc::{AllocError, Global};
 
-/// What is replied to `fault`. Where the two calls differ in the fault, that is told.
+/// Whether two calls tell the same fault, or both none.
+fn agree(told: Result<(), ModuleFault>, found: Option<(ModulePlace, ModuleFault)>) -> bool {
+    match (told, found) {
+        (Ok(()), None) => true,
+        (Err(told), Some((_, found))) => told == found,
+        _ => false,
+    }
+}
+
+/// What is replied to `fault`.
 pub fn fault(
     alloc: Global,
     words: Words<'_>,
@@ -17,12 +26,14 @@ pub fn fault(
         return Ok(None);
     }
     let found = find_fault(module);
-    let text = if check_module(module).err() != found.map(|(_, fault)| fault) {
-        "check_module tells another fault".to_string(alloc)
-    } else if let Some((place, fault)) = found {
-        format!(in alloc; "{place:?} {fault:?}")
-    } else {
-        "none".to_string(alloc)
+    if !agree(check_module(module), found) {
+        return "check_module tells another fault"
+            .to_string(alloc)
+            .map(Some);
+    }
+    let text = match found {
+        Some((place, fault)) => format!(in alloc; "{place:?} {fault:?}"),
+        None => "none".to_string(alloc),
     };
     text.map(Some)
 }
