@@ -2,6 +2,8 @@
 //!
 //! With ample memory nothing is refused. Where the allocator refuses the Nth request of a test's process, the test passes
 //! still, and prints a line with `was refused`. The first N at which no test prints one is past all requests.
+ghost use Rattle.std.specs.Prelude.{◌≡◌};
+
 mod held;
 mod tables;
 
@@ -19,7 +21,9 @@ use std::test::Fail;
 
 type Answer = Option<Result<TypeResolution, ResolveError>>;
 
-fn at(place: u32) -> Handle<mark::Expression> {
+fn at(place: u32) -> Handle<mark::Expression>
+    ensures { result ≡ place }
+{
     Handle::from_index(place)
 }
 
