@@ -56,6 +56,7 @@ fn only(rt: &impl Abort, alloc: Global, rule: Rule) -> Vec<Rule>
 fn a_list_holds_its_rules(rt: HostRuntime) {
     let rules = only(&rt, rt.alloc(), of_two(&rt, rt.alloc()));
     let held = List::from_rules(rt.alloc(), rules).expect(&rt, WANT);
+    assert!(rt; !held.is_empty());
     assert!(rt; held.min_arguments() == 2 && held.max_arguments() == 2);
     let set = AnyOverloadSet::from(held);
     assert!(rt; matches!(set, AnyOverloadSet::List(_)));

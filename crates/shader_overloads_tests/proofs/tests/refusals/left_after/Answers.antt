@@ -1,4 +1,4 @@
 use Rattle.shader_overloads_tests.proofs.tests.refusals.left_after.Goals as goal
 
 pub narrow-requires-clause-rules_fit : goal.narrow-requires-clause-rules_fit
-narrow-requires-clause-rules_fit g c = c.in_ok-set.ensures.fits c.args.types.now
+narrow-requires-clause-rules_fit c = c.in_ok-set.ensures.fits c.args.types.now
