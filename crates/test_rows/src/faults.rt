@@ -16,6 +16,10 @@ fn agree(told: Result<(), ModuleFault>, found: Option<(ModulePlace, ModuleFault)
     }
 }
 
+fn fault_text(alloc: Global, place: ModulePlace, fault: ModuleFault) -> Result<String, AllocError> {
+    format!(in alloc; "{place:?} {fault:?}")
+}
+
 /// What is replied to `fault`.
 pub fn fault(
     alloc: Global,
@@ -32,7 +36,7 @@ pub fn fault(
             .map(Some);
     }
     let text = match found {
-        Some((place, fault)) => format!(in alloc; "{place:?} {fault:?}"),
+        Some((place, fault)) => fault_text(alloc, place, fault),
         None => "none".to_string(alloc),
     };
     text.map(Some)
