@@ -29,13 +29,12 @@ pub fn fault(
     if !words.is_done() {
         return Ok(None);
     }
-    let found = find_fault(module);
-    if !agree(check_module(module), found) {
+    if !agree(check_module(module), find_fault(module)) {
         return "check_module tells another fault"
             .to_string(alloc)
             .map(Some);
     }
-    let text = match found {
+    let text = match find_fault(module) {
         Some((place, fault)) => fault_text(alloc, place, fault),
         None => "none".to_string(alloc),
     };
