@@ -16,6 +16,10 @@ fn agree(told: Result<(), ModuleFault>, found: Option<(ModulePlace, ModuleFault)
     }
 }
 
+fn fault_text(alloc: Global, place: ModulePlace, fault: ModuleFault) -> Result<String, AllocError> {
+    format!(in alloc; "{place:?} {fault:?}")
+}
+
 /// What is replied to `fault`.
 pub fn fault(
     alloc: Global,
@@ -25,14 +29,13 @@ pub fn fault(
     if !words.is_done() {
         return Ok(None);
     }
-    let found = find_fault(module);
-    if !agree(check_module(module), found) {
+    if !agree(check_module(module), find_fault(module)) {
         return "check_module tells another fault"
             .to_string(alloc)
             .map(Some);
     }
-    let text = match found {
-        Some((place, fault)) => format!(in alloc; "{place:?} {fault:?}"),
+    let text = match find_fault(module) {
+        Some((place, fault)) => fault_text(alloc, place, fault),
         None => "none".to_string(alloc),
     };
     text.map(Some)
