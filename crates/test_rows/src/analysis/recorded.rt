@@ -1,5 +1,5 @@
 //! What is analysed for a question, and what is told of that.
-ghost use Rattle.std.specs.Prelude.{◌≡◌, length, IfOk, IfSome};
+ghost use Rattle.std.specs.Prelude.{◌≡◌, ◌<◌, length, IfOk, IfSome};
 
 use crate::analysis::question::{Asked, Part};
 use crate::analysis::telling::{add_counts, add_error, add_module, add_origins, add_uses};

@@ -83,9 +83,10 @@ impl<'a> Table<'a> {
     /// Tells which types are held.
     fn held(&self) -> Result<String, AllocError> {
         let mut text = format!(in self.alloc; "{}", self.typifier.len())?;
-        for place in 0..self.typifier.len() {
-            let resolution = &self.typifier[Handle::from_index(place as u32)];
-            write!(text, ", {}", ResolutionText(resolution))?;
+        for (handle, _) in self.function.expressions.iter() {
+            if handle.index() < self.typifier.len() {
+                write!(text, ", {}", ResolutionText(&self.typifier[handle]))?;
+            }
         }
         Ok(text)
     }
