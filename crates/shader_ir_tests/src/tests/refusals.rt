@@ -49,12 +49,19 @@ const BEFORE: u32 = 5;
 /// How many types there are in the end.
 const PLACES: u32 = 12;
 
+/// An array of one item of the first type.
+fn strided(rt: &impl Abort, stride: u32) -> TypeInner {
+    TypeInner::Array {
+        base: Handle::from_index(0),
+        size: ArraySize::Constant(Count::new(1).expect(rt, "a count")),
+        stride,
+    }
+}
+
 /// Adds arrays of one item whose stride is their place, behind a scalar.
 fn add_strided<R: Abort + Print>(rt: &R, types: &mut Types, first: u32, past: u32) {
-    let size = ArraySize::Constant(Count::new(1).expect(rt, "a count"));
     for stride in first..past {
-        let base = Handle::from_index(0);
-        add(rt, types, TypeInner::Array { base, size, stride });
+        add(rt, types, strided(rt, stride));
     }
 }
 
