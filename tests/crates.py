@@ -1,8 +1,13 @@
-"""What the scripts of tests/ share: the crates of the repository, their wrong bodies, and commands that are measured."""
+#!/usr/bin/env python3
+"""What the scripts of tests/ share: the crates of the repository, their mutants, and commands that are measured.
+
+    tests/crates.py NAME..      prints what a repository of one's own copies to depend on these crates
+"""
 import os
 import pathlib
 import re
 import subprocess
+import sys
 import time
 
 TOP = pathlib.Path(__file__).resolve().parent.parent
@@ -108,7 +113,7 @@ def function_at(file, lines, place):
 
 
 class Edit:
-    """One wrong body: a file, the texts that it exchanges there, and the functions that tell of it, where it says which.
+    """One mutant: a file, the texts that it exchanges there, and the functions that are asked for, where it says which.
 
     A control has a line that says what must come of it: it is harmless, or unfit to be tried.
     """
@@ -206,3 +211,29 @@ def edits_of(crate):
 
 def controls_of(crate):
     return [Edit(it, crate) for it in sorted((crate / "wrong-bodies/controls").glob("*.edit"))]
+
+
+def copied_for(names):
+    """Returns what another repository copies to depend on these crates: folders, and lines of crates.txt; nothing for another name."""
+    crates = listed()
+    if not crates.keys() >= set(names):
+        return []
+    needed = [it for it in crates if any(it == name or it in crates[name][1] for name in names)]
+    folders = [f"    crates/{it}" for it in needed]
+    rows = [f"    {crates[it][0]}" for it in needed]
+    head = f"{len(needed)} folders to copy; of each src/, specs/ and proofs/ are enough:"
+    return [head, "", *folders, "", "their lines of crates.txt:", "", *rows, "", "and the line of your crate, here called app:", "",
+            f"    app: {' '.join(names)}"]
+
+
+def main():
+    lines = copied_for(sys.argv[1:]) if sys.argv[1:] else []
+    if not lines:
+        print(f"usage: tests/crates.py NAME.., of {', '.join(listed())}", file=sys.stderr)
+        return 2
+    print("\n".join(lines))
+    return 0
+
+
+if __name__ == "__main__":
+    sys.exit(main())

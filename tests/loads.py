@@ -1,4 +1,4 @@
-"""The loads of tests/speed: modules as JSON and calls of built-in functions, each as large as is asked for.
+"""The loads of tests/speed: modules as JSON and calls of built-in functions, each of a given size.
 
 The expressions stand in groups of ten: a float, a vector of it, and what is made of those. The mixes differ in the last two of a group.
 """

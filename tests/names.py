@@ -1,4 +1,4 @@
-"""Makes modules as JSON for the names of built-in functions, operators and storage formats, with what the written rules tell of each."""
+"""Makes modules as JSON for the names of built-in functions, operators and storage formats, with what the written rules give for each."""
 
 FLOATS, INTEGERS = ("Unorm", "Snorm", "Float"), ("Uint", "Sint")
 # All storage formats.

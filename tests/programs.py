@@ -1,4 +1,4 @@
-"""Tells whether a program of crates/, of a library that of its tests, is built: tests/programs.py NAME.
+"""Tests whether a program of crates/, of a library that of its tests, is built: tests/programs.py NAME.
 
 Exit status 0 where it is built, and nothing that it is built from is newer; 1 where it isn't.
 """

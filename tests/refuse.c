@@ -1,4 +1,5 @@
-// Loaded before the C library (LD_PRELOAD), it refuses the request for memory whose number REFUSE names, and says so on standard error.
+// Loaded before the C library (LD_PRELOAD), it refuses the request for memory whose number REFUSE names, each one where that is negative,
+// and says so on standard error.
 typedef unsigned long size;
 
 char *getenv(const char *);
@@ -8,13 +9,15 @@ void *__libc_malloc(size);
 void *__libc_realloc(void *, size);
 
 static int is_refused(void) {
-    static long left = -1;
+    static int is_read = 0;
+    static long left = 0;
     static const char told[] = "refuse: this request is refused\n";
-    if (left < 0) {
+    if (!is_read) {
         const char *number = getenv("REFUSE");
         left = number ? atol(number) : 0;
+        is_read = 1;
     }
-    if (left == 0 || --left > 0) return 0;
+    if (left == 0 || (left > 0 && --left > 0)) return 0;
     return write(2, told, sizeof told - 1) > 0;
 }
 

@@ -53,11 +53,16 @@ class Judgement(unittest.TestCase):
         """Tells what failed of an answer: on a trivial goal, by a name, with a lemma, as its goal is gone."""
         rows = {it: (True, False, False) for it in ("answer_trivial", "answer_trivial_for_all")}
         rows |= {it: (False, False, False) for it in ("answer_unfit", "lemma_failed")}
-        rows |= {it: (False, True, False) for it in ("answer_names_a_field", "answer_names_nothing")}
+        rows |= {it: (False, True, False) for it in ("answer_names_a_field", "answer_names_a_field_below", "answer_names_nothing")}
         rows["goals_renamed"] = (False, True, True)
         told = {name: said(name).whole().answers[-1] for name in rows}
         self.assertEqual({name: (it.is_trivial, it.is_by_name, it.is_gone) for name, it in told.items()}, rows)
         self.assertEqual({tuple(it.names) for it in told.values()}, {("returns-clause-twice",), ("returns-then-more-gt100",)})
+
+    def test_rejected(self):
+        """Follows an answer through the lemmas that it cites to the one that was rejected, and why."""
+        answer = said("lemma_rejected").whole().answers[-1]
+        self.assertEqual((answer.names, answer.is_by_name), (["returns"], False))
 
     def test_parts(self):
         """Tells apart what is said of several functions."""

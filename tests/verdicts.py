@@ -15,7 +15,8 @@ IS_FALSE = "allow values at which this goal is false"
 UNPROVED = re.compile(r"(?m)^fn \w+::(\S+): no proof: .*`search` did not prove (.*)$")
 FAILED = re.compile(r"(?m)^(?:\./)?proofs/(\S+)\.antt:(\d+):\d+: (error.*(?:\n  .*)*)$")
 OF_FAILED = re.compile(r"error: `([^`]+)`: ")
-DEPENDS = re.compile(r"depends? on `([^`]+)`, which was not admitted, (?:was|were) not checked: (.*)")
+DEPENDS = re.compile(r"depends? on `([^`]+)`, which was (?:not admitted|rejected), (?:was|were) not checked: (.*)")
+THROUGH = re.compile(r" \(via [^)]*\)")
 NAME_IS_GONE = re.compile(r"has no field|is not in scope|has no `|was not admitted")
 GOAL_IS_GONE = re.compile(r"Goals` has no `")
 TRIVIAL = re.compile(r"expected type `(?:record \{\S+ : )?(?:[^`;]*(?:→|->) )?Unit \{0\}\}?`")
@@ -43,7 +44,7 @@ class Failure:
         self.path, self.line, self.why = f"proofs/{path}.antt", line, why
         self.depends = DEPENDS.search(why)
         found = OF_FAILED.match(why)
-        self.names = self.depends[2].split(", ") if self.depends else [found[1]] if found else []
+        self.names = THROUGH.sub("", self.depends[2]).split(", ") if self.depends else [found[1]] if found else []
         # A lemma that fails shows in the answers that cite it.
         self.is_answer, self.is_invariant = self.file == "Answers", self.file == "Invariants"
         self.is_gone, self.is_trivial = bool(GOAL_IS_GONE.search(why)), bool(TRIVIAL.search(why))
@@ -54,7 +55,8 @@ class Failure:
         if self.depends and self.depends[1] not in seen:
             below = [it for it in failures if it is not self and self.depends[1] in it.names]
             return all(it.only_names(failures, (*seen, self.depends[1])) for it in below)
-        return bool(NAME_IS_GONE.search(self.why.partition("\n")[0]))
+        # A message with a long path goes on in a second line.
+        return bool(NAME_IS_GONE.search(" ".join(self.why.split("\n")[:2])))
 
 
 class Said:

@@ -1,20 +1,20 @@
-//! Calls of built-in functions, resolved.
+//! Resolution of calls of built-in functions.
 ghost use Rattle.shader_ir.specs.TypeTree.{IsBackward};
 
 use shader_arena::UniqueArena;
 use shader_ir::{MathFunction, Type, TypeInner, mark, types_backward};
 use shader_overloads::{AnyOverloadSet, MathOverloads, OverloadSet};
-use shader_text::{Pieces, PlainType, builtin_from_word};
+use shader_type_text::{Pieces, PlainType, builtin_from_word};
 use std::alloc::{AllocError, Global};
 
-/// A call of a built-in function, by the types of its arguments.
+/// A call of a built-in function, given by the types of its arguments.
 #[derive(Drop)]
 pub struct Call {
     function: MathFunction,
     arguments: Vec<TypeInner>,
 }
 
-/// The calls that lines stand for, each `NAME TYPE..`, up to the first that is none.
+/// Returns the calls given by lines of the form `NAME TYPE..`, up to the first line of another form.
 pub fn calls_of(alloc: Global, input: &[u8]) -> Result<Vec<Call>, AllocError> {
     let mut calls = Vec::new(alloc);
     for line in Pieces::new(input, b'\n') {
@@ -36,7 +36,7 @@ pub fn calls_of(alloc: Global, input: &[u8]) -> Result<Vec<Call>, AllocError> {
     Ok(calls)
 }
 
-/// The rules of a built-in function that take these arguments.
+/// Returns the rules of a built-in function that accept these arguments.
 fn supply(
     alloc: Global,
     call: &Call,
@@ -54,7 +54,7 @@ fn supply(
     Ok(left)
 }
 
-/// How many arguments the preferred rule of a call takes, or 0 where no rule takes its arguments.
+/// Returns the number of arguments of a call's preferred rule, or 0 if no rule accepts its arguments.
 fn resolve(
     alloc: Global,
     call: &Call,
@@ -71,28 +71,28 @@ fn resolve(
     Ok(rule.arguments.len())
 }
 
-/// Resolves the calls one after the other, so many in all.
+/// Resolves the calls in turn, `size` in all.
 pub fn resolve_calls(alloc: Global, calls: &[Call], size: usize) -> Result<usize, AllocError> {
     let types = UniqueArena::new(alloc);
     let mut done = 0usize;
-    for place in 0..size {
+    for position in 0..size {
         if calls.is_empty() {
             return Ok(done);
         }
-        let arguments = resolve(alloc, &calls[place % calls.len()], &types)?;
+        let arguments = resolve(alloc, &calls[position % calls.len()], &types)?;
         done = done.wrapping_add(arguments);
     }
     Ok(done)
 }
 
-/// Makes the sets of the built-in functions one after the other, so many in all, and tells how many have rules.
-pub fn make_sets(alloc: Global, calls: &[Call], size: usize) -> Result<usize, AllocError> {
+/// Builds the sets of the built-in functions in turn, `size` in all, and returns how many have rules.
+pub fn build_sets(alloc: Global, calls: &[Call], size: usize) -> Result<usize, AllocError> {
     let mut done = 0usize;
-    for place in 0..size {
+    for position in 0..size {
         if calls.is_empty() {
             return Ok(done);
         }
-        let set = calls[place % calls.len()].function.overloads(alloc)?;
+        let set = calls[position % calls.len()].function.overloads(alloc)?;
         if !set.is_empty() {
             done = done.wrapping_add(1);
         }

@@ -1,15 +1,15 @@
-//! Expressions whose types are resolved one after the other.
+//! Resolution of the types of expressions, one after another.
 
 ghost use Rattle.std.specs.Prelude.{IsTrue};
 ghost use Rattle.shader_resolve.specs.Context.{IsInRange};
-ghost use Rattle.shader_resolve.specs.Follows.{FitsTold};
+ghost use Rattle.shader_resolve.specs.DerivesByRule.{AnswerFits};
 
 use shader_arena::{Arena, Handle, UniqueArena};
 use shader_ir::{Expression, Module, Type, TypeResolution, mark, types_backward};
 use shader_resolve::{ResolveContext, ResolveError};
 use std::alloc::{AllocError, Global};
 
-/// Whether the expression names nothing beside its operands, as those that are made here.
+/// Returns whether the expression names nothing besides its operands, as is true of those built here.
 fn names_nothing(context: &ResolveContext<'_>, expr: &Expression) -> bool
     ensures { IsTrue result → IsInRange context.now expr.now }
 {
@@ -28,15 +28,15 @@ fn names_nothing(context: &ResolveContext<'_>, expr: &Expression) -> bool
     }
 }
 
-/// The type that is held of an operand.
-fn told<'a>(
+/// Returns the stored type of an operand.
+fn stored_type<'a>(
     types: &UniqueArena<Type, mark::Type>,
-    held: &'a [TypeResolution],
+    stored: &'a [TypeResolution],
     operand: Handle<mark::Expression>,
 ) -> Result<&'a TypeResolution, ResolveError>
-    ensures { FitsTold types.now result }
+    ensures { AnswerFits types.now result }
 {
-    match held.get(operand.index()) {
+    match stored.get(operand.index()) {
         Some(resolution) => {
             if resolution.fits(types) {
                 Ok(resolution)
@@ -48,11 +48,11 @@ fn told<'a>(
     }
 }
 
-/// The type of the next expression, over those held of the expressions before it.
+/// Returns the type of the next expression, given the stored types of the expressions before it.
 fn resolve_next(
     alloc: Global,
     module: &Module,
-    held: &[TypeResolution],
+    stored: &[TypeResolution],
     expr: &Expression,
 ) -> Result<TypeResolution, ResolveError> {
     let locals = Arena::new(alloc);
@@ -65,28 +65,28 @@ fn resolve_next(
         alloc,
         expr,
         |operand: Handle<mark::Expression>| -> Result<&TypeResolution, ResolveError>
-            ensures { FitsTold types.entry.now result }
-        { told(types, held, operand) },
+            ensures { AnswerFits types.entry.now result }
+        { stored_type(types, stored, operand) },
     )
 }
 
-/// Resolves the types of all expressions, up to the first that has none, and tells how many have one.
+/// Resolves the types of all expressions, up to the first that has none, and returns how many have one.
 fn resolve_each(
     alloc: Global,
     module: &Module,
     expressions: &Arena<Expression, mark::Expression>,
 ) -> Result<usize, AllocError> {
-    let mut held = Vec::with_capacity(alloc, expressions.len())?;
+    let mut stored = Vec::with_capacity(alloc, expressions.len())?;
     for (_, expr) in expressions.iter() {
-        match resolve_next(alloc, module, held.as_slice(), expr) {
-            Ok(resolution) => held.push(resolution)?,
-            Err(_) => return Ok(held.len()),
+        match resolve_next(alloc, module, stored.as_slice(), expr) {
+            Ok(resolution) => stored.push(resolution)?,
+            Err(_) => return Ok(stored.len()),
         }
     }
-    Ok(held.len())
+    Ok(stored.len())
 }
 
-/// Resolves those of the functions of a module so many times.
+/// Resolves the types of a module's functions `rounds` times.
 pub fn resolve_all(alloc: Global, module: &Module, rounds: usize) -> Result<usize, AllocError> {
     let mut done = 0usize;
     for _ in 0..rounds {

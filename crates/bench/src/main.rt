@@ -1,8 +1,8 @@
-//! Repeats a public call, whose instructions `tests/speed` counts: a program for measurements alone.
+//! The program `bench`, for measurements alone: repeats a public call whose instructions `tests/speed` counts.
 //!
-//! The first line of the input is `CALL ROUNDS [LEVELS]`: the call, how often it is made, and how many `If`s are put one in another, as no
-//! text nests so deep. Behind it stands a module as JSON, or a line `NAME TYPE..` for each call of a built-in function. The answer is a
-//! number that no round can do without; it is 0 where nothing was done.
+//! The first line of the input is `CALL ROUNDS [LEVELS]`: the call, the number of repetitions, and the number of nested `If`s to build,
+//! since no text nests so deep. The rest is a module as JSON, or a line `NAME TYPE..` for each call of a built-in function. The output is a
+//! number to which every round contributes; it is 0 if nothing was done.
 #![tactic(auto)]
 
 mod calls;

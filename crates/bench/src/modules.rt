@@ -1,13 +1,15 @@
-//! A module, checked and analysed.
+//! Checks and analyses of a module.
 
 ghost use Rattle.shader_resolve.specs.WellFormed.{IsWellFormed};
 
+use shader_analysis::analyze_module;
 use shader_arena::Handle;
+use shader_info::{Capabilities, ValidationFlags};
 use shader_ir::{Block, Module, Statement};
-use shader_typing::valid::{Capabilities, ValidationFlags, analyze_module, check_module};
+use shader_resolve::check_module;
 use std::alloc::{AllocError, Global};
 
-/// So many `If`s on the first expression, one in another.
+/// Returns `levels` nested `If`s on the first expression.
 fn nested(alloc: Global, levels: usize) -> Result<Block, AllocError> {
     let mut body = Block::new(alloc);
     for _ in 0..levels {
@@ -22,7 +24,7 @@ fn nested(alloc: Global, levels: usize) -> Result<Block, AllocError> {
     Ok(body)
 }
 
-/// Puts so many `If`s in place of what the first function does, where there are any.
+/// Replaces the body of the first function by `levels` nested `If`s, if `levels` isn't 0.
 pub fn nest(alloc: Global, module: &mut Module, levels: usize) -> Result<(), AllocError> {
     if levels == 0 {
         return Ok(());
@@ -35,7 +37,7 @@ pub fn nest(alloc: Global, module: &mut Module, levels: usize) -> Result<(), All
     Ok(())
 }
 
-/// Checks the module so many times, and tells how often it was well formed.
+/// Checks the module `rounds` times, and returns how often it was well formed.
 pub fn check(module: &Module, rounds: usize) -> usize {
     let mut done = 0usize;
     for _ in 0..rounds {
@@ -46,7 +48,7 @@ pub fn check(module: &Module, rounds: usize) -> usize {
     done
 }
 
-/// Whether nothing of the module is refused.
+/// Returns whether the analysis accepts the module.
 fn is_accepted(alloc: Global, module: &Module) -> bool
     requires { IsWellFormed «module».now }
 {
@@ -54,7 +56,7 @@ fn is_accepted(alloc: Global, module: &Module) -> bool
     analyze_module(alloc, module, flags, Capabilities(0)).is_ok()
 }
 
-/// Analyses the module so many times, where it is well formed, which is checked once, and tells how often nothing was refused.
+/// Analyses the module `rounds` times if it is well formed, which is checked once, and returns how often it was accepted.
 pub fn analyze(alloc: Global, module: &Module, rounds: usize) -> usize {
     let mut done = 0usize;
     if check_module(module).is_ok() {

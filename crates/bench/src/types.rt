@@ -1,4 +1,4 @@
-//! Types, compared, converted and laid out.
+//! Comparison, conversion and layout of types.
 ghost use Rattle.std.specs.Prelude.{length, All, IsTrue};
 ghost use Rattle.shader_ir.specs.Key.{FitsTypes};
 ghost use Rattle.shader_ir.specs.TypeTree.{IsBackward, PointsBelow};
@@ -10,7 +10,7 @@ use shader_ir::{
 };
 use std::alloc::{AllocError, Global};
 
-/// Lays out all types of a module so many times.
+/// Lays out all types of a module `rounds` times.
 pub fn lay_out(alloc: Global, module: &Module, rounds: usize) -> Result<usize, AllocError> {
     let mut done = 0usize;
     for _ in 0..rounds {
@@ -23,7 +23,7 @@ pub fn lay_out(alloc: Global, module: &Module, rounds: usize) -> Result<usize, A
     Ok(done)
 }
 
-/// The types, outside of their arena.
+/// Returns copies of the types, outside of their arena.
 fn leaves(
     alloc: Global,
     types: &UniqueArena<Type, mark::Type>,
@@ -35,7 +35,7 @@ fn leaves(
     Ok(leaves)
 }
 
-/// The types as free-standing ones.
+/// Returns the types as resolutions outside the arena.
 fn resolutions(
     alloc: Global,
     types: &UniqueArena<Type, mark::Type>,
@@ -47,14 +47,14 @@ fn resolutions(
     Ok(resolutions)
 }
 
-/// Whether all of them fit the types.
+/// Returns whether all of them fit the types.
 fn all_fit(leaves: &[TypeResolution], types: &UniqueArena<Type, mark::Type>) -> bool
     ensures { IsTrue result → All (λ leaf. FitsTypes types.now leaf) leaves.now }
 {
     leaves.iter().all(|leaf| leaf.fits(types))
 }
 
-/// Compares so many pairs of types, and tells how many are of the same type.
+/// Compares `size` pairs of types, and returns how many are the same.
 fn count_same(
     leaves: &[TypeResolution],
     types: &UniqueArena<Type, mark::Type>,
@@ -64,12 +64,12 @@ fn count_same(
     requires fit { All (λ leaf. FitsTypes types.now leaf) leaves.now }
 {
     let mut same = 0usize;
-    for place in 0..size {
+    for position in 0..size {
         if leaves.is_empty() {
             return same;
         }
-        let left = &leaves[place % leaves.len()];
-        let right = &leaves[place / leaves.len() % leaves.len()];
+        let left = &leaves[position % leaves.len()];
+        let right = &leaves[position / leaves.len() % leaves.len()];
         if compare_types(left, right, types) {
             same = same.wrapping_add(1);
         }
@@ -77,7 +77,7 @@ fn count_same(
     same
 }
 
-/// Compares so many pairs of a module's types, each free-standing, and tells how many are of the same type.
+/// Compares pairs of a module's types, as types outside the arena, and returns how many are the same.
 pub fn compare(
     alloc: Global,
     types: &UniqueArena<Type, mark::Type>,
@@ -92,14 +92,14 @@ pub fn compare(
     }
 }
 
-/// Whether all of them name types in range alone.
+/// Returns whether all of them name only types in range.
 fn all_in_range(leaves: &[TypeInner], types: &UniqueArena<Type, mark::Type>) -> bool
     ensures { IsTrue result → All (λ leaf. PointsBelow (length types.now) leaf) leaves.now }
 {
     leaves.iter().all(|leaf| leaf.is_in_range(types))
 }
 
-/// Converts so many pairs of types, and tells how many convert.
+/// Converts pairs of types, and returns how many convert.
 fn count_conversions(
     leaves: &[TypeInner],
     types: &UniqueArena<Type, mark::Type>,
@@ -109,12 +109,12 @@ fn count_conversions(
     requires in_range { All (λ leaf. PointsBelow (length types.now) leaf) leaves.now }
 {
     let mut converted = 0usize;
-    for place in 0..size {
+    for position in 0..size {
         if leaves.is_empty() {
             return converted;
         }
-        let left = &leaves[place % leaves.len()];
-        let right = &leaves[place / leaves.len() % leaves.len()];
+        let left = &leaves[position % leaves.len()];
+        let right = &leaves[position / leaves.len() % leaves.len()];
         if left.automatically_converts_to(right, types).is_some() {
             converted = converted.wrapping_add(1);
         }
@@ -122,7 +122,7 @@ fn count_conversions(
     converted
 }
 
-/// Converts so many pairs of a module's types, and tells how many convert.
+/// Converts pairs of a module's types, and returns how many convert.
 pub fn convert(
     alloc: Global,
     types: &UniqueArena<Type, mark::Type>,

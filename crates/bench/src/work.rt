@@ -1,15 +1,15 @@
-//! The calls, by their names.
+//! The calls that are measured, by their names.
 
-use crate::calls::{calls_of, make_sets, resolve_calls};
+use crate::calls::{build_sets, calls_of, resolve_calls};
 use crate::expressions::resolve_all;
 use crate::modules::{analyze, check, nest};
 use crate::types::{compare, convert, lay_out};
 use shader_ir::Module;
-use shader_json::read_module;
-use shader_text::{Pieces, index_of, number_from_word};
+use shader_json_module::read_module;
+use shader_type_text::{Pieces, index_of, number_from_word};
 use std::alloc::{AllocError, Global};
 
-/// The number that a word is, 0 where it is none.
+/// Returns the number that a word spells, or 0 if it spells none.
 fn number(word: Option<&[u8]>) -> usize {
     match word {
         Some(word) => number_from_word(word).unwrap_or(0) as usize,
@@ -17,7 +17,7 @@ fn number(word: Option<&[u8]>) -> usize {
     }
 }
 
-/// Makes the call on a module so many times, and tells a number that all rounds add to.
+/// Makes the call on a module `rounds` times, and returns a number to which all rounds contribute.
 fn work_on_module(
     alloc: Global,
     call: &[u8],
@@ -35,7 +35,7 @@ fn work_on_module(
     }
 }
 
-/// Makes the call on the module that a text is, once its first function is nested so deep.
+/// Makes the call on the module given by a text, after its first function was nested to this depth.
 fn work_on_text(
     alloc: Global,
     call: &[u8],
@@ -53,7 +53,7 @@ fn work_on_text(
     done
 }
 
-/// Does what the first line of the input asks for over the lines behind it.
+/// Performs the work that the first line of the input requests on the lines after it.
 pub fn work(alloc: Global, input: &[u8]) -> Result<usize, AllocError> {
     let Some(end) = index_of(input, b'\n') else {
         return Ok(0);
@@ -64,7 +64,7 @@ pub fn work(alloc: Global, input: &[u8]) -> Result<usize, AllocError> {
     let text = &input[end + 1..];
     match call {
         b"arg" => resolve_calls(alloc, calls_of(alloc, text)?.as_slice(), rounds),
-        b"overloads" => make_sets(alloc, calls_of(alloc, text)?.as_slice(), rounds),
+        b"overloads" => build_sets(alloc, calls_of(alloc, text)?.as_slice(), rounds),
         _ => work_on_text(alloc, call, text, rounds, number(words.next())),
     }
 }

@@ -1,4 +1,5 @@
-//! Reading a whole input up to a limit, and writing a whole text, over devices that may fail.
+//! Input and output for programs: reads a whole input up to a limit, and writes a whole text, over
+//! devices that may fail.
 #![tactic(auto)]
 
 mod reading;

@@ -1,4 +1,4 @@
-//! Reading a whole input, up to a limit.
+//! Reading of a whole input, up to a limit.
 
 ghost use Rattle.std.specs.Prelude.{◌≡◌, ℕ, ◌≤◌, ◌<◌, ◌↔◌, List, length, false, IsTrue, IfOk, OnOk};
 ghost use Rattle.std.specs.Io.KnownBytes.{Consumes, IsAtEnd};
@@ -7,14 +7,14 @@ ghost use Rattle.program_io.specs.declared.reading.InputError.TheVariants.{ReadF
 use crate::source::{Failed, Source};
 use std::alloc::{AllocError, Global};
 
-/// Why there is no input.
+/// The reason why there is no input.
 #[derive(Clone, Copy, Debug, PartialEq, Eq)]
 pub enum InputError {
     /// A read failed.
     ReadFailed,
-    /// There are more bytes than the limit.
+    /// The input has more bytes than the limit.
     TooLong,
-    /// Want of memory.
+    /// An allocation failed.
     OutOfMemory,
 }
 
@@ -34,11 +34,11 @@ impl From<AllocError> for InputError {
     }
 }
 
-/// All bytes of the reader, which may be as many as the limit.
+/// Returns all bytes of the reader, at most as many as the limit.
 ///
 /// # Errors
 ///
-/// A read that fails, more bytes than the limit, and want of memory.
+/// A failed read, more bytes than the limit, or out of memory.
 pub fn read_input<R: Source>(
     alloc: Global,
     reader: &mut R,

@@ -1,20 +1,21 @@
-//! Where a run puts its bytes.
+//! Destinations of a program's output.
 
-ghost use Rattle.std.specs.Prelude.{◌≡◌, ℕ, ◌<◌, ◌≤◌, List, length, Option, Bool, false, ◌||◌, IfOk, is_err};
+ghost use Rattle.std.specs.Prelude.{◌≡◌, ◌⊎◌, ℕ, ◌<◌, ◌≤◌, List, length, Option, Bool, false, ◌||◌};
+ghost use Rattle.std.specs.Prelude.{IfOk, IsErr, IsTrue, MatchResult, is_err};
 ghost use Rattle.std.specs.Io.KnownBytes.{WriteAppends};
 
 use crate::source::Failed;
-use std::io::Write;
+use std::io::{self, Write};
 
 /// A sink of bytes.
 pub trait Sink {
-    // The bytes that the sink holds, where they are known.
+    // The bytes written to the sink, if they are known.
     ghost contents: { Self → Option (List ℕ) };
 
     // Whether a write has failed.
     ghost has_failed: { Self → Bool };
 
-    /// Takes a front of the piece, and says how long it is: not 0, unless the piece is empty.
+    /// Writes a prefix of `piece` and returns the byte count, which is 0 only for an empty piece.
     fn write(&mut self, piece: &[u8]) -> Result<usize, Failed>
         ensures count { IfOk result (λ n. n ≤ length piece.now) }
         ensures progress { IfOk result (λ n. 0 < length piece.now → 0 < n) }
@@ -22,7 +23,7 @@ pub trait Sink {
         ensures failed { has_failed self.new ≡ (has_failed self.old || is_err result) };
 }
 
-/// One of std's writers.
+/// A sink over a writer of std.
 #[derive(Drop)]
 pub struct ToWriter<W> {
     writer: W,
@@ -30,7 +31,7 @@ pub struct ToWriter<W> {
 }
 
 impl<W: Write> ToWriter<W> {
-    /// The sink that hands its bytes to the writer.
+    /// Returns the sink that writes to the writer.
     pub fn new(writer: W) -> Self
         ensures bytes { ⟦<ToWriter<W> as Sink>⟧.contents result ≡ W.contents writer }
         ensures failed { ⟦<ToWriter<W> as Sink>⟧.has_failed result ≡ false }
@@ -48,12 +49,19 @@ impl<W: Write> Sink for ToWriter<W> {
     ghost has_failed = { λ s. s.has_failed };
 
     fn write(&mut self, piece: &[u8]) -> Result<usize, Failed> {
-        match self.writer.write(piece) {
-            Ok(count) if count > 0 || piece.is_empty() => Ok(count),
-            _ => {
-                self.has_failed = true;
-                Err(Failed)
-            }
-        }
+        let outcome = write_outcome(self.writer.write(piece), piece.is_empty());
+        self.has_failed = self.has_failed || outcome.is_err();
+        outcome
+    }
+}
+
+/// Returns the byte count that std's writer gave, or `Failed` exactly where it gave an error or took no byte of a piece that has some.
+fn write_outcome(written: io::Result<usize>, is_empty: bool) -> Result<usize, Failed>
+    ensures count { MatchResult written (λ count. (0 < count) ⊎ IsTrue is_empty → result ≡ Ok count) (λ _. IsErr result) }
+    ensures none { (written ≡ Ok 0) → (is_empty ≡ false) → IsErr result }
+{
+    match written {
+        Ok(count) if count > 0 || is_empty => Ok(count),
+        _ => Err(Failed),
     }
 }

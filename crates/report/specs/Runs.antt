@@ -1,12 +1,11 @@
--- How a run ends.
-use Rattle.std.specs.Prelude.{◌≡◌, ℕ, Bool, true, false, List}
-use Rattle.shader_chains.specs.Faults.{Settings}
-use Rattle.shader_chains.specs.Program.{Module}
-use Rattle.shader_json_answers.specs.Answers.{IsModuleAnswer}
-use Rattle.shader_steps.specs.Causes.{settings_of}
-use Rattle.shader_summaries.specs.Verdicts.{IsVerdict}
-use Rattle.report.specs.Options.{capabilities_of, flags_of}
-use Rattle.report.specs.declared.options.Options.{Options}
+-- The outcome of a run.
+use Rattle.std.specs.Prelude.{◌≡◌, ℕ, Bool, true, false, not, List, Option}
+use Rattle.std.specs.Io.KnownBytes.{Appends, Keeps}
+use Rattle.shader_analysis_spec.specs.Program.{Module}
+use Rattle.report_answers.specs.Reports.{IsOutput}
+use Rattle.report_answers.specs.declared.options.Options.{Options}
+use Rattle.report_answers.specs.declared.reports.Outcome.{Outcome}
+use Rattle.report_answers.specs.declared.reports.Outcome.TheVariants as outcomes
 use Rattle.report.specs.declared.status.Status.{Status}
 use Rattle.report.specs.declared.status.Status.TheVariants.{Accepted, Refused, BadUsage, ReadFailed, WriteFailed}
 use Rattle.report.specs.declared.status.Status.TheVariants.{OutOfMemory, NotModule}
@@ -24,21 +23,18 @@ abbrev pub verdict : Bool → Status
 verdict true = Accepted
 verdict false = Refused
 
--- as JSON the text is the answer to the module; for people it says why the verdict is so, and no clause says in which words
-abbrev TellsOf : Bool → Module → Settings → Bool → List ℕ → Type 0
-TellsOf true m settings accepted text = IsModuleAnswer m settings accepted text
-TellsOf false m settings accepted text = IsVerdict m settings accepted
+abbrev pub outcome_status : Outcome → Status
+outcome_status outcomes.Accepted = Accepted
+outcome_status outcomes.Refused = Refused
+outcome_status outcomes.NotModule = NotModule
 
-abbrev pub IsTold : Options → Module → Bool → List ℕ → Type 0
-IsTold options m accepted text = TellsOf options.is_json m (settings_of (flags_of options) (capabilities_of options)) accepted text
-
--- what is written is what is told of a module
+-- the written text is the report on a module
 pub record IsAnswerOf (options : Options) (m : Module) (status : Status) (written : List ℕ) : Type 0 where
   pub accepted : Bool
-  pub told : IsTold options m accepted written
+  pub reported : IsOutput options m accepted written
   pub ended : status ≡ verdict accepted
 
--- what a run claims of statuses 0 and 1
+-- a clause about statuses 0 and 1
 abbrev pub OnAnswered : Status → Type 0 → Type 0
 OnAnswered Accepted P = P
 OnAnswered Refused P = P
@@ -48,7 +44,7 @@ OnAnswered WriteFailed P = Unit {0}
 OnAnswered OutOfMemory P = Unit {0}
 OnAnswered NotModule P = Unit {0}
 
--- what a run claims of statuses 3 and 5
+-- a clause about statuses 3 and 5
 abbrev pub OnUnanswered : Status → Type 0 → Type 0
 OnUnanswered Accepted P = Unit {0}
 OnUnanswered Refused P = Unit {0}
@@ -57,3 +53,25 @@ OnUnanswered ReadFailed P = P
 OnUnanswered WriteFailed P = Unit {0}
 OnUnanswered OutOfMemory P = P
 OnUnanswered NotModule P = Unit {0}
+
+-- a clause about status 6
+abbrev pub OnNotModule : Status → Type 0 → Type 0
+OnNotModule Accepted P = Unit {0}
+OnNotModule Refused P = Unit {0}
+OnNotModule BadUsage P = Unit {0}
+OnNotModule ReadFailed P = Unit {0}
+OnNotModule WriteFailed P = Unit {0}
+OnNotModule OutOfMemory P = Unit {0}
+OnNotModule NotModule P = P
+
+-- whether an error of the input belongs to standard error
+abbrev pub is_told_apart : Options → Outcome → Bool
+is_told_apart options outcomes.Accepted = false
+is_told_apart options outcomes.Refused = false
+is_told_apart options outcomes.NotModule = not options.is_json
+
+-- as JSON an error is written to the output, and nothing beside it; for people it is written beside it alone, unless that fails
+abbrev pub IsTold : Bool → Bool → List ℕ → Option (List ℕ) → Option (List ℕ) → Option (List ℕ) → Option (List ℕ) → Type 0
+IsTold true failed text old new errors told = Appends old new text × Keeps errors told
+IsTold false false text old new errors told = Keeps old new × Appends errors told text
+IsTold false true text old new errors told = Keeps old new

@@ -1,26 +1,76 @@
-//! Reads a shader module as JSON, and tells what is found of it.
+//! Reads a shader module as JSON and reports on it.
 #![tactic(auto)]
 
-mod errors;
-mod options;
+mod program;
 mod progress;
-mod running;
 mod status;
 
-use crate::options::Options;
+use crate::program::run;
 use crate::progress::Shown;
-use crate::running::run;
 use crate::status::Status;
 use program_io::{FromReader, ToWriter};
+use report_answers::{BadWord, Flag, Options};
 use std::alloc::AllocError;
 use std::io::{ErrorKind, IsTerminal};
 use std::process::ExitCode;
 use std::{env, io};
 
-const USAGE: &str =
-    "usage: report [--json] [--no-control-flow-uniformity] [--non-uniform-indexing=textures,storage-textures] < module.json";
+/// The flags by their use.
+const USAGE: &str = "usage: report [FLAG..] < FILE
 
-/// Tells which words there are.
+  how it answers:            --json
+  what it checks:            --uniformity=naga
+                             --uniformity=off
+  what the device can do:    --non-uniform-indexing=textures
+                             --non-uniform-indexing=storage-textures
+                             --non-uniform-indexing=textures,storage-textures
+  what else it tells:        --bounds-checks [KIND=POLICY,..]
+                             --drawing
+                             --no-drawing";
+
+/// Says that the word of this index is no flag and which is near, or that it says again what is said.
+fn say_bad_word(rt: &impl Eprint, words: &[String], bad: BadWord) {
+    let _ = match bad {
+        BadWord::Unknown(index) => say_unknown(rt, word_at(words, index)),
+        BadWord::Twice(index) => {
+            eprintln!(rt;
+                "report: `{}` sets what a flag before it has set",
+                word_at(words, index)
+            )
+        }
+    };
+}
+
+/// Says that a word is no flag: where the module is read, if it looks like a file, and else the nearest flag.
+fn say_unknown(rt: &impl Eprint, word: &str) -> io::Result<()> {
+    if word.starts_with('-') {
+        let nearest = Flag::nearest(word.as_bytes()).word();
+        eprintln!(rt; "report: `{word}` is no flag; the nearest is `{nearest}`")
+    } else {
+        eprintln!(rt; "report: `{word}` is no flag; the module is read from standard input")
+    }
+}
+
+/// Returns the word of this index.
+fn word_at(words: &[String], index: usize) -> &str {
+    match words.get(index) {
+        Some(word) => word.as_str(),
+        None => "",
+    }
+}
+
+/// Says what failed, if something did.
+fn say_failure(rt: &impl Eprint, status: Status) {
+    let failure = match status {
+        Status::ReadFailed => "the input can't be read",
+        Status::WriteFailed => "the report can't be written",
+        Status::OutOfMemory => "out of memory",
+        _ => return,
+    };
+    let _ = eprintln!(rt; "report: {failure}");
+}
+
+/// Prints the usage. Returns the exit status for a word that is no flag.
 fn bad_usage(rt: &impl Eprint) -> ExitCode {
     let _ = eprintln!(rt; "{USAGE}");
     ExitCode::from(Status::BadUsage.code())
@@ -29,20 +79,45 @@ fn bad_usage(rt: &impl Eprint) -> ExitCode {
 fn main(rt: HostRuntime) -> ExitCode {
     let words = match env::args(&rt) {
         Ok(words) => words,
-        // A word that is no text is no flag.
-        Err(error) if error.kind() == ErrorKind::InvalidData => return bad_usage(&rt),
-        Err(_) => return ExitCode::from(Status::OutOfMemory.code()),
+        Err(error) if error.kind() == ErrorKind::InvalidData => {
+            let _ = eprintln!(rt; "report: a word that is no text is no flag");
+            return bad_usage(&rt);
+        }
+        Err(_) => return ended(&rt, Status::OutOfMemory),
     };
     let words: Result<Vec<String>, AllocError> = words.skip(1).collect(rt.alloc());
     let Ok(words) = words else {
-        return ExitCode::from(Status::OutOfMemory.code());
+        return ended(&rt, Status::OutOfMemory);
     };
-    let Some(options) = Options::from_words(words.as_slice()) else {
-        return bad_usage(&rt);
+    if words.iter().any(|word| word.as_str() == "--help") {
+        let _ = println!(rt; "{USAGE}");
+        return ExitCode::SUCCESS;
+    }
+    let options = match Options::from_words(words.as_slice()) {
+        Ok(options) => options,
+        Err(bad) => {
+            say_bad_word(&rt, words.as_slice(), bad);
+            return bad_usage(&rt);
+        }
     };
+    let options = options.drawing_if(rt.stdout().is_terminal());
     let mut reader = FromReader::new(rt.reader());
     let mut writer = ToWriter::new(io::writer(&rt));
+    let mut errors = ToWriter::new(rt.stderr());
     let mut progress = Shown::new(&rt, rt.stderr().is_terminal());
-    let status = run(rt.alloc(), options, &mut reader, &mut writer, &mut progress);
+    let status = run(
+        rt.alloc(),
+        options,
+        &mut reader,
+        &mut writer,
+        &mut errors,
+        &mut progress,
+    );
+    ended(&rt, status)
+}
+
+/// Says what failed, and returns the exit status.
+fn ended(rt: &impl Eprint, status: Status) -> ExitCode {
+    say_failure(rt, status);
     ExitCode::from(status.code())
 }

@@ -1,29 +1,42 @@
-//! How a run ends, and its exit status.
+//! The outcome of a run, and its exit status.
 
-/// How a run ended.
+use report_answers::Outcome;
+
+/// The outcome of a run.
 #[derive(Clone, Copy, Debug, PartialEq, Eq)]
 pub enum Status {
-    /// The module has no fault, and each type a layout.
+    /// The module has no fault, and each type has a layout.
     Accepted = 0,
-    /// It has a fault, or a type has no layout.
+    /// The module has a fault, or a type has no layout.
     Refused = 1,
     /// A word of the command line is no flag.
     BadUsage = 2,
     /// A read of the input failed.
     ReadFailed = 3,
-    /// A write of the answer failed.
+    /// A write of the report failed.
     WriteFailed = 4,
-    /// Memory was refused.
+    /// An allocation failed.
     OutOfMemory = 5,
-    /// The input is no module, or one whose blocks nest too deep.
+    /// The input is no module, or its blocks nest too deep.
     NotModule = 6,
 }
 
 impl Status {
     ghost use Rattle.std.specs.Prelude.{◌≡◌};
-    ghost use Rattle.report.specs.Runs.{status_code};
+    ghost use Rattle.report.specs.Runs.{outcome_status, status_code};
 
-    /// The exit status of the process.
+    /// Returns the status of a run that wrote a report with this outcome.
+    pub fn of(outcome: Outcome) -> Status
+        ensures { result ≡ outcome_status outcome }
+    {
+        match outcome {
+            Outcome::Accepted => Status::Accepted,
+            Outcome::Refused => Status::Refused,
+            Outcome::NotModule => Status::NotModule,
+        }
+    }
+
+    /// Returns the exit status of the process.
     pub fn code(self) -> u8
         ensures { result ≡ status_code self }
     {

@@ -1,9 +1,9 @@
--- Which places a list of places has, and that they ascend.
+-- Membership and order of lists of positions.
 use Rattle.std.proofs.Common.{◌≡◌, ℕ, zero, suc, ◌+◌, ◌-◌, ◌<◌, ◌≤◌, Bool, true, false, List, [], ◌∷◌, length}
 use Rattle.std.proofs.Common.{get_or, Contains, IsTrue, ◌⊎◌, inl, inr, ◌↔◌, refl, subst, add-one, arith}
 use Rattle.std.proofs.lemmas.Bool.{false≢true}
 use Rattle.std.specs.List.Sorted.{IsStrictlyIncreasing}
-use Rattle.shader_arena.specs.Places.{places_from, places_between, members_from, members, is_member}
+use Rattle.shader_arena.specs.Positions.{positions_from, positions_between, members_from, members, is_member}
 
 -- the first element of a list, or an element of the rest
 cases_cons : (x : ℕ) (xs : List ℕ) (y k : ℕ) → k < length (x ∷ xs) → get_or (x ∷ xs) k y ≡ y → (x ≡ y) ⊎ Contains xs y
@@ -16,69 +16,76 @@ Contains-head x xs y e = (0, omega arith, e)
 Contains-tail : (x : ℕ) (xs : List ℕ) (y : ℕ) → Contains xs y → Contains (x ∷ xs) y
 Contains-tail x xs y found = (suc found.0, omega (arith, found.1), found.2)
 
--- a place that is set is among the members
-found_member : (first : ℕ) (flags : List Bool) (k place : ℕ) → first + k ≡ place → IsTrue (is_member flags k) →
-    Contains (members_from first flags) place
-found_member first [] k place e set = absurd (false≢true set)
-found_member first (true ∷ flags) zero place e set = Contains-head first (members_from (first + 1) flags) place (omega arith)
-found_member first (false ∷ flags) zero place e set = absurd (false≢true set)
-found_member first (true ∷ flags) (suc k) place e set = Contains-tail first (members_from (first + 1) flags) place
-    (found_member (first + 1) flags k place (omega arith) set)
-found_member first (false ∷ flags) (suc k) place e set = found_member (first + 1) flags k place (omega arith) set
+-- a position that is set is among the members
+found_member : (first : ℕ) (flags : List Bool) (k position : ℕ) → first + k ≡ position → IsTrue (is_member flags k) →
+    Contains (members_from first flags) position
+found_member first [] k position e set = absurd (false≢true set)
+found_member first (true ∷ flags) zero position e set = Contains-head first (members_from (first + 1) flags) position (omega arith)
+found_member first (false ∷ flags) zero position e set = absurd (false≢true set)
+found_member first (true ∷ flags) (suc k) position e set = Contains-tail first (members_from (first + 1) flags) position
+    (found_member (first + 1) flags k position (omega arith) set)
+found_member first (false ∷ flags) (suc k) position e set = found_member (first + 1) flags k position (omega arith) set
 
 -- the flag of each member is set
-set_member : (first : ℕ) (flags : List Bool) (place : ℕ) → Contains (members_from first flags) place →
-    (k : ℕ) × (first + k ≡ place) × IsTrue (is_member flags k)
-set_member first [] place found = absurd (omega (arith, found.1))
-set_member first (false ∷ flags) place found =
-    let later = set_member (first + 1) flags place found in (suc later.0, omega (arith, later.1), later.2)
-set_member first (true ∷ flags) place found =
-    by (cases_cons first (members_from (first + 1) flags) place found.0 found.1 found.2) (set_member (first + 1) flags place)
+set_member : (first : ℕ) (flags : List Bool) (position : ℕ) → Contains (members_from first flags) position →
+    (k : ℕ) × (first + k ≡ position) × IsTrue (is_member flags k)
+set_member first [] position found = absurd (omega (arith, found.1))
+set_member first (false ∷ flags) position found =
+    let later = set_member (first + 1) flags position found in (suc later.0, omega (arith, later.1), later.2)
+set_member first (true ∷ flags) position found =
+    by (cases_cons first (members_from (first + 1) flags) position found.0 found.1 found.2) (set_member (first + 1) flags position)
   where
-    by : (first ≡ place) ⊎ Contains (members_from (first + 1) flags) place
-        → (Contains (members_from (first + 1) flags) place → (k : ℕ) × (first + 1 + k ≡ place) × IsTrue (is_member flags k))
-        → (k : ℕ) × (first + k ≡ place) × IsTrue (is_member (true ∷ flags) k)
+    by : (first ≡ position) ⊎ Contains (members_from (first + 1) flags) position
+        → (Contains (members_from (first + 1) flags) position → (k : ℕ) × (first + 1 + k ≡ position) × IsTrue (is_member flags k))
+        → (k : ℕ) × (first + k ≡ position) × IsTrue (is_member (true ∷ flags) k)
     by (inl e) rest = (0, omega arith, refl)
     by (inr found) rest = let later = rest found in (suc later.0, omega (arith, later.1), later.2)
 
--- exactly the places that are set are members
-pub Contains-members : (flags : List Bool) (place : ℕ) → Contains (members flags) place ↔ IsTrue (is_member flags place)
-Contains-members flags place = (by, found_member 0 flags place place (omega arith))
+-- exactly the positions that are set are members
+pub Contains-members : (flags : List Bool) (position : ℕ) → Contains (members flags) position ↔ IsTrue (is_member flags position)
+Contains-members flags position = (by, found_member 0 flags position position (omega arith))
   where
-    by : Contains (members flags) place → IsTrue (is_member flags place)
+    by : Contains (members flags) position → IsTrue (is_member flags position)
     by found =
-        let at = set_member 0 flags place found in
-        let same : at.0 ≡ place = omega (arith, at.1) in
+        let at = set_member 0 flags position found in
+        let same : at.0 ≡ position = omega (arith, at.1) in
         subst (λ k. IsTrue (is_member flags k)) same at.2
 
--- the places from first on are those at least first and below the end
-found_place : (first n place k : ℕ) → first + k ≡ place → k < n → Contains (places_from first n) place
-found_place first zero place k e within = absurd (omega arith)
-found_place first (suc n) place zero e within = Contains-head first (places_from (first + 1) n) place (omega arith)
-found_place first (suc n) place (suc k) e within =
-    Contains-tail first (places_from (first + 1) n) place (found_place (first + 1) n place k (omega arith) (omega arith))
+-- there are at most as many members as flags
+pub length-members_from : (first : ℕ) (flags : List Bool) → length (members_from first flags) ≤ length flags
+length-members_from first [] = omega arith
+length-members_from first (true ∷ flags) = omega (arith, length-members_from (first + 1) flags)
+length-members_from first (false ∷ flags) = omega (arith, length-members_from (first + 1) flags)
 
-within_places : (first n place : ℕ) → Contains (places_from first n) place → (first ≤ place) × (place < first + n)
-within_places first zero place found = absurd (omega (arith, found.1))
-within_places first (suc n) place found =
-    by (cases_cons first (places_from (first + 1) n) place found.0 found.1 found.2) (within_places (first + 1) n place)
+-- the positions from first on are those at least first and below the end
+found_position : (first n position k : ℕ) → first + k ≡ position → k < n → Contains (positions_from first n) position
+found_position first zero position k e within = absurd (omega arith)
+found_position first (suc n) position zero e within = Contains-head first (positions_from (first + 1) n) position (omega arith)
+found_position first (suc n) position (suc k) e within =
+    Contains-tail first (positions_from (first + 1) n) position (found_position (first + 1) n position k (omega arith) (omega arith))
+
+within_positions : (first n position : ℕ) → Contains (positions_from first n) position → (first ≤ position) × (position < first + n)
+within_positions first zero position found = absurd (omega (arith, found.1))
+within_positions first (suc n) position found =
+    by (cases_cons first (positions_from (first + 1) n) position found.0 found.1 found.2) (within_positions (first + 1) n position)
   where
-    by : (first ≡ place) ⊎ Contains (places_from (first + 1) n) place
-        → (Contains (places_from (first + 1) n) place → (first + 1 ≤ place) × (place < first + 1 + n))
-        → (first ≤ place) × (place < first + suc n)
+    by : (first ≡ position) ⊎ Contains (positions_from (first + 1) n) position
+        → (Contains (positions_from (first + 1) n) position → (first + 1 ≤ position) × (position < first + 1 + n))
+        → (first ≤ position) × (position < first + suc n)
     by (inl e) rest = (omega arith, omega arith)
     by (inr found) rest = let later = rest found in (omega (arith, later.0), omega (arith, later.1))
 
--- exactly the places from start up to but without end are between them
-pub Contains-places_between : (start end place : ℕ) → Contains (places_between start end) place ↔ ((start ≤ place) × (place < end))
-Contains-places_between start end place = (
+-- exactly the positions from start up to but without end are between them
+pub Contains-positions_between : (start end position : ℕ) → Contains (positions_between start end) position
+    ↔ ((start ≤ position) × (position < end))
+Contains-positions_between start end position = (
   by,
-  λ ends. found_place start (end - start) place (place - start) (omega (arith, ends.0))
+  λ ends. found_position start (end - start) position (position - start) (omega (arith, ends.0))
       (omega (arith, ends.0, ends.1)),
 )
   where
-    by : Contains (places_between start end) place → (start ≤ place) × (place < end)
-    by found = let ends = within_places start (end - start) place found in (ends.0, omega (arith, ends.0, ends.1))
+    by : Contains (positions_between start end) position → (start ≤ position) × (position < end)
+    by found = let ends = within_positions start (end - start) position found in (ends.0, omega (arith, ends.0, ends.1))
 
 -- each number of a list is above the one before it, and the first is at least low
 abbrev Rises : ℕ → List ℕ → Type 0
@@ -105,10 +112,10 @@ Rises-members_from first (false ∷ flags) =
 pub IsStrictlyIncreasing-members : (flags : List Bool) → IsStrictlyIncreasing (members flags)
 IsStrictlyIncreasing-members flags = IsStrictlyIncreasing-from_rises 0 (members flags) (Rises-members_from 0 flags)
 
-Rises-places_from : (first n : ℕ) → Rises first (places_from first n)
-Rises-places_from first zero = tt
-Rises-places_from first (suc n) = (omega arith, Rises-places_from (first + 1) n)
+Rises-positions_from : (first n : ℕ) → Rises first (positions_from first n)
+Rises-positions_from first zero = tt
+Rises-positions_from first (suc n) = (omega arith, Rises-positions_from (first + 1) n)
 
-pub IsStrictlyIncreasing-places_between : (start end : ℕ) → IsStrictlyIncreasing (places_between start end)
-IsStrictlyIncreasing-places_between start end =
-    IsStrictlyIncreasing-from_rises start (places_between start end) (Rises-places_from start (end - start))
+pub IsStrictlyIncreasing-positions_between : (start end : ℕ) → IsStrictlyIncreasing (positions_between start end)
+IsStrictlyIncreasing-positions_between start end =
+    IsStrictlyIncreasing-from_rises start (positions_between start end) (Rises-positions_from start (end - start))

@@ -1,18 +1,18 @@
-//! Copies of values that may take memory.
+//! Fallible copies of values that may own memory.
 ghost use Rattle.std.specs.Prelude.{◌≡◌, IfOk, IsNone, IsOk};
 
 use crate::Handle;
 use std::alloc::{AllocError, Global};
 
-/// A type whose values are copied with memory, as a container copies what it holds.
+/// A type whose values can be copied with an allocator, as a container copies its items.
 ///
-/// It stands in place of `Clone`, of which nothing says for every type that a clone is equal, and which is told no allocator.
+/// It replaces `Clone`, which takes no allocator and whose clones are not known to be equal for every type.
 pub trait TryCopy: Drop {
     /// Returns an equal value.
     ///
     /// # Errors
     ///
-    /// `AllocError` if memory is refused.
+    /// `AllocError` if allocation fails.
     fn try_copy(&self, alloc: Global) -> Result<Self, AllocError>
         ensures { IfOk result (λ copy. copy ≡ self.now) };
 }

@@ -1,4 +1,4 @@
-//! Tests of `shader_arena` by its public items alone.
+//! Tests of `shader_arena` through its public items alone.
 #![tactic(auto)]
 
 #[cfg(test)]

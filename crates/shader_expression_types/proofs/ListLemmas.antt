@@ -1,23 +1,23 @@
--- What is left of the expressions, and what holds along a list of types that grows.
+-- The remaining expressions, and properties of a growing list of types.
 use Rattle.std.proofs.Common.{◌≡◌, refl, ap, sym, subst, ◌∙◌, ◌⊎◌, inl, inr, ℕ, ◌+◌, ◌<◌, ◌≤◌, List, []}
 use Rattle.std.proofs.Common.{◌∷◌, ◌++◌, Some, slice_get, length, get_or, length-append, All, arith}
 use Rattle.std.specs.List.{enumerate_from}
 use Rattle.std.proofs.lemmas.List.Elements.{All-contains_itself}
 use Rattle.std.proofs.lemmas.Bool.{cases_lt}
 use Rattle.std.proofs.lemmas.Option.{get_or_from_slice_get, same_Some, slice_get-get_or, slice_get_within}
-use Rattle.shader_chains.specs.Program.{Expression, Function, Stands, expression_operands}
+use Rattle.shader_analysis_spec.specs.Program.{Expression, Function, IsExpressionAt, expression_operands}
 use Rattle.shader_ir.specs.declared.expression.Expression.TheVariants as form
 use Rattle.shader_ir.specs.declared.proc.operands.Label.TheVariants.{Read}
 use Rattle.shader_resolve.specs.WellFormed.{OperandsBelow}
-use Rattle.shader_sweeps.proofs.FactLemmas.{get_left, get_seam}
-use Rattle.shader_sweeps.specs.InfoOf.{PointsBackwards}
+use Rattle.shader_passes.proofs.FactLemmas.{get_left, get_seam}
+use Rattle.shader_passes.specs.InfoOf.{PointsBackwards}
 
--- the operands of an expression are below its place
-pub operands_below : (f : Function) → PointsBackwards f → (e : ℕ) (x : Expression) → Stands f e x → OperandsBelow e x
+-- the operands of an expression are below its position
+pub operands_below : (f : Function) → PointsBackwards f → (e : ℕ) (x : Expression) → IsExpressionAt f e x → OperandsBelow e x
 operands_below f below e x is = λ i d lt. below e x (get_or (expression_operands x) i d) is
     (All-contains_itself (expression_operands x) i d lt)
 
--- some items with their places, of which the first has place n, up to a length
+-- some items with their positions, from n on, up to a length
 pub record IsLeft {X : Type 0} (n total : ℕ) (items : List (ℕ × X)) : Type 0 where
   pub left : List X
   pub are : items ≡ enumerate_from n left
@@ -35,17 +35,17 @@ none_left {X} n total is = at is.left is.are is.long where
 heads : {X : Type 0} (x y : X) (xs ys : List X) → x ∷ xs ≡ y ∷ ys → (x ≡ y) × (xs ≡ ys)
 heads x y xs ys is = (cc, cc)
 
-pub next_left : {X : Type 0} (n total : ℕ) (place : ℕ) (x : X) (items : List (ℕ × X)) → IsLeft n total ((place, x) ∷ items) →
-    (place ≡ n) × (n < total) × IsLeft (n + 1) total items
-next_left {X} n total place x items is = at is.left is.are is.long where
-  at : (left : List X) → (place, x) ∷ items ≡ enumerate_from n left → n + length left ≡ total →
-      (place ≡ n) × (n < total) × IsLeft (n + 1) total items
+pub next_left : {X : Type 0} (n total : ℕ) (position : ℕ) (x : X) (items : List (ℕ × X)) → IsLeft n total ((position, x) ∷ items) →
+    (position ≡ n) × (n < total) × IsLeft (n + 1) total items
+next_left {X} n total position x items is = at is.left is.are is.long where
+  at : (left : List X) → (position, x) ∷ items ≡ enumerate_from n left → n + length left ≡ total →
+      (position ≡ n) × (n < total) × IsLeft (n + 1) total items
   at [] are long = absurd (cc)
   at (y ∷ ys) are long =
-      let parts = heads (place, x) (n, y) items (enumerate_from (n + 1) ys) are in
+      let parts = heads (position, x) (n, y) items (enumerate_from (n + 1) ys) are in
       (ap (λ v. v.0) parts.0, omega (arith, long), record { left = ys; are = parts.1; long = omega (arith, long) })
 
--- what holds at each place of a list, and of one more item, holds at each place of both
+-- a property of each item of a list and of one more item holds of each item of both
 pub one_more : {X : Type 0} (P : ℕ → X → Type 0) (xs : List X) (x : X) → ((e : ℕ) (y : X) → slice_get xs e ≡ Some y → P e y) →
     P (length xs) x →
     (e : ℕ) (y : X) → slice_get (xs ++ x ∷ []) e ≡ Some y → P e y
@@ -58,14 +58,14 @@ one_more P xs x each last e y is = at (cases_lt e (length xs)) where
       let same : x ≡ y = same_Some x y (sym (get_seam xs x [] e here) ∙ is) in
       subst (P e) same (subst (λ v. P v x) here last)
 
-pub at_place : {X : Type 0} (P : X → Type 0) (xs : List X) (e : ℕ) (x : X) → All P xs → slice_get xs e ≡ Some x → P x
-at_place P xs e x all is = subst P (get_or_from_slice_get xs e x x is) (all e x (slice_get_within xs e x is))
+pub at_position : {X : Type 0} (P : X → Type 0) (xs : List X) (e : ℕ) (x : X) → All P xs → slice_get xs e ≡ Some x → P x
+at_position P xs e x all is = subst P (get_or_from_slice_get xs e x x is) (all e x (slice_get_within xs e x is))
 
 -- the base of an access is earlier
 pub base_earlier : (bound : ℕ) (x : Expression) (base index : ℕ) → x ≡ form.Access base index → OperandsBelow bound x → base < bound
 base_earlier bound x base index same below = subst (OperandsBelow bound) same below 0 (0, Read) (omega arith)
 
--- what holds below a bound and at it holds below the next one
+-- a property below a bound and at it holds below the next bound
 pub up_to_here : (P : ℕ → Type 0) (n : ℕ) → ((e : ℕ) → e < n → P e) → P n → (e : ℕ) → e < n + 1 → P e
 up_to_here P n each here e lt = at (cases_lt e n) where
   at : (e < n) ⊎ (n ≤ e) → P e
@@ -74,5 +74,5 @@ up_to_here P n each here e lt = at (cases_lt e n) where
 
 pub all_one_more : {X : Type 0} (P : X → Type 0) (xs : List X) (x : X) → All P xs → P x → All P (xs ++ x ∷ [])
 all_one_more P xs x all last = λ i d lt.
-    one_more (λ e y. P y) xs x (λ e y is. at_place P xs e y all is) last i (get_or (xs ++ x ∷ []) i d)
+    one_more (λ e y. P y) xs x (λ e y is. at_position P xs e y all is) last i (get_or (xs ++ x ∷ []) i d)
     (slice_get-get_or (xs ++ x ∷ []) i d lt)

@@ -1,7 +1,7 @@
--- Which faults of a function are met where its expressions are typed.
+-- The faults of a function that are detected while its expressions are typed.
 use Rattle.std.specs.Prelude.{◌≡◌, ℕ, List}
-use Rattle.shader_chains.specs.Faults.{Cause, Untyped, MissingCapability, BindingArrayElement, StepFault}
-use Rattle.shader_chains.specs.Program.{Function, Module}
+use Rattle.shader_analysis_spec.specs.Faults.{Cause, Untyped, MissingCapability, BindingArrayElement, StepFault}
+use Rattle.shader_analysis_spec.specs.Program.{Function, Module}
 use Rattle.shader_info.specs.declared.error.ExpressionError.TheVariants as expression
 use Rattle.shader_info.specs.declared.error.FunctionError.{FunctionError}
 use Rattle.shader_info.specs.declared.error.FunctionError.TheVariants as error
@@ -10,8 +10,8 @@ use Rattle.shader_info.specs.declared.flags.ValidationFlags.{ValidationFlags}
 use Rattle.shader_info.specs.declared.info.FunctionInfo.{FunctionInfo}
 use Rattle.shader_resolve.specs.declared.error.ResolveError.{ResolveError}
 use Rattle.shader_resolve.specs.declared.error.ResolveError.TheVariants as resolve
-use Rattle.shader_steps.specs.Causes.{IsNamed, settings_of}
-use Rattle.shader_sweeps.specs.InfoOf.{infos_of}
+use Rattle.shader_passes.specs.Causes.{IsNamed, settings_of}
+use Rattle.shader_passes.specs.InfoOf.{infos_of}
 
 -- the expression has no type, or indexes a binding array as it may not
 abbrev pub IsOfTyping : ℕ → Cause → Type 0
@@ -20,18 +20,18 @@ IsOfTyping e (MissingCapability d capability) = d ≡ e
 IsOfTyping e (BindingArrayElement d) = d ≡ e
 IsOfTyping e _ = ⊥
 
--- what is told of a function where the type of an expression is refused so
+-- the function's error for an expression whose type resolution fails so
 abbrev pub untyped_error : ℕ → ResolveError → FunctionError
 untyped_error e resolve.OutOfMemory = error.OutOfMemory
 untyped_error e failure = error.Expression e (expression.Resolve failure)
 
--- with these capabilities, and whatever is checked
+-- the capabilities are fixed, the flags are arbitrary
 module _ (m : Module) (infos : List FunctionInfo) (f : Function) (capabilities : Capabilities) where
   -- the expression has a type, and indexes no binding array as it may not
   abbrev pub IsSound : ℕ → Type 0
   IsSound e = (flags : ValidationFlags) (cause : Cause) → IsOfTyping e cause →
       StepFault m (infos_of infos) f (settings_of flags capabilities) cause → ⊥
 
-  -- the refusal names a fault of the function
+  -- the error reports a fault of the function
   abbrev pub NamesFault : FunctionError → Type 0
   NamesFault failure = (flags : ValidationFlags) → IsNamed (StepFault m (infos_of infos) f (settings_of flags capabilities)) failure

@@ -1,20 +1,20 @@
-//! Accesses to binding arrays that are held by value.
+//! Checks accesses to binding arrays that are values, not behind pointers.
 ghost use Rattle.std.specs.Prelude.{◌≡◌, ◌<◌, All, Some, length, slice_get};
 ghost use Rattle.std.specs.Option.{option_and_then};
 ghost use Rattle.shader_expression_types.specs.Indexed.{access_refusal, base_refusal, index_refusal, needed_for};
 ghost use Rattle.shader_ir.specs.Key.{FitsTypes, inner_of};
 ghost use Rattle.shader_ir.specs.TypeTree.{IsBackward, PointsBelow};
 ghost use Rattle.shader_resolve.specs.WellFormed.{OperandsBelow};
-ghost use Rattle.shader_sweeps.specs.Facts.{origin_at};
+ghost use Rattle.shader_passes.specs.Facts.{origin_at};
 
 use bitflags::Flags;
 use shader_arena::{Handle, UniqueArena};
 use shader_info::{Capabilities, ExpressionError, NonUniformResult};
 use shader_ir::{Expression, ImageClass, Type, TypeInner, TypeResolution, mark};
-use shader_sweeps::facts::{Fact, origin_of};
+use shader_passes::facts::{Fact, origin_of};
 
-/// What it takes to index a binding array of such elements by what differs among invocations. Nothing allows it for elements that
-/// are neither images nor samplers.
+/// Returns the capability that is needed to index a binding array of such elements by a value that differs among invocations. There is none
+/// for elements that are neither images nor samplers.
 fn needed_for(element: &TypeInner) -> Option<Capabilities>
     ensures { result ≡ needed_for (Some element.now) }
 {
@@ -30,7 +30,7 @@ fn needed_for(element: &TypeInner) -> Option<Capabilities>
     }
 }
 
-/// Why such an element can't be chosen by an index with this origin.
+/// Returns the error for selecting such an element by an index with this origin, if that isn't allowed.
 fn index_refusal(
     capabilities: Capabilities,
     element: &TypeInner,
@@ -53,7 +53,7 @@ fn index_refusal(
     }
 }
 
-/// Why a part of a base of this shape can't be chosen by the index, where the base is a binding array.
+/// Returns the error for indexing a base of this type by `index`, if it is a binding array that may not be indexed so.
 fn base_refusal(
     types: &UniqueArena<Type, mark::Type>,
     facts: &[Fact],
@@ -74,37 +74,37 @@ fn base_refusal(
     }
 }
 
-/// The shape of a held type.
-fn held_inner<'a>(
+/// Returns the inner type of an earlier expression.
+fn stored_inner<'a>(
     types: &'a UniqueArena<Type, mark::Type>,
-    held: &'a [TypeResolution],
+    stored: &'a [TypeResolution],
     expression: Handle<mark::Expression>,
 ) -> &'a TypeInner
     requires backward { IsBackward types.now }
-    requires there { expression < length held.now }
-    requires fit { All (FitsTypes types.now) held.now }
-    ensures shape { option_and_then (inner_of types.now) (slice_get held.now expression) ≡ Some result.now }
+    requires there { expression < length stored.now }
+    requires fit { All (FitsTypes types.now) stored.now }
+    ensures shape { option_and_then (inner_of types.now) (slice_get stored.now expression) ≡ Some result.now }
     ensures in_range { PointsBelow (length types.now) result.now }
 {
-    held[expression.index()].inner_with(types)
+    stored[expression.index()].inner_with(types)
 }
 
-/// Why an expression is refused that indexes a binding array, where `held` are the types of the expressions before it.
+/// Returns the error for an expression that indexes a binding array as it may not. `stored` are the types of the expressions before it.
 pub fn access_refusal(
     types: &UniqueArena<Type, mark::Type>,
     facts: &[Fact],
-    held: &[TypeResolution],
+    stored: &[TypeResolution],
     capabilities: Capabilities,
     expression: &Expression,
 ) -> Option<ExpressionError>
     requires backward { IsBackward types.now }
-    requires operands { OperandsBelow (length held.now) expression.now }
-    requires fit { All (FitsTypes types.now) held.now }
-    ensures { result ≡ access_refusal capabilities types.now facts.now held.now expression.now }
+    requires operands { OperandsBelow (length stored.now) expression.now }
+    requires fit { All (FitsTypes types.now) stored.now }
+    ensures { result ≡ access_refusal capabilities types.now facts.now stored.now expression.now }
 {
     match expression {
         Expression::Access { base, index } => {
-            let inner = held_inner(types, held, *base);
+            let inner = stored_inner(types, stored, *base);
             base_refusal(types, facts, capabilities, inner, *index)
         }
         _ => None,

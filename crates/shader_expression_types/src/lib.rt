@@ -1,9 +1,9 @@
-//! The types of a function's expressions, and the refusals that are met on the way.
+//! The types of a function's expressions, and the errors found while they are computed.
 #![tactic(auto)]
 
 mod bindings;
 mod one;
-mod sweep;
+mod typing_pass;
 
 pub use one::type_of;
-pub use sweep::{types_of, untyped};
+pub use typing_pass::{types_of, untyped};

@@ -1,11 +1,11 @@
-//! The type of one expression, where those of the expressions before it are held.
+//! The type of one expression, given those of the expressions before it.
 ghost use Rattle.std.specs.Prelude.{◌≡◌, ◌<◌, All, List, Some, IfOk, IsOkAnd, length, slice_get};
-ghost use Rattle.shader_chains.specs.Program.{Expression};
-ghost use Rattle.shader_expression_types.specs.Typed.{AreOfTheFirst, IsToldOf};
+ghost use Rattle.shader_analysis_spec.specs.Program.{Expression};
+ghost use Rattle.shader_expression_types.specs.Typed.{AreOfTheFirst, IsResultOf};
 ghost use Rattle.shader_ir.specs.Key.{FitsTypes};
 ghost use Rattle.shader_ir.specs.TypeTree.{IsBackward};
 ghost use Rattle.shader_resolve.specs.Context.{IsInRange, TypesInRange};
-ghost use Rattle.shader_resolve.specs.Follows.{memory_of};
+ghost use Rattle.shader_resolve.specs.DerivesByRule.{memory_of};
 ghost use Rattle.shader_resolve.specs.WellFormed.{OperandsBelow};
 
 use shader_arena::Handle;
@@ -13,12 +13,12 @@ use shader_ir::{Expression, TypeResolution, mark};
 use shader_resolve::{ResolveContext, ResolveError};
 use std::alloc::Global;
 
-/// The type of the expression whose place is the length of `types`, where these are the types of the expressions before it. It
-/// may be one of a function's or a global one.
+/// Computes the type of the expression whose position is the length of `types`, given the types of the expressions before it. The
+/// expression may belong to a function or be a global one.
 ///
 /// # Errors
 ///
-/// The refusal of the expression's row in the table of types; want of memory, for the forms that take some.
+/// The refusal by the expression's typing rule, or an allocation failure of a rule that allocates.
 pub fn type_of<'a>(
     alloc: Global,
     context: &ResolveContext<'a>,
@@ -29,8 +29,8 @@ pub fn type_of<'a>(
     requires names { IsInRange context.now expression.now }
     requires operands { OperandsBelow (length types.now) expression.now }
     requires fit { All (FitsTypes context.now.types) types.now }
-    ensures told { (expressions : List Expression) → slice_get expressions (length types.now) ≡ Some expression.now →
-        AreOfTheFirst context.now expressions types.now → IsToldOf context.now expressions (length types.now)
+    ensures reported { (expressions : List Expression) → slice_get expressions (length types.now) ≡ Some expression.now →
+        AreOfTheFirst context.now expressions types.now → IsResultOf context.now expressions (length types.now)
         (memory_of expression.now) result }
     ensures fits { TypesInRange context.now → IfOk result (λ resolution. FitsTypes context.now.types resolution) }
 {
@@ -39,7 +39,7 @@ pub fn type_of<'a>(
         expression,
         |operand: Handle<mark::Expression>| -> Result<&TypeResolution, ResolveError>
             requires { operand < length types.now }
-            ensures { IsOkAnd result (λ told. slice_get types.entry.now operand ≡ Some told.now) }
+            ensures { IsOkAnd result (λ reported. slice_get types.entry.now operand ≡ Some reported.now) }
         { Ok(&types[operand.index()]) },
     )
 }

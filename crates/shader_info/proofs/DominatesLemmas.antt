@@ -1,4 +1,4 @@
--- One list of uses against another, place by place.
+-- Comparison of two lists of uses, position by position.
 use Rattle.std.proofs.Common.{◌≡◌, refl, ap, subst, ◌∙◌, ℕ, zero, suc, Bool, true, List, [], ◌∷◌, Some, None}
 use Rattle.std.proofs.lemmas.Bool.{and_parts}
 use Rattle.std.proofs.lemmas.Option.{none-some, same_Some}

@@ -1,1 +1,2 @@
 pub mod DominatesLemmas
+pub mod PairLemmas

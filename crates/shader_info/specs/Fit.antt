@@ -1,4 +1,4 @@
--- Which infos may be one of a function.
+-- Infos that fit a function.
 use Rattle.std.specs.Prelude.{◌≡◌, ℕ, ◌<◌, All, length}
 use Rattle.shader_ir.specs.Key.{FitsTypes}
 use Rattle.shader_ir.specs.declared.function.Function.{Function}
@@ -10,19 +10,19 @@ use Rattle.shader_info.specs.declared.info.GlobalOrArgument.TheVariants.{Global,
 use Rattle.shader_info.specs.declared.info.Sampling.{Sampling}
 use Rattle.shader_info.specs.declared.info.SamplingKey.{SamplingKey}
 
--- both are among so many globals
+-- both are among this number of global variables
 abbrev pub IsKnown : ℕ → SamplingKey → Type 0
 IsKnown globals key = (key.image < globals) × (key.sampler < globals)
 
--- the place is among so many globals or arguments
-abbrev pub IsPlace : ℕ → ℕ → GlobalOrArgument → Type 0
-IsPlace globals arguments (Global global) = global < globals
-IsPlace globals arguments (Argument argument) = argument < arguments
+-- the position is among these numbers of global variables or arguments
+abbrev pub IsResourceInRange : ℕ → ℕ → GlobalOrArgument → Type 0
+IsResourceInRange globals arguments (Global global) = global < globals
+IsResourceInRange globals arguments (Argument argument) = argument < arguments
 
 abbrev pub IsOpen : ℕ → ℕ → Sampling → Type 0
-IsOpen globals arguments pair = IsPlace globals arguments pair.image × IsPlace globals arguments pair.sampler
+IsOpen globals arguments pair = IsResourceInRange globals arguments pair.image × IsResourceInRange globals arguments pair.sampler
 
--- the tables have a place for each global and each expression, and what types and pairs name is there
+-- the tables have an entry for each global variable and each expression, and everything that types and pairs name is in range
 pub record Fits (checked : Module) (function : Function) (info : FunctionInfo) : Type 0 where
   pub global_uses : length info.global_uses ≡ length checked.global_variables
   pub expressions : length info.expressions ≡ length function.expressions

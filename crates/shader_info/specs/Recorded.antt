@@ -1,18 +1,34 @@
--- What an info records.
-use Rattle.std.specs.Prelude.{◌≡◌, ℕ, List, Contains, Some, slice_get, IsTrue}
+-- The contents of an info.
+use Rattle.std.specs.Prelude.{◌≡◌, ◌↔◌, ℕ, List, Contains, Some, slice_get, IsTrue}
+use Rattle.std.specs.List.Sorted.{IsStrictlySortedBy}
+use Rattle.std.specs.Ordering.{nat_cmp, ordering_then}
+use Rattle.std.specs.declared.cmp.Ordering.{Ordering}
 use Rattle.shader_info.specs.declared.flags.GlobalUse.{GlobalUse}
 use Rattle.shader_info.specs.declared.info.FunctionInfo.{FunctionInfo}
 use Rattle.shader_info.specs.declared.info.GlobalOrArgument.{GlobalOrArgument}
 use Rattle.shader_info.specs.Uses.{includes}
 
--- at each global that both lists have, the first one's uses contain the second one's
+-- at each global variable that both lists have, the first one's uses contain the second one's
 abbrev pub Dominates : List GlobalUse → List GlobalUse → Type 0
 Dominates uses others = (global : ℕ) (at other : GlobalUse) → slice_get uses global ≡ Some at → slice_get others global ≡ Some other →
     IsTrue (includes at other)
 
--- the image and the sampler, one of which is an argument, are recorded
+-- the image and the sampler, at least one of which is an argument, are recorded
 abbrev pub IsSampled : FunctionInfo → GlobalOrArgument → GlobalOrArgument → Type 0
 IsSampled info image sampler = Contains info.sampling.keys (record { image = image; sampler = sampler })
+
+-- the image and the sampler, both globals, are recorded
+abbrev pub IsSampledKey : FunctionInfo → ℕ → ℕ → Type 0
+IsSampledKey info image sampler = Contains info.sampling_set.keys (record { image = image; sampler = sampler })
+
+-- pairs are ordered by their images, and those of one image by their samplers
+abbrev pub pair_cmp : ℕ × ℕ → ℕ × ℕ → Ordering
+pair_cmp p q = ordering_then (nat_cmp p.0 q.0) (nat_cmp p.1 q.1)
+
+-- the recorded pairs of two globals, in ascending order
+pub record ArePairsOf (info : FunctionInfo) (pairs : List (ℕ × ℕ)) : Type 0 where
+  pub ascending : IsStrictlySortedBy pair_cmp pairs
+  pub members : (image sampler : ℕ) → Contains pairs (image, sampler) ↔ IsSampledKey info image sampler
 
 -- both infos record the same
 pub record SameInfo (info copy : FunctionInfo) : Type 0 where

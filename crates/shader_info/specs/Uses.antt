@@ -1,4 +1,4 @@
--- Sets of uses.
+-- Sets of uses of global variables.
 use Rattle.std.specs.Prelude.{◌==◌, Bool, bit_and}
 use Rattle.shader_info.specs.declared.flags.GlobalUse.{GlobalUse}
 

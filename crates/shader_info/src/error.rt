@@ -1,61 +1,72 @@
-//! Why a function is refused.
+//! Errors of the analysis of functions and modules.
 
 use crate::{Capabilities, UniformityRequirements};
 use shader_arena::Handle;
 use shader_ir::mark;
 use shader_resolve::ResolveError;
-use std::alloc::AllocError;
+use std::alloc::{AllocError, AllocFailed};
 use thiserror::Error;
 
-/// What disrupts the flow at a place: only some of the invocations may come there.
+/// The cause of non-uniform control flow at a statement: only some of the invocations may reach it.
 #[derive(Clone, Copy, Debug, Error)]
 pub enum UniformityDisruptor {
-    /// A condition or a selector differs among invocations, because this expression does.
+    /// A condition or a selector that differs among invocations because this expression does.
     #[error("Expression {0:?} produced non-uniform result, and control flow depends on it")]
     Expression(Handle<mark::Expression>),
-    /// An earlier `Return` stands in disrupted flow.
+    /// An earlier `Return` in non-uniform control flow.
     #[error("There is a Return earlier in the control flow of the function")]
     Return,
-    /// An earlier `Kill` stands in disrupted flow, in the function or in one that it calls.
+    /// An earlier `Kill` in non-uniform control flow, in the function or in a callee.
     #[error("There is a Discard earlier in the entry point across all called functions")]
     Discard,
 }
 
-/// Why an expression is refused.
+/// The reason why an expression is rejected.
 #[derive(Debug, Drop, Error)]
 pub enum ExpressionError {
-    /// It has no type.
+    /// The expression has no type.
     #[error("{0}")]
     Resolve(ResolveError),
-    /// An array of resources is indexed by what differs among invocations, and the device isn't known to be able to.
+    /// An array of resources is indexed by a value that differs among invocations, without these capabilities of the device.
     #[error("MissingCapabilities")]
     MissingCapabilities(Capabilities),
-    /// An image or a sampler comes neither from a global nor from an argument.
+    /// An image or a sampler comes neither from a global variable nor from an argument.
     #[error("ExpectedGlobalOrArgument")]
     ExpectedGlobalOrArgument,
-    /// A binding array of neither images nor samplers is indexed by value.
+    /// A binding array of elements other than images and samplers is indexed by value.
     #[error("BindingArrayElement")]
     BindingArrayElement,
 }
 
-/// Why a function, or a global expression, is refused.
+/// The reason why a function, or a global expression, is rejected.
 #[derive(Debug, Drop, Error)]
 pub enum FunctionError {
-    /// An expression is refused.
+    /// An expression is rejected.
     #[error("Expression {handle:?}: {source}")]
     Expression {
         handle: Handle<mark::Expression>,
         source: ExpressionError,
     },
-    /// The expression has these requirements, and an `Emit` evaluates it in flow that is disrupted.
+    /// An `Emit` in non-uniform control flow evaluates the expression, which has these requirements.
     #[error("NonUniformControlFlow")]
     NonUniformControlFlow(UniformityRequirements, Handle<mark::Expression>, UniformityDisruptor),
-    /// The expression is an operand more often than a `usize` counts.
+    /// The reference count of the expression overflows a `usize`.
     #[error("CountFull")]
     CountFull(Handle<mark::Expression>),
-    /// Memory is refused.
+    /// An allocation failed.
     #[error("OutOfMemory")]
     OutOfMemory,
+}
+
+impl<T: Drop> From<AllocFailed<T>> for FunctionError {
+    ghost use Rattle.std.specs.Prelude.{◌≡◌};
+    ghost use Rattle.shader_info.specs.declared.error.FunctionError.TheVariants.{OutOfMemory};
+
+    ghost from_gives = { λ _ e. e ≡ OutOfMemory };
+
+    fn from(_failed: AllocFailed<T>) -> FunctionError {
+        FunctionError::OutOfMemory
+    }
 }
 
 impl From<AllocError> for FunctionError {
@@ -69,21 +80,21 @@ impl From<AllocError> for FunctionError {
     }
 }
 
-/// What the analysis was at.
+/// A location in the analysis of a module.
 #[derive(Clone, Copy, Debug)]
-pub enum AnalysisPlace {
+pub enum AnalysisLocation {
     /// A global expression.
     ConstExpression(Handle<mark::Expression>),
     /// A function that may be called.
     Function(Handle<mark::Function>),
-    /// The entry point at this place in the module's list.
+    /// The entry point at this position in the module's list.
     EntryPoint(usize),
 }
 
-/// Why a module is refused, and where.
+/// The reason why the analysis rejects a module, and the location.
 #[derive(Debug, Drop, Error)]
-#[error("{place:?}: {cause}")]
+#[error("{location:?}: {cause}")]
 pub struct AnalysisError {
-    pub place: AnalysisPlace,
+    pub location: AnalysisLocation,
     pub cause: FunctionError,
 }

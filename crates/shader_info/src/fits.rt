@@ -1,8 +1,8 @@
-//! Whether an info is one of a function of a module.
+//! A check that an info fits a function of a module.
 ghost use Rattle.std.specs.Prelude.{◌≡◌, ◌↔◌, ◌<◌, false, All, IsTrue};
 ghost use Rattle.shader_ir.specs.Key.{FitsTypes, IsNoStruct};
 ghost use Rattle.shader_ir.specs.TypeTree.{PointsBelow};
-ghost use Rattle.shader_info.specs.Fit.{Fits, IsKnown, IsPlace, IsOpen};
+ghost use Rattle.shader_info.specs.Fit.{Fits, IsKnown, IsResourceInRange, IsOpen};
 
 use crate::{ExpressionInfo, FunctionInfo, GlobalOrArgument, Sampling, SamplingKey};
 use shader_arena::UniqueArena;
@@ -15,7 +15,7 @@ fn members_point_below(members: &[StructMember], count: usize) -> bool
     members.iter().all(|member| member.ty.index() < count)
 }
 
-/// Whether a type names the first types alone.
+/// Returns whether a type names only the first `count` types.
 fn points_below(inner: &TypeInner, count: usize) -> bool
     ensures { IsTrue result ↔ PointsBelow count inner.now }
 {
@@ -34,7 +34,7 @@ fn is_struct(inner: &TypeInner) -> bool
     matches!(inner, TypeInner::Struct { .. })
 }
 
-/// Whether the handles of a type are in range, and a free-standing type is no struct.
+/// Returns whether the handles of a type are in range, and a type outside the arena isn't a struct.
 fn type_fits(types: &UniqueArena<Type, mark::Type>, ty: &TypeResolution) -> bool
     ensures { IsTrue result ↔ FitsTypes types.now ty.now }
 {
@@ -64,10 +64,10 @@ fn are_known(globals: usize, keys: &HashSet<SamplingKey>) -> bool
     keys.iter().all(|key| is_known(globals, key))
 }
 
-fn is_place(globals: usize, arguments: usize, place: &GlobalOrArgument) -> bool
-    ensures { IsTrue result ↔ IsPlace globals arguments place.now }
+fn is_resource_in_range(globals: usize, arguments: usize, resource: &GlobalOrArgument) -> bool
+    ensures { IsTrue result ↔ IsResourceInRange globals arguments resource.now }
 {
-    match place {
+    match resource {
         GlobalOrArgument::Global(global) => global.index() < globals,
         GlobalOrArgument::Argument(argument) => (*argument as usize) < arguments,
     }
@@ -76,7 +76,8 @@ fn is_place(globals: usize, arguments: usize, place: &GlobalOrArgument) -> bool
 fn is_open(globals: usize, arguments: usize, pair: &Sampling) -> bool
     ensures { IsTrue result ↔ IsOpen globals arguments pair.now }
 {
-    is_place(globals, arguments, &pair.image) && is_place(globals, arguments, &pair.sampler)
+    is_resource_in_range(globals, arguments, &pair.image)
+        && is_resource_in_range(globals, arguments, &pair.sampler)
 }
 
 fn are_open(globals: usize, arguments: usize, pairs: &HashSet<Sampling>) -> bool
@@ -86,8 +87,8 @@ fn are_open(globals: usize, arguments: usize, pairs: &HashSet<Sampling>) -> bool
 }
 
 impl FunctionInfo {
-    /// Whether the info may be one of this function: its tables have a place for each global and for each expression,
-    /// and what its types and pairs name is there. It is so of each info that the analysis gives.
+    /// Returns whether the info may be one of this function: its tables have an entry for each global and for each expression, and
+    /// everything that its types and pairs name is in range. Each info of the analysis fits.
     pub fn fits(&self, function: &Function, module: &Module) -> bool
         ensures { IsTrue result ↔ Fits «module».now function.now self.now }
     {

@@ -1,28 +1,28 @@
-//! Sets of flags.
+//! Sets of flags: requirements, uses, validation flags and capabilities.
 ghost use Rattle.std.specs.Prelude.{⊤, ◌≡◌, [], ◌∷◌, codes};
 ghost use Rattle.std.specs.Int.RustNames.{bit_and, bit_or};
 
 use bitflags::{Flag, Flags};
 use std::ops::{BitAnd, BitOr};
 
-/// Why an expression or a function asks for uniform control flow (WGSL, "Uniformity").
+/// The reasons why an expression or a function requires uniform control flow (WGSL, "Uniformity").
 #[derive(Clone, Copy, Debug, PartialEq, Eq)]
 pub struct UniformityRequirements(pub u8);
 
 impl UniformityRequirements {
-    /// It waits for the whole work group.
+    /// A barrier for the whole work group.
     pub const WORK_GROUP_BARRIER: UniformityRequirements = UniformityRequirements(1);
 
-    /// It takes a derivative.
+    /// A derivative.
     pub const DERIVATIVE: UniformityRequirements = UniformityRequirements(2);
 
-    /// It samples at a level of detail that derivatives choose.
+    /// A sample whose level of detail is determined by derivatives.
     pub const IMPLICIT_LEVEL: UniformityRequirements = UniformityRequirements(4);
 
-    /// It works on a matrix that invocations hold together.
+    /// An operation on a matrix that invocations store together.
     pub const COOP_OPS: UniformityRequirements = UniformityRequirements(8);
 
-    /// Those of the bits that have a name.
+    /// Returns the bits that have a name.
     pub fn known(self) -> UniformityRequirements
         ensures { result.0 ≡ bit_and self.0 15 }
     {
@@ -89,24 +89,24 @@ impl BitAnd for UniformityRequirements {
     }
 }
 
-/// How a global variable is used.
+/// The uses of a global variable.
 #[derive(Clone, Copy, Debug, PartialEq, Eq)]
 pub struct GlobalUse(pub u8);
 
 impl GlobalUse {
-    /// What it holds is read.
+    /// A read of the contents.
     pub const READ: GlobalUse = GlobalUse(1);
 
-    /// It is written.
+    /// A write.
     pub const WRITE: GlobalUse = GlobalUse(2);
 
-    /// It is asked for its size or the like.
+    /// A query of the size or of another property.
     pub const QUERY: GlobalUse = GlobalUse(4);
 
-    /// It is an image of an atomic operation.
+    /// An atomic operation on the image.
     pub const ATOMIC: GlobalUse = GlobalUse(8);
 
-    /// Those of the bits that have a name.
+    /// Returns the bits that have a name.
     pub fn known(self) -> GlobalUse
         ensures { result.0 ≡ bit_and self.0 15 }
     {
@@ -173,12 +173,12 @@ impl BitAnd for GlobalUse {
     }
 }
 
-/// Which checks are made.
+/// The checks of the validation.
 #[derive(Clone, Copy)]
 pub struct ValidationFlags(pub u8);
 
 impl ValidationFlags {
-    /// What asks for uniform control flow stands in such flow.
+    /// The check that everything that requires uniform control flow is in uniform control flow.
     pub const CONTROL_FLOW_UNIFORMITY: ValidationFlags = ValidationFlags(1);
 }
 
@@ -227,17 +227,18 @@ impl BitAnd for ValidationFlags {
     }
 }
 
-/// What a device can do beyond the plain language.
+/// The capabilities of a device beyond the core language.
 #[derive(Clone, Copy, Debug, PartialEq, Eq)]
 pub struct Capabilities(pub u64);
 
 impl Capabilities {
-    /// An array of sampled images or of samplers is indexed by what may differ among invocations.
+    /// Indexing of an array of sampled images or of samplers by a value that may differ among
+    /// invocations.
     pub const TEXTURE_AND_SAMPLER_BINDING_ARRAY_NON_UNIFORM_INDEXING: Capabilities = Capabilities(
         1,
     );
 
-    /// An array of storage images is indexed by what may differ among invocations.
+    /// Indexing of an array of storage images by a value that may differ among invocations.
     pub const STORAGE_TEXTURE_BINDING_ARRAY_NON_UNIFORM_INDEXING: Capabilities = Capabilities(2);
 }
 

@@ -1,70 +1,70 @@
-//! What is recorded of a function and of its expressions.
+//! Results of the analysis for a function and its expressions.
 ghost use Rattle.std.specs.Prelude.{◌≡◌, ◌↔◌, length, IsOk, IsTrue, IfOk};
 ghost use Rattle.std.specs.List.{list_all, zip};
 ghost use Rattle.shader_info.specs.Uses.{includes};
-ghost use Rattle.shader_ir.specs.Key.{HoldsNoList};
+ghost use Rattle.shader_ir.specs.Key.{HoldsNoMembers};
 
 use crate::{GlobalUse, UniformityRequirements};
 use bitflags::Flags;
 use shader_arena::Handle;
 use shader_ir::{Items, ShaderStages, TryCopy, TypeResolution, mark};
 use std::alloc::{AllocError, Global};
-use std::collections::HashSet;
+use std::collections::{BTreeSet, HashSet};
 use std::ops::Index;
 
-/// An expression by which a value may differ among invocations; none where it is the same in all of them.
+/// An expression that makes a value differ among invocations, or `None` if the value is uniform.
 ///
-/// After the result of a call it may be an expression of the function that was called.
+/// After the result of a call it may be an expression of the callee.
 pub type NonUniformResult = Option<Handle<mark::Expression>>;
 
-/// How a value depends on the invocation, and what its computation asks of the flow.
+/// The uniformity of a value, and the requirements of its computation on control flow.
 #[derive(Clone, Copy, Debug)]
 pub struct Uniformity {
     pub non_uniform_result: NonUniformResult,
     pub requirements: UniformityRequirements,
 }
 
-/// Where an image or a sampler comes from.
+/// The resource of an image or a sampler: a global variable or an argument.
 #[derive(Clone, Copy, Debug, PartialEq, Eq, Hash)]
 pub enum GlobalOrArgument {
     /// A global variable.
     Global(Handle<mark::GlobalVariable>),
-    /// The place among the function's arguments.
+    /// The position among the function's arguments.
     Argument(u32),
 }
 
-/// A global image, and a global sampler that it is sampled with.
+/// A global image and a global sampler with which it is sampled.
 #[derive(Clone, Copy, Debug, PartialEq, Eq, Hash)]
 pub struct SamplingKey {
     pub image: Handle<mark::GlobalVariable>,
     pub sampler: Handle<mark::GlobalVariable>,
 }
 
-/// An image and a sampler that it is sampled with, one of which is an argument.
+/// An image and a sampler with which it is sampled, at least one of which is an argument.
 #[derive(Clone, Copy, Debug, PartialEq, Eq, Hash)]
 pub struct Sampling {
     pub image: GlobalOrArgument,
     pub sampler: GlobalOrArgument,
 }
 
-/// What is recorded of an expression.
+/// The analysis result for an expression.
 #[derive(Debug, Drop)]
 pub struct ExpressionInfo {
     pub uniformity: Uniformity,
-    /// How often it is an operand, in expressions, statements and initial values of locals.
+    /// The number of times that it is an operand, in expressions, statements and initial values of local variables.
     pub ref_count: usize,
     pub ty: TypeResolution,
 }
 
 impl ExpressionInfo {
-    /// Returns an equal info. A type takes memory only if it is a free-standing struct, and the analysis records none.
+    /// Returns an equal info. A type allocates only if it is a struct outside the arena, and the analysis records none.
     ///
     /// # Errors
     ///
-    /// `AllocError` if memory for the members of a free-standing struct is refused.
+    /// `AllocError` if allocating the members of a struct outside the arena fails.
     pub fn copy(&self, alloc: Global) -> Result<ExpressionInfo, AllocError>
         ensures copy { IfOk result (λ copy. copy ≡ self.now) }
-        ensures ok { HoldsNoList self.now.ty → IsOk result }
+        ensures ok { HoldsNoMembers self.now.ty → IsOk result }
     {
         Ok(ExpressionInfo {
             uniformity: self.uniformity,
@@ -86,28 +86,28 @@ impl TryCopy for GlobalUse {
     }
 }
 
-/// What is recorded of a function, and of the functions that it calls.
+/// The analysis result for a function, including its callees.
 #[derive(Drop)]
 pub struct FunctionInfo {
-    /// All stages.
+    /// All stages, always.
     pub available_stages: ShaderStages,
-    /// Of what the function returns, and of its body.
+    /// The uniformity of the function's result, and the requirements of its body.
     pub uniformity: Uniformity,
-    /// Whether it may end an invocation in flow that others of its group don't follow.
+    /// Whether the function may end an invocation in control flow that others of its group don't take.
     pub may_kill: bool,
-    /// The pairs of an image and a sampler that are both globals.
+    /// The pairs of an image and a sampler that are both global variables.
     pub sampling_set: HashSet<SamplingKey>,
-    /// How each global is used, by its place.
+    /// The uses of each global variable, by its position.
     pub global_uses: Items<GlobalUse>,
-    /// What is recorded of each expression, by its place.
+    /// The result for each expression, by its position.
     pub expressions: Items<ExpressionInfo>,
-    /// The pairs of an image and a sampler one of which is an argument.
+    /// The pairs of an image and a sampler of which at least one is an argument.
     pub sampling: HashSet<Sampling>,
-    /// Always false.
+    /// False, always.
     pub dual_source_blending: bool,
 }
 
-/// Whether at each place of both lists the first one's uses contain the second one's.
+/// Returns whether at each position of both lists the first one's uses contain the second one's.
 fn dominates(uses: &[GlobalUse], others: &[GlobalUse]) -> bool
     ensures { result ≡ list_all (λ pair. includes pair.0 pair.1) (zip uses.now others.now) }
 {
@@ -117,41 +117,70 @@ fn dominates(uses: &[GlobalUse], others: &[GlobalUse]) -> bool
 }
 
 impl FunctionInfo {
-    ghost use Rattle.shader_info.specs.Recorded.{Dominates, IsSampled, SameInfo};
+    ghost use Rattle.shader_info.specs.Recorded.{ArePairsOf, Dominates, IsSampled, IsSampledKey, SameInfo};
 
-    /// The number of the module's globals.
+    /// Returns the number of the module's global variables.
     pub fn global_variable_count(&self) -> usize
         ensures { result ≡ length self.now.global_uses }
     {
         self.global_uses.len()
     }
 
-    /// The number of the function's expressions.
+    /// Returns the number of the function's expressions.
     pub fn expression_count(&self) -> usize
         ensures { result ≡ length self.now.expressions }
     {
         self.expressions.len()
     }
 
-    /// Whether this function uses each global that both infos have in all ways in which the other one does.
+    /// Returns whether this function uses each global variable that both infos have in all ways in which the other function does.
     pub fn dominates_global_use(&self, other: &FunctionInfo) -> bool
         ensures { IsTrue result ↔ Dominates self.now.global_uses other.now.global_uses }
     {
         dominates(self.global_uses.as_slice(), other.global_uses.as_slice())
     }
 
-    /// Whether the pair is among those one of which is an argument. `sampling_set` has the pairs of two globals.
+    /// Returns whether the pair is among those with an argument. `sampling_set` has the pairs of two global variables.
     pub fn has_sampling(&self, image: GlobalOrArgument, sampler: GlobalOrArgument) -> bool
         ensures { IsTrue result ↔ IsSampled self.now image sampler }
     {
         self.sampling.contains(&Sampling { image, sampler })
     }
 
+    /// Checks whether `sampling_set` has the pair of a global image and a global sampler. `has_sampling` looks among the pairs of which
+    /// one is an argument.
+    pub fn has_sampling_key(
+        &self,
+        image: Handle<mark::GlobalVariable>,
+        sampler: Handle<mark::GlobalVariable>,
+    ) -> bool
+        ensures { IsTrue result ↔ IsSampledKey self.now image sampler }
+    {
+        self.sampling_set.contains(&SamplingKey { image, sampler })
+    }
+
+    /// Returns the pairs of `sampling_set` by the indices of image and sampler, in ascending order.
+    ///
+    /// # Errors
+    ///
+    /// `AllocError` if memory for the pairs is refused.
+    pub fn sorted_pairs(&self, alloc: Global) -> Result<Items<(usize, usize)>, AllocError>
+        ensures { IfOk result (ArePairsOf self.now) }
+    {
+        let pairs: BTreeSet<(usize, usize)> = self
+            .sampling_set
+            .iter()
+            .map(|key| (key.image.index(), key.sampler.index()))
+            .collect(alloc)?;
+        let pairs: Vec<(usize, usize)> = pairs.into_iter().collect(alloc)?;
+        Ok(Items::from(pairs))
+    }
+
     /// Returns an equal info.
     ///
     /// # Errors
     ///
-    /// `AllocError` if memory for a table or a set is refused.
+    /// `AllocError` if allocating a table or a set fails.
     pub fn copy(&self, alloc: Global) -> Result<FunctionInfo, AllocError>
         ensures { IfOk result (λ copy. SameInfo self.now copy) }
     {

@@ -1,16 +1,18 @@
-//! What the analysis records of functions, and why it refuses them.
+//! The results of the analysis of functions, and its errors.
 #![tactic(auto)]
 
 mod error;
 mod fits;
 mod flags;
 mod info;
+mod report;
 
 pub use error::{
-    AnalysisError, AnalysisPlace, ExpressionError, FunctionError, UniformityDisruptor,
+    AnalysisError, AnalysisLocation, ExpressionError, FunctionError, UniformityDisruptor,
 };
 pub use flags::{Capabilities, GlobalUse, UniformityRequirements, ValidationFlags};
 pub use info::{
     ExpressionInfo, FunctionInfo, GlobalOrArgument, NonUniformResult, Sampling, SamplingKey,
     Uniformity,
 };
+pub use report::{AnalysisReport, ExpressionReport, FunctionErrorReport};

@@ -1,4 +1,4 @@
--- Conversion between arrays, and between types that are none.
+-- Conversion between arrays, and between types that aren't arrays.
 use Rattle.std.proofs.Common.{◌≡◌, ◌∙◌, ap, refl, ℕ, List, Some, None, slice_get, if◌then◌else◌, true, false, ◌&&◌}
 use Rattle.shader_ir.specs.declared.types.«Type».{«Type»}
 use Rattle.shader_ir.specs.declared.types.TypeInner.{TypeInner}
@@ -21,7 +21,7 @@ module _ (types : List «Type») (backward : IsBackward types) where
       ∙ ap (λ b. if b && same_shape (shape_of (tree_of types type.inner)) (shape_of (tree_of types goal_type.inner)) then scalar_conversion
       (leaf_of (tree_of types type.inner)) (leaf_of (tree_of types goal_type.inner)) else None) same
 
--- a type that is no array converts by its own scalars
+-- a type that isn't an array converts by its own scalars
 pub conversion-leaf : (types : List «Type») (inner goal : TypeInner) →
     ((base : ℕ) (size : ArraySize) (stride : ℕ) → inner ≡ Array base size stride → ⊥)
     → conversion (tree_of types inner) (tree_of types goal) ≡ conversion (Node inner NoTree) (Node goal NoTree)

@@ -1,4 +1,4 @@
--- What a copy that is made item by item holds.
+-- Invariants of copies that are built item by item.
 use Rattle.std.proofs.Common.{◌≡◌, ◌∙◌, ap, sym, refl, subst, Bool, false, List, [], ◌∷◌, ◌++◌, if◌then◌else◌}
 use Rattle.std.specs.Cmp.{IsEquivalence}
 use Rattle.std.specs.List.{AllByRecursion, IsDistinct}
@@ -7,13 +7,13 @@ use Rattle.indexmap.specs.IndexMap.{insert_entry}
 use Rattle.shader_ir.specs.BodyOf.{body_of, step_of}
 use Rattle.shader_ir.specs.declared.statement.Statement.{Statement}
 
--- what holds of all keys holds of one in their midst
+-- a property of all keys holds of one in their midst
 key_within : {K V : Type 0} (P : K → Type 0) (done : List (K × V)) (key : K) (value : V) (rest : List (K × V)) →
     AllByRecursion P (keys_of (done ++ (key, value) ∷ rest)) → P key
 key_within P [] key value rest all = all.0
 key_within P (entry ∷ done) key value rest all = key_within P done key value rest all.1
 
--- a key that is told apart from those before it goes last
+-- a key distinct from those before it goes last
 new_entry : {K V : Type 0} (eq : K → K → Bool) → IsEquivalence eq → (done : List (K × V)) (key : K) (value : V) (rest : List (K × V))
     → IsDistinct eq (keys_of (done ++ (key, value) ∷ rest)) → insert_entry eq done key value ++ rest ≡ done ++ (key, value) ∷ rest
 unfolding IsDistinct
@@ -35,7 +35,7 @@ next_entry eq laws all done left rest after {key} {copied_key} {value} {copied_v
     let moved : after ≡ insert_entry eq done key value = put ∙ (λ i. insert_entry eq done (same_key i) (same_value i)) in
     ap (λ entries. entries ++ rest) moved ∙ new_entry eq laws done key value rest told_apart ∙ whole
 
--- one more statement
+-- the next statement moves to those copied
 pub next_statement : (done copied : List Statement) (statement copy : Statement)
     → body_of done ≡ body_of copied → step_of statement ≡ step_of copy → body_of (done ++ statement ∷ []) ≡ body_of (copied ++ copy ∷ [])
 next_statement [] [] statement copy same step = cc

@@ -21,7 +21,7 @@ module _ (types : List «Type») where
   found-shape handle (Some type) inner e = let same : type.inner ≡ inner = cc in ap (λ a. shape_key types handle a) same
   found-shape handle None inner e = absurd (cc)
 
-  -- the key of a type that is no struct
+  -- the key of a type that isn't a struct
   pub key_of-no_struct : (resolution : TypeResolution) (inner : TypeInner) → inner_of types resolution ≡ Some inner → IsNoStruct inner →
       key_of types resolution ≡ InnerKey (canonical types inner)
   key_of-no_struct (Handle handle) inner e n = found-shape handle (slice_get types handle) inner e ∙ shape-no_struct handle inner n
@@ -33,18 +33,18 @@ module _ (types : List «Type») where
   key_of-struct handle (Struct span members) e n = found-shape handle (slice_get types handle) (Struct span members) e
   key_of-struct handle inner e n = absurd (n tt)
 
-  pointer_to-kept : (base : ℕ) (space : AddressSpace) (inner : TypeInner) → IsNoStruct (pointer_to base space inner)
-  pointer_to-kept base space (Scalar scalar) = tt
-  pointer_to-kept base space (Vector size scalar) = tt
-  pointer_to-kept base space inner = tt
+  pointer_to-retained : (base : ℕ) (space : AddressSpace) (inner : TypeInner) → IsNoStruct (pointer_to base space inner)
+  pointer_to-retained base space (Scalar scalar) = tt
+  pointer_to-retained base space (Vector size scalar) = tt
+  pointer_to-retained base space inner = tt
 
-  pointer_at-kept : (base : ℕ) (space : AddressSpace) (found : Option «Type») → IsNoStruct (pointer_at base space found)
-  pointer_at-kept base space (Some type) = pointer_to-kept base space type.inner
-  pointer_at-kept base space None = tt
+  pointer_at-retained : (base : ℕ) (space : AddressSpace) (found : Option «Type») → IsNoStruct (pointer_at base space found)
+  pointer_at-retained base space (Some type) = pointer_to-retained base space type.inner
+  pointer_at-retained base space None = tt
 
-  canonical-kept : (inner : TypeInner) → IsNoStruct inner → IsNoStruct (canonical types inner)
-  canonical-kept (Pointer base space) n = pointer_at-kept base space (slice_get types base)
-  canonical-kept inner n = n
+  canonical-retained : (inner : TypeInner) → IsNoStruct inner → IsNoStruct (canonical types inner)
+  canonical-retained (Pointer base space) n = pointer_at-retained base space (slice_get types base)
+  canonical-retained inner n = n
 
   shape-handle : (handle given : ℕ) (inner : TypeInner) → shape_key types handle inner ≡ StructKey given → handle ≡ given
   shape-handle handle given (Struct span members) e = cc
@@ -54,18 +54,18 @@ module _ (types : List «Type») where
   found-handle handle given (Some type) e = shape-handle handle given type.inner e
   found-handle handle given None e = cc
 
-  -- a struct's key tells its handle
-  pub StructKey-told : (resolution : TypeResolution) (given : ℕ) → key_of types resolution ≡ StructKey given → resolution ≡ Handle given
-  StructKey-told (Handle handle) given e = ap (λ h. Handle h) (found-handle handle given (slice_get types handle) e)
-  StructKey-told (Value inner) given e = absurd (cc)
+  -- a struct's key determines its handle
+  pub StructKey-reported : (resolution : TypeResolution) (given : ℕ) → key_of types resolution ≡ StructKey given → resolution ≡ Handle given
+  StructKey-reported (Handle handle) given e = ap (λ h. Handle h) (found-handle handle given (slice_get types handle) e)
+  StructKey-reported (Value inner) given e = absurd (cc)
 
-  -- a struct has the key of the same handle alone
+  -- only the same handle has a struct's key
   pub struct_keys : (lhs rhs : TypeResolution) (left : TypeInner) → inner_of types lhs ≡ Some left → FitsTypes types lhs →
       (¬ IsNoStruct left)
       → IsSameHandle lhs rhs ↔ (key_of types lhs ≡ key_of types rhs)
   struct_keys (Handle handle) (Handle given) left e fits n = (
     (λ same. ap (λ h. key_of types (Handle h)) same),
-    (λ same. let told = StructKey-told (Handle given) handle (sym same ∙ key_of-struct handle left e n) in cc),
+    (λ same. let reported = StructKey-reported (Handle given) handle (sym same ∙ key_of-struct handle left e n) in cc),
   )
   struct_keys (Handle handle) (Value inner) left e fits n = (
     (λ none. absurd none),
@@ -76,7 +76,7 @@ module _ (types : List «Type») where
 
   other-canonical : (resolution : TypeResolution) (inner other : TypeInner) → inner_of types resolution ≡ Some other → IsNoStruct inner →
       canonical types inner ≡ canonical types other → IsNoStruct other
-  other-canonical resolution inner (Struct span members) e n same = subst (λ a. IsNoStruct a) same (canonical-kept inner n)
+  other-canonical resolution inner (Struct span members) e n same = subst (λ a. IsNoStruct a) same (canonical-retained inner n)
   other-canonical resolution inner other e n same = tt
 
   other-key : (resolution : TypeResolution) (other inner : TypeInner) → inner_of types resolution ≡ Some other →
@@ -87,7 +87,7 @@ module _ (types : List «Type») where
       let is : value ≡ Struct span members = cc in absurd (subst (λ a. IsNoStruct a) is fits.1)
   other-key resolution other inner e fits same = tt
 
-  -- keys are equal exactly where canonical forms are, where the first type is no struct
+  -- keys are equal exactly if canonical forms are, if the first type isn't a struct
   pub same_keys : (lhs rhs : TypeResolution) (left right : TypeInner) → inner_of types lhs ≡ Some left → inner_of types rhs ≡ Some right →
       FitsTypes types rhs → IsNoStruct left
       → (canonical types left ≡ canonical types right) ↔ (key_of types lhs ≡ key_of types rhs)

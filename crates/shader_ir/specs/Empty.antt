@@ -1,4 +1,4 @@
--- Modules and functions with nothing in them.
+-- Empty modules and functions.
 use Rattle.std.specs.Prelude.{◌≡◌, [], None}
 use Rattle.shader_ir.specs.Body.{End}
 use Rattle.shader_ir.specs.declared.function.Function.{Function}
@@ -18,7 +18,8 @@ pub record IsEmptyModule (m : Module) : Type 0 where
   pub entry_points : m.entry_points ≡ []
   pub diagnostic_filters : m.diagnostic_filters ≡ []
 
--- the function has no name, arguments, result, locals, expressions, names, statements and filter
+-- the function has no name, arguments, result, locals, expressions, named expressions, statements
+-- or filter
 pub record IsEmptyFunction (f : Function) : Type 0 where
   pub name : f.name ≡ None
   pub arguments : f.arguments ≡ []

@@ -1,4 +1,4 @@
--- Keys: which types are the same.
+-- Keys, which define equality of types.
 use Rattle.std.specs.Prelude.{◌≡◌, ℕ, ◌<◌, List, length, Option, Some, None, slice_get, IsSomeAnd}
 use Rattle.shader_ir.specs.declared.types.«Type».{«Type»}
 use Rattle.shader_ir.specs.declared.types.AddressSpace.{AddressSpace}
@@ -8,7 +8,7 @@ use Rattle.shader_ir.specs.declared.proc.type_resolution.TypeResolution.{TypeRes
 use Rattle.shader_ir.specs.declared.proc.type_resolution.TypeResolution.TheVariants.{Handle, Value}
 use Rattle.shader_ir.specs.TypeTree.{PointsBelow}
 
--- a struct is known by its handle, each other type by its canonical form
+-- a struct is identified by its handle, any other type by its canonical form
 pub data Key : Type 0 where
   StructKey : ℕ → Key
   InnerKey : TypeInner → Key
@@ -24,7 +24,7 @@ abbrev pub pointer_at : ℕ → AddressSpace → Option «Type» → TypeInner
 pointer_at base space (Some type) = pointer_to base space type.inner
 pointer_at base space None = Pointer base space
 
--- the type, where a pointer to a scalar or a vector is written as a value pointer
+-- the type in canonical form: a pointer to a scalar or a vector becomes a value pointer
 abbrev pub canonical : List «Type» → TypeInner → TypeInner
 canonical types (Pointer base space) = pointer_at base space (slice_get types base)
 canonical types inner = inner
@@ -56,32 +56,32 @@ abbrev pub key_of : List «Type» → TypeResolution → Key
 key_of types (Handle handle) = handle_key types handle
 key_of types (Value inner) = InnerKey (canonical types inner)
 
--- the type is no struct
+-- the type isn't a struct
 abbrev pub IsNoStruct : TypeInner → Type 0
 IsNoStruct (Struct span members) = ⊥
 IsNoStruct _ = Unit {0}
 
--- the handles of the resolution are in range, and no free-standing type is a struct
+-- the handles of the resolution are in range, and no type outside the arena is a struct
 abbrev pub FitsTypes : List «Type» → TypeResolution → Type 0
 FitsTypes types (Handle handle) = handle < length types
 FitsTypes types (Value inner) = PointsBelow (length types) inner × IsNoStruct inner
 
--- the handle is in range, where the resolution is one
+-- the handle is in range, if the resolution is one
 abbrev pub IsLendable : List «Type» → TypeResolution → Type 0
 IsLendable types (Handle handle) = handle < length types
 IsLendable types (Value inner) = Unit {0}
 
--- the resolution holds no list of members
-abbrev pub HoldsNoList : TypeResolution → Type 0
-HoldsNoList (Handle handle) = Unit {0}
-HoldsNoList (Value inner) = IsNoStruct inner
+-- the resolution contains no list of members
+abbrev pub HoldsNoMembers : TypeResolution → Type 0
+HoldsNoMembers (Handle handle) = Unit {0}
+HoldsNoMembers (Value inner) = IsNoStruct inner
 
--- the handle of a resolution that is one
+-- the handle of a resolution, if it is one
 abbrev pub handle_of : TypeResolution → Option ℕ
 handle_of (Handle handle) = Some handle
 handle_of (Value inner) = None
 
--- the shape of the type at a handle, where there is one
+-- the shape of the type at a handle, if any
 abbrev pub found_inner : Option «Type» → Option TypeInner
 found_inner (Some type) = Some type.inner
 found_inner None = None

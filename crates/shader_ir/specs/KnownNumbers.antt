@@ -1,4 +1,4 @@
--- Numbers that are known before a pipeline is made.
+-- Numbers that are known before a pipeline is created.
 use Rattle.std.specs.Prelude.{ℕ, zero, suc, ◌^◌, ◌<◌, nat_lt, ℤ, pos, negsuc, List, length}
 use Rattle.std.specs.Prelude.{slice_get, Option, Some, None, Result, Ok, Err, if◌then◌else◌}
 use Rattle.shader_ir.specs.declared.proc.known_numbers.KnownIndex.{KnownIndex}
@@ -20,7 +20,7 @@ abbrev pub index_of_int : ℤ → KnownIndex
 index_of_int (pos n) = index_of_nat n
 index_of_int (negsuc n) = OutOfRange
 
--- an integer literal of any width is an index, where it fits
+-- the index given by an integer literal of any width, if it fits
 abbrev pub literal_index : l.Literal → KnownIndex
 literal_index (U16 n) = index_of_nat n
 literal_index (U32 n) = index_of_nat n
@@ -35,7 +35,7 @@ abbrev pub literal_in : Option Expression → KnownIndex
 literal_in (Some (Literal literal)) = literal_index literal
 literal_in _ = NotInteger
 
--- the index that the literal at a place says
+-- the index given by the literal at a position
 abbrev pub initial_index : List Expression → ℕ → KnownIndex
 initial_index expressions handle = literal_in (slice_get expressions handle)
 
@@ -65,7 +65,7 @@ module _ (ctx : GlobalCtx) where
   index_in (Some (Override handle)) = override_index (slice_get ctx.overrides.now handle)
   index_in _ = NotInteger
 
-  -- the index that an expression is known to be: one step through a constant or override, no more
+  -- the known index of an expression: one step through a constant or override, no more
   abbrev pub known_index : ℕ → KnownIndex
   known_index handle = index_in (slice_get ctx.global_expressions.now handle)
 
@@ -86,7 +86,7 @@ module _ (ctx : GlobalCtx) where
   IsStepInRange (Some (Override handle)) = (handle < length ctx.overrides.now) × IsOverrideInRange (slice_get ctx.overrides.now handle)
   IsStepInRange _ = Unit {0}
 
-  -- each handle that a known index is looked for through is in range
+  -- all handles that determine a known index are in range
   abbrev pub IsKnownInRange : ℕ → Type 0
   IsKnownInRange handle = (handle < length ctx.global_expressions.now) × IsStepInRange (slice_get ctx.global_expressions.now handle)
 
@@ -98,7 +98,7 @@ module _ (ctx : GlobalCtx) where
   IsSizerInRange (Some override) = IsSizingInRange override.init
   IsSizerInRange None = ⊥
 
-  -- each handle that the size of an array is looked for through is in range
+  -- all handles that determine the size of an array are in range
   abbrev pub IsSizeInRange : ℕ → Type 0
   IsSizeInRange handle = (handle < length ctx.overrides.now) × IsSizerInRange (slice_get ctx.overrides.now handle)
 

@@ -1,4 +1,4 @@
--- The sizes, alignments and layouts of types, and why a type has none.
+-- Sizes, alignments and layouts of types, and the errors of types without a layout.
 use Rattle.std.specs.Prelude.{◌≡◌, ℕ, ◌+◌, ◌-◌, ◌*◌, ◌^◌, ◌<◌, ◌≤◌, nat_lt, max, min, List, [], ◌∷◌, length}
 use Rattle.std.specs.Prelude.{map, slice_get, take, Option, Some, None, unwrap_or, if◌then◌else◌}
 use Rattle.std.specs.Int.{is_power_of_two, next_multiple_of}
@@ -21,7 +21,7 @@ use Rattle.shader_ir.specs.declared.types.TypeInner.TheVariants.{Scalar, Vector,
 use Rattle.shader_ir.specs.declared.types.TypeInner.TheVariants.{Pointer, ValuePointer, Array, Struct, Image, Sampler}
 use Rattle.shader_ir.specs.declared.types.TypeInner.TheVariants.{AccelerationStructure, RayQuery, BindingArray}
 
--- the alignment of a type that is built of no other
+-- the alignment of a type that is built from no other type
 abbrev pub own_alignment : TypeInner → ℕ
 own_alignment (Scalar scalar) = scalar.width
 own_alignment (Atomic scalar) = scalar.width
@@ -31,7 +31,7 @@ own_alignment (CooperativeMatrix columns rows scalar role) = cooperative_count r
 own_alignment _ = 1
 
 abbrev mutual
-  -- the alignment of a type: an array's is that of its base, a struct's the greatest of its members, at least 1
+  -- the alignment of a type: that of an array is its base's, that of a struct the greatest of its members', at least 1
   pub alignment_of : TypeTree → ℕ
   alignment_of (Node (Array base size stride) (OneTree tree trees)) = alignment_of tree
   alignment_of (Node (Struct span members) trees) = greatest_of trees
@@ -41,38 +41,38 @@ abbrev mutual
   greatest_of NoTree = 1
   greatest_of (OneTree tree trees) = max (alignment_of tree) (greatest_of trees)
 
--- a width that is no power of two
+-- the error for a width that isn't a power of two
 abbrev pub width_fault : s.Scalar → Option LayoutErrorInner
 width_fault scalar = if is_power_of_two scalar.width then None else Some NonPowerOfTwoWidth
 
--- the first member, counted from a first one on, whose type isn't earlier than the place
+-- the error for the first member, counted from a first one on, whose type isn't earlier than the position
 abbrev pub member_fault : ℕ → ℕ → List StructMember → Option LayoutErrorInner
-member_fault place index [] = None
-member_fault place index (member ∷ members) =
-    if nat_lt member.ty place then member_fault place (index + 1) members else Some
+member_fault position index [] = None
+member_fault position index (member ∷ members) =
+    if nat_lt member.ty position then member_fault position (index + 1) members else Some
     (InvalidStructMemberType (min index (2 ^ 32 - 1)) member.ty)
 
--- a width that the alignment reads and that is no power of two, or a part whose type isn't earlier
+-- the error for a width that the alignment reads and that isn't a power of two, or for a component whose type isn't earlier
 abbrev pub part_fault : ℕ → TypeInner → Option LayoutErrorInner
-part_fault place (Scalar scalar) = width_fault scalar
-part_fault place (Atomic scalar) = width_fault scalar
-part_fault place (Vector size scalar) = width_fault scalar
-part_fault place (Matrix columns rows scalar) = width_fault scalar
-part_fault place (CooperativeMatrix columns rows scalar role) = width_fault scalar
-part_fault place (Array base size stride) = if nat_lt base place then None else Some (InvalidArrayElementType base)
-part_fault place (Struct span members) = member_fault place 0 members
-part_fault place _ = None
+part_fault position (Scalar scalar) = width_fault scalar
+part_fault position (Atomic scalar) = width_fault scalar
+part_fault position (Vector size scalar) = width_fault scalar
+part_fault position (Matrix columns rows scalar) = width_fault scalar
+part_fault position (CooperativeMatrix columns rows scalar role) = width_fault scalar
+part_fault position (Array base size stride) = if nat_lt base position then None else Some (InvalidArrayElementType base)
+part_fault position (Struct span members) = member_fault position 0 members
+part_fault position _ = None
 
 abbrev pub sized_fault : Option ℕ → ℕ → TypeInner → Option LayoutErrorInner
-sized_fault None place inner = Some TooLarge
-sized_fault (Some size) place inner = part_fault place inner
+sized_fault None position inner = Some TooLarge
+sized_fault (Some size) position inner = part_fault position inner
 
--- the stride of an array of types of the layout is below 2 ^ 32
+-- the stride of an array of types of this layout is below 2 ^ 32
 abbrev pub HasStride : TypeLayout → Type 0
 HasStride layout = next_multiple_of layout.size layout.alignment < 2 ^ 32
 
 module _ (ctx : GlobalCtx) where
-  -- the size of a type in bytes, where no count, product or span is above the limit
+  -- the size of a type in bytes, unless a count, a product or a span is above the limit
   abbrev pub size_of_type : TypeInner → Option ℕ
   size_of_type (Scalar scalar) = Some scalar.width
   size_of_type (Atomic scalar) = Some scalar.width
@@ -93,28 +93,28 @@ module _ (ctx : GlobalCtx) where
   abbrev pub layout_of : TypeTree → TypeLayout
   layout_of tree = record { size = unwrap_or (size_of_type (root_of tree)) 0; alignment = alignment_of tree }
 
-  -- the layout fault of a type at a place: that it has no size comes first
+  -- the layout error of a type at a position; the lack of a size is checked first
   abbrev pub layout_fault : ℕ → TypeInner → Option LayoutErrorInner
-  layout_fault place inner = sized_fault (size_of_type inner) place inner
+  layout_fault position inner = sized_fault (size_of_type inner) position inner
 
-  -- the layout fault of the type at a place, if it has one, where there is a type
+  -- the layout error of the type at a position, if there is such a type and it has one
   abbrev pub fault_at : ℕ → Option (Option LayoutErrorInner)
-  fault_at place = option_map (λ (type : «Type»). layout_fault place type.inner) (slice_get ctx.types.now place)
+  fault_at position = option_map (λ (type : «Type»). layout_fault position type.inner) (slice_get ctx.types.now position)
 
-  -- there is a type without fault at each place from a first one up to an end
+  -- the types at the positions from a first one up to an end exist and have no error
   abbrev pub AreFaultless : ℕ → ℕ → Type 0
-  AreFaultless first end = (place : ℕ) → first ≤ place → place < end → fault_at place ≡ Some None
+  AreFaultless first end = (position : ℕ) → first ≤ position → position < end → fault_at position ≡ Some None
 
   -- the layouts of all types
   abbrev pub layouts_of : List TypeLayout
   layouts_of = map (λ (type : «Type»). layout_of (tree_of ctx.types.now type.inner)) ctx.types.now
 
-  -- the layouts are those of the first types, which have no fault
+  -- the layouts are those of the first types, which have no error
   pub record AreFirstLayouts (layouts : List TypeLayout) : Type 0 where
     pub first : layouts ≡ take (length layouts) layouts_of
     pub faultless : AreFaultless 0 (length layouts)
 
-  -- an error names the type at the place and its fault; where memory is wanting, the type at the place has none
+  -- an error names the type at the position and its layout error; when out of memory, that type has none
   abbrev pub IsRefusalAt : ℕ → UpdateError → Type 0
-  IsRefusalAt place (Layout error) = (error.ty ≡ place) × (fault_at place ≡ Some (Some error.inner))
-  IsRefusalAt place OutOfMemory = fault_at place ≡ Some None
+  IsRefusalAt position (Layout error) = (error.ty ≡ position) × (fault_at position ≡ Some (Some error.inner))
+  IsRefusalAt position OutOfMemory = fault_at position ≡ Some None

@@ -6,8 +6,8 @@ pub mod BodyOf
 pub mod BodySize
 pub mod Conversion
 pub mod Empty
-pub mod Forms
-pub mod HeldLayouts
+pub mod ExpressionKinds
+pub mod StoredLayouts
 pub mod Key
 pub mod KnownNumbers
 pub mod Layout

@@ -1,6 +1,6 @@
 -- The operands of expressions and statements, with their labels.
 use Rattle.std.specs.Prelude.{ℕ, List, [], ◌∷◌, Option, Some, None}
-use Rattle.shader_ir.specs.Slots.{kept, read, read_optional, reads}
+use Rattle.shader_ir.specs.Slots.{retained, read, read_optional, reads}
 use Rattle.shader_ir.specs.Body.{Simple, Return, Store, ImageStore, Atomic, ImageAtomic, WorkGroupUniformLoad}
 use Rattle.shader_ir.specs.Body.{Call, RayQuery, RayPipeline, SubgroupBallot, SubgroupGather, SubgroupCollectiveOperation}
 use Rattle.shader_ir.specs.Body.{CooperativeStore, Step, Leaf, If, Switch, Loop}
@@ -36,12 +36,12 @@ abbrev pub gradient_y : SampleLevel → Option ℕ
 gradient_y (Gradient x y) = Some y
 gradient_y _ = None
 
--- the level whose size is asked
+-- the level whose size is queried
 abbrev pub query_level : query.ImageQuery → Option ℕ
 query_level (Size level) = level
 query_level _ = None
 
--- what an exchange compares with
+-- the value that an exchange compares with
 abbrev pub exchange_compare : AtomicFunction → Option ℕ
 exchange_compare (Exchange compare) = compare
 exchange_compare _ = None
@@ -59,67 +59,68 @@ gather_index _ = None
 -- the operands of an expression
 abbrev pub expression_operands : Expression → List (ℕ × Label)
 expression_operands (Compose ty components) = reads components
-expression_operands (Access base index) = kept (Some (base, Part) ∷ read index ∷ [])
-expression_operands (AccessIndex base index) = kept (Some (base, Part) ∷ [])
-expression_operands (Splat size value) = kept (read value ∷ [])
-expression_operands (Swizzle size vector pattern) = kept (read vector ∷ [])
-expression_operands (Load pointer) = kept (read pointer ∷ [])
+expression_operands (Access base index) = retained (Some (base, Part) ∷ read index ∷ [])
+expression_operands (AccessIndex base index) = retained (Some (base, Part) ∷ [])
+expression_operands (Splat size value) = retained (read value ∷ [])
+expression_operands (Swizzle size vector pattern) = retained (read vector ∷ [])
+expression_operands (Load pointer) = retained (read pointer ∷ [])
 expression_operands (ImageSample image sampler gather clamp_to_edge coordinate array_index offset level depth_ref) =
-    kept (read image ∷ read sampler ∷ read coordinate ∷ read_optional array_index ∷ read_optional depth_ref ∷ read_optional offset
+    retained (read image ∷ read sampler ∷ read coordinate ∷ read_optional array_index ∷ read_optional depth_ref ∷ read_optional offset
     ∷ read_optional (level_handle level) ∷ read_optional (gradient_y level) ∷ [])
 expression_operands (ImageLoad image coordinate array_index sample level) =
-    kept (read image ∷ read coordinate ∷ read_optional array_index ∷ read_optional sample ∷ read_optional level ∷ [])
-expression_operands (ImageQuery image query) = kept (Some (image, Query) ∷ read_optional (query_level query) ∷ [])
-expression_operands (Unary op expr) = kept (read expr ∷ [])
-expression_operands (Binary op left right) = kept (read left ∷ read right ∷ [])
-expression_operands (Select condition accept reject) = kept (read condition ∷ read accept ∷ read reject ∷ [])
-expression_operands (Derivative axis ctrl expr) = kept (read expr ∷ [])
-expression_operands (Relational fun argument) = kept (read argument ∷ [])
-expression_operands (Math fun arg arg1 arg2 arg3) = kept (read arg ∷ read_optional arg1 ∷ read_optional arg2 ∷ read_optional arg3 ∷ [])
-expression_operands (As expr kind convert) = kept (read expr ∷ [])
-expression_operands (ArrayLength array) = kept (Some (array, Query) ∷ [])
-expression_operands (RayQueryVertexPositions query committed) = kept (read query ∷ [])
-expression_operands (RayQueryGetIntersection query committed) = kept (read query ∷ [])
-expression_operands (CooperativeLoad columns rows role tile) = kept (read tile.pointer ∷ read tile.stride ∷ [])
-expression_operands (CooperativeMultiplyAdd a b c) = kept (read a ∷ read b ∷ read c ∷ [])
+    retained (read image ∷ read coordinate ∷ read_optional array_index ∷ read_optional sample ∷ read_optional level ∷ [])
+expression_operands (ImageQuery image query) = retained (Some (image, Query) ∷ read_optional (query_level query) ∷ [])
+expression_operands (Unary op expr) = retained (read expr ∷ [])
+expression_operands (Binary op left right) = retained (read left ∷ read right ∷ [])
+expression_operands (Select condition accept reject) = retained (read condition ∷ read accept ∷ read reject ∷ [])
+expression_operands (Derivative axis ctrl expr) = retained (read expr ∷ [])
+expression_operands (Relational fun argument) = retained (read argument ∷ [])
+expression_operands (Math fun arg arg1 arg2 arg3) = retained (read arg ∷ read_optional arg1 ∷ read_optional arg2 ∷ read_optional arg3 ∷ [])
+expression_operands (As expr kind convert) = retained (read expr ∷ [])
+expression_operands (ArrayLength array) = retained (Some (array, Query) ∷ [])
+expression_operands (RayQueryVertexPositions query committed) = retained (read query ∷ [])
+expression_operands (RayQueryGetIntersection query committed) = retained (read query ∷ [])
+expression_operands (CooperativeLoad columns rows role tile) = retained (read tile.pointer ∷ read tile.stride ∷ [])
+expression_operands (CooperativeMultiplyAdd a b c) = retained (read a ∷ read b ∷ read c ∷ [])
 expression_operands _ = []
 
--- the operands of a query of rays, beside the query
+-- the operands of a ray query step, without the query itself
 abbrev pub ray_query_operands : RayQueryFunction → List (Option (ℕ × Label))
 ray_query_operands (Initialize acceleration_structure descriptor) = read acceleration_structure ∷ read descriptor ∷ []
 ray_query_operands (GenerateIntersection hit_t) = read hit_t ∷ []
 ray_query_operands _ = []
 
--- the operands of a statement that holds no block
+-- the operands of a statement that contains no block
 abbrev pub simple_operands : Simple → List (ℕ × Label)
-simple_operands (Return value) = kept (read_optional value ∷ [])
-simple_operands (Store pointer value) = kept (Some (pointer, Write) ∷ read value ∷ [])
+simple_operands (Return value) = retained (read_optional value ∷ [])
+simple_operands (Store pointer value) = retained (Some (pointer, Write) ∷ read value ∷ [])
 simple_operands (ImageStore image coordinate array_index value) =
-    kept (Some (image, Write) ∷ read coordinate ∷ read_optional array_index ∷ read value ∷ [])
-simple_operands (Atomic pointer fun value result) = kept
+    retained (Some (image, Write) ∷ read coordinate ∷ read_optional array_index ∷ read value ∷ [])
+simple_operands (Atomic pointer fun value result) = retained
     (Some (pointer, ReadWrite) ∷ read value ∷ read_optional (exchange_compare fun) ∷ [])
 simple_operands (ImageAtomic image coordinate array_index fun value) =
-    kept (Some (image, label.Atomic) ∷ read coordinate ∷ read_optional array_index ∷ read value ∷ read_optional (exchange_compare fun) ∷ [])
-simple_operands (WorkGroupUniformLoad pointer result) = kept (read pointer ∷ [])
+    retained (Some (image, label.Atomic) ∷ read coordinate ∷ read_optional array_index ∷ read value ∷ read_optional (exchange_compare fun) ∷
+    [])
+simple_operands (WorkGroupUniformLoad pointer result) = retained (read pointer ∷ [])
 simple_operands (Call function arguments result) = reads arguments
-simple_operands (RayQuery query fun) = kept (read query ∷ ray_query_operands fun)
+simple_operands (RayQuery query fun) = retained (read query ∷ ray_query_operands fun)
 simple_operands (RayPipeline (TraceRay acceleration_structure descriptor payload)) =
-    kept (read acceleration_structure ∷ read descriptor ∷ read payload ∷ [])
-simple_operands (SubgroupBallot result predicate) = kept (read_optional predicate ∷ [])
-simple_operands (SubgroupGather mode argument result) = kept (read argument ∷ read_optional (gather_index mode) ∷ [])
-simple_operands (SubgroupCollectiveOperation op collective_op argument result) = kept (read argument ∷ [])
-simple_operands (CooperativeStore target tile) = kept (read target ∷ Some (tile.pointer, Write) ∷ read tile.stride ∷ [])
+    retained (read acceleration_structure ∷ read descriptor ∷ read payload ∷ [])
+simple_operands (SubgroupBallot result predicate) = retained (read_optional predicate ∷ [])
+simple_operands (SubgroupGather mode argument result) = retained (read argument ∷ read_optional (gather_index mode) ∷ [])
+simple_operands (SubgroupCollectiveOperation op collective_op argument result) = retained (read argument ∷ [])
+simple_operands (CooperativeStore target tile) = retained (read target ∷ Some (tile.pointer, Write) ∷ read tile.stride ∷ [])
 simple_operands _ = []
 
 -- the operands of a statement, without those of the blocks inside
 abbrev pub statement_operands : Step → List (ℕ × Label)
 statement_operands (Leaf simple) = simple_operands simple
-statement_operands (If condition accept reject) = kept (read condition ∷ [])
-statement_operands (Switch selector cases) = kept (read selector ∷ [])
-statement_operands (Loop body continuing break_if) = kept (read_optional break_if ∷ [])
+statement_operands (If condition accept reject) = retained (read condition ∷ [])
+statement_operands (Switch selector cases) = retained (read selector ∷ [])
+statement_operands (Loop body continuing break_if) = retained (read_optional break_if ∷ [])
 statement_operands _ = []
 
--- the expression takes texels of an image
+-- the expression reads texels of an image
 abbrev pub TakesTexels : Expression → Type 0
 TakesTexels (ImageSample image sampler gather clamp_to_edge coordinate array_index offset level depth_ref) = Unit {0}
 TakesTexels (ImageLoad image coordinate array_index sample level) = Unit {0}

@@ -1,4 +1,4 @@
--- What is read off a type itself, or off the type that it names.
+-- Queries that read a type itself, or the type that it names.
 use Rattle.std.specs.Prelude.{ℕ, ◌^◌, ◌-◌, ◌<◌, Bool, true, false, List, Option, Some, None, length, min, slice_get, option_map}
 use Rattle.shader_ir.specs.declared.scalar.ScalarKind.{ScalarKind}
 use Rattle.shader_ir.specs.declared.scalar.Scalar as scalars
@@ -25,11 +25,11 @@ scalar_of _ = None
 abbrev pub kind_of : TypeInner → Option ScalarKind
 kind_of inner = option_map (λ (scalar : scalars.Scalar). scalar.kind) (scalar_of inner)
 
--- the scalar's width in bytes
+-- the width of the scalar in bytes
 abbrev pub width_of : TypeInner → Option ℕ
 width_of inner = option_map (λ (scalar : scalars.Scalar). scalar.width) (scalar_of inner)
 
--- a scalar and, of a vector, its size
+-- the scalar of a scalar or a vector, and the size of a vector
 abbrev pub vector_size_and_scalar : TypeInner → Option (Option VectorSize × scalars.Scalar)
 vector_size_and_scalar (Scalar scalar) = Some (None, scalar)
 vector_size_and_scalar (Vector size scalar) = Some (Some size, scalar)
@@ -40,12 +40,12 @@ pointer_space (Pointer base space) = Some space
 pointer_space (ValuePointer size scalar space) = Some space
 pointer_space _ = None
 
--- what a value pointer points to
+-- the pointee of a value pointer
 abbrev pub pointed_value : Option VectorSize → scalars.Scalar → TypeInner
 pointed_value None scalar = Scalar scalar
 pointed_value (Some size) scalar = Vector size scalar
 
--- what a pointer points to: a type of the arena by its handle, a scalar or a vector by value
+-- the pointee of a pointer: a type of the arena by its handle, a scalar or a vector by value
 abbrev pub pointer_base : TypeInner → Option TypeResolution
 pointer_base (Pointer base space) = Some (Handle base)
 pointer_base (ValuePointer size scalar space) = Some (Value (pointed_value size scalar))
@@ -59,12 +59,12 @@ abbrev pub is_found_atomic : Option «Type» → Bool
 is_found_atomic (Some type) = is_atomic type.inner
 is_found_atomic None = false
 
--- a pointer to an atomic of the arena
+-- whether the type is a pointer to an atomic of the arena
 abbrev pub is_atomic_pointer : List «Type» → TypeInner → Bool
 is_atomic_pointer types (Pointer base space) = is_found_atomic (slice_get types base)
 is_atomic_pointer types _ = false
 
--- how many parts a type has that an index may name, where that number is known; at most the largest that 32 bits hold
+-- the number of components of a type that an index may select, if it is known; at most 2 ^ 32 - 1
 abbrev pub component_count : TypeInner → Option ℕ
 component_count (Vector size scalar) = Some (vector_count size)
 component_count (Matrix columns rows scalar) = Some (vector_count columns)
@@ -72,7 +72,7 @@ component_count (Array base (Constant count) stride) = Some count
 component_count (Struct span members) = Some (min (length members) (2 ^ 32 - 1))
 component_count _ = None
 
--- a struct has a member at the index
+-- the struct has a member at the index
 abbrev pub HasMember : TypeInner → ℕ → Type 0
 HasMember (Struct span members) index = index < length members
 HasMember _ index = Unit {0}
@@ -81,7 +81,7 @@ abbrev pub member_type : Option StructMember → Option TypeResolution
 member_type (Some member) = Some (Handle member.ty)
 member_type None = None
 
--- the type of the part at an index, which only of a struct depends on the index
+-- the type of the component at an index; only for a struct does it depend on the index
 abbrev pub component_type : TypeInner → ℕ → Option TypeResolution
 component_type (Vector size scalar) index = Some (Value (Scalar scalar))
 component_type (Matrix columns rows scalar) index = Some (Value (Vector rows scalar))

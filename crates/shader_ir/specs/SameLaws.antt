@@ -1,4 +1,4 @@
--- `==` on types is equality of what contracts see.
+-- `==` on types is equality of everything that contracts see.
 use Rattle.std.proofs.Common.{rules, ◌≡◌, true, true≢false, sym, Bool, List, Option, Some, None, subst}
 use Rattle.std.specs.Option.{option_eq}
 use Rattle.std.proofs.lemmas.Bool.{and_parts}
@@ -67,7 +67,7 @@ same_members : (xs ys : List StructMember) → pointwise member.ghosts.eq xs ys 
 same_members xs ys = (pointwise_decides member_decides xs ys).0
 
 module _ {T : Type 0} (eq : T → T → Bool) (each : DecidesSame eq) where
-  -- an option is decided as what it holds
+  -- an option is compared by its content
   same_options : (x y : Option T) → option_eq eq x y ≡ true → x ≡ y
   same_options None None h = search rules
   same_options None (Some y) h = search rules

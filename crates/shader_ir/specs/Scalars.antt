@@ -1,4 +1,4 @@
--- Scalars: those that have names, which is abstract, and which converts to which.
+-- The named scalars, abstract scalars, and conversions between scalars.
 use Rattle.std.specs.Prelude.{ℕ, ◌==◌, Bool, true, false, ◌&&◌, List, [], ◌∷◌, ◌++◌, map, codes}
 use Rattle.std.specs.List.{list_any}
 use Rattle.shader_ir.specs.declared.scalar.ScalarKind.{ScalarKind}
@@ -23,12 +23,12 @@ same_scalar a b = same_kind a.kind b.kind && (a.width == b.width)
 abbrev pub scalar : ScalarKind → ℕ → Scalar
 scalar kind width = record { kind = kind; width = width }
 
--- every kind but Bool is one of numbers
+-- every kind but Bool is numeric
 abbrev pub is_numeric : ScalarKind → Bool
 is_numeric kinds.Bool = false
 is_numeric _ = true
 
--- a scalar of a literal that has no type of its own yet
+-- the kind is that of literals without a concrete type
 abbrev pub is_abstract_kind : ScalarKind → Bool
 is_abstract_kind kinds.AbstractInt = true
 is_abstract_kind kinds.AbstractFloat = true
@@ -51,7 +51,7 @@ integers =
 abbrev pub floats : List Scalar
 floats = scalar kinds.Float 4 ∷ scalar kinds.Float 2 ∷ scalar kinds.Float 8 ∷ []
 
--- the twelve scalars that have names
+-- the twelve named scalars
 unfoldable pub named_scalars : List Scalar
 named_scalars = abstract_int ∷ abstract_float ∷ (integers ++ floats ++ scalar kinds.Bool 1 ∷ [])
 
@@ -64,13 +64,13 @@ concrete_ints =
 abbrev pub all_vector_sizes : List VectorSize
 all_vector_sizes = Bi ∷ Tri ∷ Quad ∷ []
 
--- how a vector's size is written
+-- the text of a vector's size
 abbrev pub size_text : VectorSize → List ℕ
 size_text Bi = codes "2"
 size_text Tri = codes "3"
 size_text Quad = codes "4"
 
--- each pair of which the first converts to the second: a scalar to itself, and an abstract one to what it may become
+-- all pairs of which the first converts to the second: each scalar with itself, and each abstract one with its concrete goals
 abbrev pub conversions : List (Scalar × Scalar)
 conversions =
     map (λ s. (s, s)) named_scalars

@@ -1,4 +1,4 @@
--- Groups of the forms of types.
+-- Groups of the variants of types.
 use Rattle.shader_ir.specs.declared.types.TypeInner.{TypeInner}
 use Rattle.shader_ir.specs.declared.types.TypeInner.TheVariants.{Scalar, Vector, Matrix, CooperativeMatrix}
 use Rattle.shader_ir.specs.declared.types.TypeInner.TheVariants.{Atomic, Pointer, ValuePointer, Struct}

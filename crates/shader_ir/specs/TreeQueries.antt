@@ -1,4 +1,4 @@
--- What is read off the tree of a type.
+-- Queries that read the tree of a type.
 use Rattle.std.specs.Prelude.{Bool, true, false, ◌&&◌}
 use Rattle.shader_ir.specs.declared.types.ArraySize.TheVariants.{Constant, Dynamic}
 use Rattle.shader_ir.specs.declared.types.TypeInner.{TypeInner}
@@ -7,7 +7,7 @@ use Rattle.shader_ir.specs.declared.types.TypeInner.TheVariants.{Array, Struct, 
 use Rattle.shader_ir.specs.Scalars.{is_abstract_scalar}
 use Rattle.shader_ir.specs.TypeTree.{TypeTree, TypeTrees, Node, NoTree, OneTree, root_of}
 
--- a type of abstract scalars; an array is what its base is
+-- whether a type is built from abstract scalars; an array is if its base is
 abbrev mutual
   pub is_abstract : TypeTree → Bool
   is_abstract (Node (Scalar scalar) _) = is_abstract_scalar scalar
@@ -21,7 +21,7 @@ abbrev mutual
   is_base_abstract (OneTree base _) = is_abstract base
   is_base_abstract NoTree = false
 
--- an array whose count the text doesn't fix, or a struct that ends in such a type
+-- whether a type is an array whose length the text doesn't fix, or a struct that ends in such a type
 abbrev mutual
   pub is_dynamically_sized : TypeTree → Bool
   is_dynamically_sized (Node (Array base (Constant count) stride) _) = false
@@ -29,22 +29,22 @@ abbrev mutual
   is_dynamically_sized (Node (Struct span members) trees) = is_last_dynamically_sized false trees
   is_dynamically_sized (Node _ _) = false
 
-  -- of the last tree, or the answer given where there is none
+  -- the result for the last tree, or the given default if there is none
   pub is_last_dynamically_sized : Bool → TypeTrees → Bool
   is_last_dynamically_sized answer NoTree = answer
   is_last_dynamically_sized answer (OneTree tree trees) = is_last_dynamically_sized (is_dynamically_sized tree) trees
 
--- an array whose count is known only where the shader runs
+-- whether a type is an array whose length is known only at run time
 abbrev pub is_runtime_array : TypeInner → Bool
 is_runtime_array (Array base Dynamic stride) = true
 is_runtime_array _ = false
 
--- whether the last tree is that of such an array, or the answer given where there is none
+-- whether the last tree is that of such an array, or the given default if there is none
 abbrev pub ends_in_runtime_array : Bool → TypeTrees → Bool
 ends_in_runtime_array answer NoTree = answer
 ends_in_runtime_array answer (OneTree tree trees) = ends_in_runtime_array (is_runtime_array (root_of tree)) trees
 
--- such an array, a struct whose last member is one, and an array of bindings of what needs its size
+-- whether a type is such an array, a struct whose last member is one, or a binding array of types that need their size
 abbrev mutual
   pub needs_host_buffer_byte_size : TypeTree → Bool
   needs_host_buffer_byte_size (Node (Array base size stride) _) = is_runtime_array (Array base size stride)
@@ -56,7 +56,7 @@ abbrev mutual
   needs_base_byte_size (OneTree base _) = needs_host_buffer_byte_size base
   needs_base_byte_size NoTree = false
 
--- a type whose values a program may make: its arrays have a fixed count, and all that it holds is such a type
+-- whether a program may construct values of a type: its arrays have a fixed length, and all that it contains is constructible
 abbrev mutual
   pub is_constructible : TypeTree → Bool
   is_constructible (Node (Scalar scalar) _) = true

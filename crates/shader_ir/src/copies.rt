@@ -1,4 +1,4 @@
-//! Copies of values that hold lists, texts or maps, and so take memory.
+//! Fallible copies of values that own lists, texts or maps.
 
 mod expressions;
 mod functions;

@@ -1,4 +1,4 @@
-//! Laws of what this crate's calls return, each the contract of a function that does nothing.
+//! Laws about the results of this crate's functions. Each law is the contract of a function that does nothing.
 ghost use Rattle.std.specs.Prelude.{◌≡◌, [], ◌∷◌};
 ghost use Rattle.shader_ir.specs.Conversion.{ConversionsListed};
 ghost use Rattle.shader_ir.specs.LayoutLaws.{RefusalsRepeat, UpdatesCompose};
@@ -8,7 +8,8 @@ ghost use Rattle.shader_ir.specs.declared.scalar.TheConstants.Scalar.{F32, F64, 
 
 use crate::{Alignment, ScalarKind};
 
-/// The constants of `Scalar` are the twelve named scalars (naga's `Scalar`; the widths of the abstract ones are this project's).
+/// States that the constants of `Scalar` are the twelve named scalars (naga's `Scalar`; the widths of the abstract ones are this
+/// project's).
 #[tactic(auto, unfolding(crate::specs::Scalars::named_scalars))]
 pub fn scalars_are_named()
     ensures abstract_int { ABSTRACT_INT ≡ abstract_int }
@@ -27,25 +28,26 @@ pub fn scalars_are_named()
         ∷ F32 ∷ F16 ∷ F64 ∷ BOOL ∷ [] ≡ named_scalars }
 {}
 
-/// The least alignment of arrays and structs in a uniform buffer is 16 bytes (WGSL, "Address Space Layout Constraints").
+/// Returns the least alignment of arrays and structs in a uniform buffer: 16 bytes (WGSL, "Address Space Layout Constraints").
 pub fn uniform_buffers_are_aligned() -> Alignment
     ensures { result ≡ 16 }
 {
     Alignment::MIN_UNIFORM
 }
 
-/// Of the named scalars those convert whose pairs are listed.
+/// States that a named scalar converts to another exactly if the pair is listed.
 pub fn conversions_are_listed()
     ensures { ConversionsListed }
 {}
 
-/// Updates of a `Layouter` that all succeed, of which the first began with no layouts, each over a context that grew out of the
-/// one before it, leave the layouts that one update over the last context leaves.
+/// States that successful updates compose. If a `Layouter` starts with no layouts and each update succeeds over a context that extends the
+/// one before it, the final layouts are those of a single update over the last context.
 pub fn updates_compose()
     ensures { UpdatesCompose }
 {}
 
-/// After `update` refused a type, the same call again lays out nothing more and refuses alike, whatever the layouts held before.
+/// States that a refusal repeats. After `update` has refused a type, the same call lays out nothing more and returns the same error,
+/// whatever layouts were stored before.
 pub fn refusals_repeat()
     ensures { RefusalsRepeat }
 {}

@@ -1,4 +1,4 @@
-//! A map that contracts see as the list of its entries.
+//! Maps that contracts see as the lists of their entries.
 ghost use Rattle.std.specs.Prelude.{◌≡◌, ◌↔◌, [], length, IsTrue, IfOk, IfErr, OnOk, OnErr};
 ghost use Rattle.std.specs.List.{IsDistinct};
 ghost use Rattle.std.specs.Map.{keys_of, lookup};
@@ -12,7 +12,7 @@ use std::alloc::{AllocError, AllocFailed, Global};
 use std::hash::Hash;
 use std::marker::Model;
 
-/// A map in the order of insertion, seen as the list of its entries. Making one from an `IndexMap`, and giving that back, takes no memory.
+/// A map in insertion order, seen as the list of its entries. Wrapping an `IndexMap` and unwrapping it allocates nothing.
 #[derive(Drop)]
 pub struct Map<K: Eq + Hash, V> {
     entries: IndexMap<K, V>,
@@ -27,7 +27,7 @@ impl<K: Eq + Hash, V> Model for Map<K, V> {
 }
 
 impl<K: Eq + Hash, V> Map<K, V> {
-    /// A map with no entries, which takes no memory.
+    /// Returns a map with no entries. Allocates nothing.
     pub fn new(alloc: Global) -> Map<K, V>
         ensures { result ≡ [] }
     {
@@ -36,7 +36,7 @@ impl<K: Eq + Hash, V> Map<K, V> {
         }
     }
 
-    /// The number of entries.
+    /// Returns the number of entries.
     pub fn len(&self) -> usize
         ensures len { result ≡ length self.now }
         ensures distinct { IsDistinct K.eq (keys_of self.now) }
@@ -44,25 +44,25 @@ impl<K: Eq + Hash, V> Map<K, V> {
         self.entries.len()
     }
 
-    /// Whether there are no entries.
+    /// Returns whether there are no entries.
     pub fn is_empty(&self) -> bool
         ensures { IsTrue result ↔ (self.now ≡ []) }
     {
         self.entries.is_empty()
     }
 
-    /// The value of a key.
+    /// Returns the value of a key, if any.
     pub fn get(&self, key: &K) -> Option<&V>
         ensures { option_copied result ≡ lookup (K.eq key.now) self.now }
     {
         self.entries.get(key)
     }
 
-    /// Sets the value of a key, and returns the old one. A new key comes last.
+    /// Sets the value of a key and returns the old one. A new key is added at the end.
     ///
     /// # Errors
     ///
-    /// If memory is refused, key and value are handed back.
+    /// Hands key and value back if allocation fails.
     pub fn insert(&mut self, key: K, value: V) -> Result<Option<V>, AllocFailed<(K, V)>>
     where
         K: Drop,
@@ -74,14 +74,14 @@ impl<K: Eq + Hash, V> Map<K, V> {
         self.entries.insert(key, value)
     }
 
-    /// The keys and values, in order.
+    /// Returns an iterator over the keys and values, in order.
     pub fn iter(&self) -> Iter<'_, K, V>
         ensures { result ≡ self.now }
     {
         self.entries.iter()
     }
 
-    /// The `IndexMap` that was wrapped.
+    /// Returns the wrapped `IndexMap`.
     pub fn into_index_map(self) -> IndexMap<K, V>
         ensures { result.entries ≡ self }
     {
@@ -95,7 +95,7 @@ impl<K: Eq + Hash + TryCopy, V: TryCopy> Map<K, V> {
     ///
     /// # Errors
     ///
-    /// `AllocError` if memory for the map or for a key or value is refused.
+    /// `AllocError` if allocating the map or copying a key or value fails.
     pub fn copy(&self, alloc: Global) -> Result<Map<K, V>, AllocError>
         ensures { IfOk result (λ copy. copy ≡ self.now) }
     {

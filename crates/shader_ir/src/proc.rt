@@ -15,7 +15,9 @@ mod type_trees;
 pub use alignment::Alignment;
 pub use backward::types_backward;
 pub use known_numbers::{KnownIndex, ResolveArraySizeError};
-pub use layouter::{LayoutError, LayoutErrorInner, Layouter, TypeLayout, UpdateError};
+pub use layouter::{
+    LayoutError, LayoutErrorInner, Layouter, TypeLayout, UpdateError, UpdateReport,
+};
 pub use operands::{
     ExpressionOperands, Label, Operands, StatementOperands, expression_operands, statement_operands,
 };

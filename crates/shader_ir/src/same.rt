@@ -1,4 +1,4 @@
-//! Types whose `==` compares all that contracts see of them.
+//! Types whose `==` compares everything that contracts see of them.
 ghost use Rattle.std.specs.Prelude.{◌≡◌, ◌↔◌, IsTrue};
 ghost use Rattle.shader_ir.specs.Same.{DecidesSame};
 ghost use Rattle.shader_ir.specs.SameLaws.{array_size_decides, inner_decides, member_decides, predeclared_decides};
@@ -6,18 +6,18 @@ ghost use Rattle.shader_ir.specs.SameLaws.{scalar_decides, size_decides, type_de
 
 use crate::{ArraySize, PredeclaredType, Scalar, StructMember, Type, TypeInner, VectorSize};
 
-/// A type whose `==` leaves nothing of a value out: two values are equal exactly where contracts see the same of both.
+/// A type whose `==` ignores nothing: two values are equal exactly if contracts see the same of both.
 ///
-/// So a `UniqueArena` of such items holds each of them once, and returns the handle of the very item that it was given.
+/// A `UniqueArena` of such items therefore stores each of them once, and returns the handle of the very item that was inserted.
 pub trait Same: Eq {
-    /// Whether both values are the same.
+    /// Returns whether both values are the same.
     final fn is_same(&self, other: &Self) -> bool
         ensures { IsTrue result ↔ (self.now ≡ other.now) }
     {
         self == other
     }
 
-    // `==` is true exactly of the same values.
+    // `==` is true exactly of values that are the same.
     ghost decides: { DecidesSame Self.PartialEq.eq };
 }
 

@@ -11,9 +11,9 @@ pub enum ScalarKind {
     Float,
     /// Bools.
     Bool,
-    /// Integers of no type yet (WGSL `AbstractInt`).
+    /// Integer literals without a concrete type (WGSL `AbstractInt`).
     AbstractInt,
-    /// Floats of no type yet (WGSL `AbstractFloat`).
+    /// Float literals without a concrete type (WGSL `AbstractFloat`).
     AbstractFloat,
 }
 
@@ -25,73 +25,73 @@ pub struct Scalar {
 }
 
 impl Scalar {
-    /// The signed integers of 16 bits.
+    /// Signed 16-bit integers.
     pub const I16: Scalar = Scalar {
         kind: ScalarKind::Sint,
         width: 2,
     };
 
-    /// The signed integers of 32 bits.
+    /// Signed 32-bit integers.
     pub const I32: Scalar = Scalar {
         kind: ScalarKind::Sint,
         width: 4,
     };
 
-    /// The signed integers of 64 bits.
+    /// Signed 64-bit integers.
     pub const I64: Scalar = Scalar {
         kind: ScalarKind::Sint,
         width: 8,
     };
 
-    /// The unsigned integers of 16 bits.
+    /// Unsigned 16-bit integers.
     pub const U16: Scalar = Scalar {
         kind: ScalarKind::Uint,
         width: 2,
     };
 
-    /// The unsigned integers of 32 bits.
+    /// Unsigned 32-bit integers.
     pub const U32: Scalar = Scalar {
         kind: ScalarKind::Uint,
         width: 4,
     };
 
-    /// The unsigned integers of 64 bits.
+    /// Unsigned 64-bit integers.
     pub const U64: Scalar = Scalar {
         kind: ScalarKind::Uint,
         width: 8,
     };
 
-    /// The floats of 16 bits.
+    /// 16-bit floats.
     pub const F16: Scalar = Scalar {
         kind: ScalarKind::Float,
         width: 2,
     };
 
-    /// The floats of 32 bits.
+    /// 32-bit floats.
     pub const F32: Scalar = Scalar {
         kind: ScalarKind::Float,
         width: 4,
     };
 
-    /// The floats of 64 bits.
+    /// 64-bit floats.
     pub const F64: Scalar = Scalar {
         kind: ScalarKind::Float,
         width: 8,
     };
 
-    /// The truth values.
+    /// Booleans.
     pub const BOOL: Scalar = Scalar {
         kind: ScalarKind::Bool,
         width: 1,
     };
 
-    /// WGSL's `AbstractInt`, of literals that have no type of their own yet.
+    /// WGSL's `AbstractInt`, the type of integer literals without a concrete type.
     pub const ABSTRACT_INT: Scalar = Scalar {
         kind: ScalarKind::AbstractInt,
         width: 8,
     };
 
-    /// WGSL's `AbstractFloat`.
+    /// WGSL's `AbstractFloat`, the type of float literals without a concrete type.
     pub const ABSTRACT_FLOAT: Scalar = Scalar {
         kind: ScalarKind::AbstractFloat,
         width: 8,
@@ -123,8 +123,8 @@ pub enum CooperativeSize {
 pub enum CooperativeRole {
     /// The left factor of a product.
     A,
-    /// The right factor.
+    /// The right factor of a product.
     B,
-    /// The summand, and the result.
+    /// The summand and the result of a product.
     C,
 }

@@ -1,4 +1,4 @@
-//! Types.
+//! Types, address spaces and array sizes.
 ghost use Rattle.std.specs.Prelude.{◌≡◌, IfOk, IsOk};
 ghost use Rattle.shader_ir.specs.Key.{IsNoStruct};
 ghost use Rattle.shader_ir.specs.Shapes.{IsOfScalars, IsResource};
@@ -10,39 +10,39 @@ use crate::{
 use shader_arena::Handle;
 use std::alloc::{AllocError, Global};
 
-/// The space that a pointer points into.
+/// The address space of a pointer.
 #[derive(Clone, Copy, Debug, PartialEq, Eq, Hash)]
 pub enum AddressSpace {
     /// A local variable of one call of a function.
     Function,
     /// A global variable of one invocation.
     Private,
-    /// Shared by a work group.
+    /// A variable shared by a work group.
     WorkGroup,
-    /// A uniform buffer: the same for all invocations, read only.
+    /// A uniform buffer: read only and the same for all invocations.
     Uniform,
-    /// A storage buffer, with the access that is allowed.
+    /// A storage buffer with the allowed access.
     Storage { access: StorageAccess },
-    /// Images, samplers and acceleration structures, which are no memory.
+    /// Images, samplers and acceleration structures, which aren't memory.
     Handle,
-    /// Small data that a draw or a dispatch brings with it (push constants).
+    /// Small data that comes with a draw or a dispatch (push constants).
     Immediate,
-    /// Handed from a task shader to its mesh shaders.
+    /// Data passed from a task shader to its mesh shaders.
     TaskPayload,
-    /// Handed to the shaders that a traced ray meets.
+    /// Data passed to the shaders that a traced ray hits.
     RayPayload,
-    /// The payload that a ray brought here.
+    /// The payload of the ray that hit this shader.
     IncomingRayPayload,
 }
 
 /// The number of an array's elements.
 #[derive(Clone, Copy, Debug, PartialEq, Eq, Hash)]
 pub enum ArraySize {
-    /// This many, known when the module is made.
+    /// A fixed number, known when the module is built.
     Constant(Count),
-    /// What an override says once the pipeline is made.
+    /// The value of an override, known when the pipeline is created.
     Pending(Handle<mark::Override>),
-    /// As many as the memory behind it holds.
+    /// As many elements as the memory behind the array holds.
     Dynamic,
 }
 
@@ -52,11 +52,11 @@ pub struct StructMember {
     pub name: Option<Name>,
     pub ty: Handle<mark::Type>,
     pub binding: Option<Binding>,
-    /// In bytes, from the struct's start.
+    /// The distance from the start of the struct, in bytes.
     pub offset: u32,
 }
 
-/// A type without its name. Two of them are equal where all their fields are, handles by place.
+/// A type without its name. Two types are equal if all their fields are, with handles compared by position.
 #[derive(Debug, PartialEq, Eq, Hash, Drop)]
 pub enum TypeInner {
     /// One number or bool.
@@ -72,36 +72,36 @@ pub enum TypeInner {
         rows: VectorSize,
         scalar: Scalar,
     },
-    /// A matrix that the invocations of a subgroup hold together.
+    /// A matrix that the invocations of a subgroup store together.
     CooperativeMatrix {
         columns: CooperativeSize,
         rows: CooperativeSize,
         scalar: Scalar,
         role: CooperativeRole,
     },
-    /// A scalar in memory that invocations change atomically.
+    /// A scalar in memory that is accessed atomically.
     Atomic(Scalar),
     /// A pointer to a value of type `base`.
     Pointer {
         base: Handle<mark::Type>,
         space: AddressSpace,
     },
-    /// A pointer to a scalar, or to a vector where `size` is given, for which no type is registered.
+    /// A pointer to a scalar, or to a vector if `size` is given, without a type in the arena for the pointee.
     ValuePointer {
         size: Option<VectorSize>,
         scalar: Scalar,
         space: AddressSpace,
     },
-    /// Elements of type `base`, one after the other.
+    /// Elements of type `base`, one after another.
     Array {
         base: Handle<mark::Type>,
         size: ArraySize,
-        /// The distance of two elements, in bytes.
+        /// The distance between two elements, in bytes.
         stride: u32,
     },
     /// Members at their offsets.
     Struct {
-        /// In bytes.
+        /// The size of the struct, in bytes.
         span: u32,
         members: Items<StructMember>,
     },
@@ -111,7 +111,7 @@ pub enum TypeInner {
         arrayed: bool,
         class: ImageClass,
     },
-    /// A sampler, one that compares with a depth where `comparison` says so.
+    /// A sampler; with `comparison`, one that compares with a depth.
     Sampler {
         comparison: bool,
     },
@@ -123,7 +123,7 @@ pub enum TypeInner {
     RayQuery {
         vertex_return: bool,
     },
-    /// Resources bound together, picked by an index.
+    /// Resources bound together and selected by an index.
     BindingArray {
         base: Handle<mark::Type>,
         size: ArraySize,
@@ -142,7 +142,7 @@ impl Type {
     ///
     /// # Errors
     ///
-    /// `AllocError` if memory for names and members is refused.
+    /// `AllocError` if allocating names or members fails.
     pub fn copy(&self, alloc: Global) -> Result<Type, AllocError>
         ensures { IfOk result (λ copy. copy ≡ self.now) }
     {
@@ -158,7 +158,7 @@ impl TypeInner {
     ///
     /// # Errors
     ///
-    /// `AllocError` if memory for the members of a struct is refused.
+    /// `AllocError` if allocating the members of a struct fails.
     pub fn copy(&self, alloc: Global) -> Result<TypeInner, AllocError>
         ensures copy { IfOk result (λ inner. inner ≡ self.now) }
         ensures ok { IsNoStruct self.now → IsOk result }
@@ -269,7 +269,7 @@ impl StructMember {
     ///
     /// # Errors
     ///
-    /// `AllocError` if memory for the name is refused.
+    /// `AllocError` if allocating the name fails.
     pub fn copy(&self, alloc: Global) -> Result<StructMember, AllocError>
         ensures { IfOk result (λ member. member ≡ self.now) }
     {

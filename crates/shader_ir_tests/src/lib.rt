@@ -1,4 +1,4 @@
-//! Tests of `shader_ir` by its public items alone: refused memory, and what no row of `tests/samples/rows` shows.
+//! Tests of `shader_ir` through its public items alone: allocation failures, and whatever no row of `tests/samples/rows` covers.
 #![tactic(auto)]
 
 #[cfg(test)]

@@ -1,4 +1,4 @@
-//! What stands by itself, without a module: its parts are asked by rows.
+//! Tests of data that needs no module. Items inside modules are covered by rows.
 mod alignments;
 mod data;
 mod refusals;
@@ -6,5 +6,5 @@ mod same;
 mod scalars;
 mod texts;
 
-/// What a test says that fails for want of memory alone.
-const WANT: &str = "want of memory";
+/// The message of a test that fails only when out of memory.
+const OUT_OF_MEMORY: &str = "want of memory";

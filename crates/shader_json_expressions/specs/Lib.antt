@@ -1,0 +1,4 @@
+pub mod Expressions
+pub mod Literals
+pub mod Names
+pub mod Operators

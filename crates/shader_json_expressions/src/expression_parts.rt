@@ -1,12 +1,15 @@
-//! What expressions are made of, beside operators.
+//! Reads the components of expressions, other than operators.
+ghost use Rattle.shader_json_expressions.specs.Operators.{IsLevel, IsQuery, IsTile};
 
 use crate::code::Code;
 use json::Value;
 use shader_ir::{CooperativeData, ImageQuery, SampleLevel};
-use shader_json_data::{Fields, Read, Variant};
-use shader_json_values::{Context, Failure};
+use shader_json_declarations::{Fields, Read, Variant};
+use shader_json_reader::{Context, Failure};
 
 impl Read for Code<SampleLevel> {
+    ghost reads = { λ j level. IsLevel j level.0 };
+
     fn read(context: &mut Context, value: &Value<'_>) -> Result<Code<SampleLevel>, Failure> {
         let Variant { name, data } = Variant::of(context, value)?;
         let found = match (name, data) {
@@ -25,6 +28,8 @@ impl Read for Code<SampleLevel> {
 }
 
 impl Read for Code<ImageQuery> {
+    ghost reads = { λ j query. IsQuery j query.0 };
+
     fn read(context: &mut Context, value: &Value<'_>) -> Result<Code<ImageQuery>, Failure> {
         let Variant { name, data } = Variant::of(context, value)?;
         let found = match (name, data) {
@@ -40,11 +45,13 @@ impl Read for Code<ImageQuery> {
     }
 }
 
-/// Where a cooperative matrix lies in memory, which statements name too.
+/// The location of a cooperative matrix in memory. Statements have it too.
 #[derive(Clone, Copy)]
 pub struct Tile(pub CooperativeData);
 
 impl Read for Tile {
+    ghost reads = { λ j tile. IsTile j tile.0 };
+
     fn read(context: &mut Context, value: &Value<'_>) -> Result<Tile, Failure> {
         let fields = Fields::of(context, value)?;
         let (pointer, stride, row_major) = fields.triple(

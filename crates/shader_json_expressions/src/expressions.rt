@@ -1,26 +1,33 @@
-//! Expressions.
+//! Reads expressions.
+ghost use Rattle.std.specs.Prelude.{IfOk, Some, codes};
+ghost use Rattle.json.specs.Json.{object};
+ghost use Rattle.json.specs.Value.{members_view, value_view};
+ghost use Rattle.shader_json_expressions.specs.Expressions.{IsExpression, IsExpressionOf};
+ghost use Rattle.shader_json_reader.specs.Shapes.{IsList};
 
 use crate::code::Code;
 use crate::expression_parts::Tile;
 use crate::operators::Pattern;
 use json::Value;
 use shader_arena::Arena;
-use shader_ir::{Expression, Literal, SwizzleComponent, mark};
-use shader_json_data::{Data, Fields, Read, Variant};
-use shader_json_values::{Context, Failure, within};
+use shader_ir::{Expression, Literal, mark};
+use shader_json_declarations::{Data, Fields, Read, Variant};
+use shader_json_reader::{Context, Failure, within};
 
 /// The expressions of a function or of a module.
 #[derive(Drop)]
 pub struct Expressions(pub Arena<Expression, mark::Expression>);
 
 impl Read for Expressions {
+    ghost reads = { λ j expressions. IsList IsExpression j expressions.0 };
+
     fn read(context: &mut Context, value: &Value<'_>) -> Result<Expressions, Failure> {
         let Value::Array(items) = value else {
             return Err(context.refused("an array"));
         };
         let mut expressions = Arena::new(context.alloc);
         for (index, item) in items.iter().enumerate() {
-            let expression = within(index, expression(context, item))?;
+            let expression = expression_at(context, index, item)?;
             if expressions.is_full() {
                 return Err(context.refused("an array of at most 4294967295 expressions"));
             }
@@ -30,8 +37,21 @@ impl Read for Expressions {
     }
 }
 
-/// One expression.
-fn expression(context: &mut Context, value: &Value<'_>) -> Result<Expression, Failure> {
+/// Reads the expression of this index.
+fn expression_at(
+    context: &mut Context,
+    index: usize,
+    value: &Value<'_>,
+) -> Result<Expression, Failure>
+    ensures { IfOk result (λ e. IsExpression (value_view value.now) e) }
+{
+    within(index, expression(context, value))
+}
+
+/// Reads one expression.
+fn expression(context: &mut Context, value: &Value<'_>) -> Result<Expression, Failure>
+    ensures { IfOk result (λ e. IsExpression (value_view value.now) e) }
+{
     let Variant { name, data } = Variant::of(context, value)?;
     match (name, data) {
         ("RayQueryProceedResult", None) => Ok(Expression::RayQueryProceedResult),
@@ -41,8 +61,10 @@ fn expression(context: &mut Context, value: &Value<'_>) -> Result<Expression, Fa
     }
 }
 
-/// An expression without operands.
-fn leaf(context: &mut Context, name: &str, data: Data<'_, '_>) -> Result<Expression, Failure> {
+/// Reads an expression without operands, or else one that `composite` reads.
+fn leaf(context: &mut Context, name: &str, data: Data<'_, '_>) -> Result<Expression, Failure>
+    ensures { IfOk result (λ e. IsExpressionOf name.now (Some (value_view «data».entry.value.now)) e) }
+{
     match name {
         "Literal" => Ok(Expression::Literal(data.read::<Code<Literal>>(context)?.0)),
         "Constant" => Ok(Expression::Constant(data.read(context)?)),
@@ -66,8 +88,11 @@ fn leaf(context: &mut Context, name: &str, data: Data<'_, '_>) -> Result<Express
     }
 }
 
-/// An expression that makes a composite value, or takes one apart.
-fn composite(context: &mut Context, name: &str, data: Data<'_, '_>) -> Result<Expression, Failure> {
+/// Reads an expression that builds a composite value or takes one apart, or else one that `image`
+/// reads.
+fn composite(context: &mut Context, name: &str, data: Data<'_, '_>) -> Result<Expression, Failure>
+    ensures { IfOk result (λ e. IsExpressionOf name.now (Some (value_view «data».entry.value.now)) e) }
+{
     match name {
         "Compose" => {
             let (ty, components) = data.pair(context, "ty", "components")?;
@@ -99,8 +124,10 @@ fn composite(context: &mut Context, name: &str, data: Data<'_, '_>) -> Result<Ex
     }
 }
 
-/// What is taken from an image.
-fn image(context: &mut Context, name: &str, data: Data<'_, '_>) -> Result<Expression, Failure> {
+/// Reads an expression on an image, or else one that `operation` reads.
+fn image(context: &mut Context, name: &str, data: Data<'_, '_>) -> Result<Expression, Failure>
+    ensures { IfOk result (λ e. IsExpressionOf name.now (Some (value_view «data».entry.value.now)) e) }
+{
     match name {
         "ImageSample" => sample(context, data.fields(context)?),
         "ImageLoad" => load(context, data.fields(context)?),
@@ -112,8 +139,10 @@ fn image(context: &mut Context, name: &str, data: Data<'_, '_>) -> Result<Expres
     }
 }
 
-/// What is read of an image at a place.
-fn load(context: &mut Context, fields: Fields<'_, '_>) -> Result<Expression, Failure> {
+/// Reads the load of a texel.
+fn load(context: &mut Context, fields: Fields<'_, '_>) -> Result<Expression, Failure>
+    ensures { IfOk result (λ e. IsExpressionOf (codes "ImageLoad") (Some (object (members_view fields.entry.members.now))) e) }
+{
     let (image, coordinate) = fields.pair(context, "image", "coordinate")?;
     Ok(Expression::ImageLoad {
         image,
@@ -124,17 +153,16 @@ fn load(context: &mut Context, fields: Fields<'_, '_>) -> Result<Expression, Fai
     })
 }
 
-/// What sampling an image gives.
-fn sample(context: &mut Context, fields: Fields<'_, '_>) -> Result<Expression, Failure> {
-    let gather: Option<Code<SwizzleComponent>> = fields.optional(context, "gather")?;
+/// Reads the sampling of an image.
+fn sample(context: &mut Context, fields: Fields<'_, '_>) -> Result<Expression, Failure>
+    ensures { IfOk result (λ e. IsExpressionOf (codes "ImageSample") (Some (object (members_view fields.entry.members.now))) e) }
+{
+    let Code(gather) = fields.nullable(context, "gather")?;
     let (Code(level), image, sampler) = fields.triple(context, "level", "image", "sampler")?;
     Ok(Expression::ImageSample {
         image,
         sampler,
-        gather: match gather {
-            Some(Code(component)) => Some(component),
-            None => None,
-        },
+        gather,
         coordinate: fields.needed(context, "coordinate")?,
         array_index: fields.optional(context, "array_index")?,
         offset: fields.optional(context, "offset")?,
@@ -144,8 +172,10 @@ fn sample(context: &mut Context, fields: Fields<'_, '_>) -> Result<Expression, F
     })
 }
 
-/// An operator on values.
-fn operation(context: &mut Context, name: &str, data: Data<'_, '_>) -> Result<Expression, Failure> {
+/// Reads an operator on values, or else an expression that `function` reads.
+fn operation(context: &mut Context, name: &str, data: Data<'_, '_>) -> Result<Expression, Failure>
+    ensures { IfOk result (λ e. IsExpressionOf name.now (Some (value_view «data».entry.value.now)) e) }
+{
     match name {
         "Unary" => {
             let (Code(op), expr) = data.pair(context, "op", "expr")?;
@@ -176,8 +206,10 @@ fn operation(context: &mut Context, name: &str, data: Data<'_, '_>) -> Result<Ex
     }
 }
 
-/// A function of values.
-fn function(context: &mut Context, name: &str, data: Data<'_, '_>) -> Result<Expression, Failure> {
+/// Reads a function of values, or else an expression that `memory` reads.
+fn function(context: &mut Context, name: &str, data: Data<'_, '_>) -> Result<Expression, Failure>
+    ensures { IfOk result (λ e. IsExpressionOf name.now (Some (value_view «data».entry.value.now)) e) }
+{
     match name {
         "Relational" => {
             let (Code(fun), argument) = data.pair(context, "fun", "argument")?;
@@ -197,8 +229,10 @@ fn function(context: &mut Context, name: &str, data: Data<'_, '_>) -> Result<Exp
     }
 }
 
-/// A call of a built-in function.
-fn math(context: &mut Context, fields: Fields<'_, '_>) -> Result<Expression, Failure> {
+/// Reads a call of a built-in function.
+fn math(context: &mut Context, fields: Fields<'_, '_>) -> Result<Expression, Failure>
+    ensures { IfOk result (λ e. IsExpressionOf (codes "Math") (Some (object (members_view fields.entry.members.now))) e) }
+{
     let (Code(fun), arg) = fields.pair(context, "fun", "arg")?;
     Ok(Expression::Math {
         fun,
@@ -209,8 +243,11 @@ fn math(context: &mut Context, fields: Fields<'_, '_>) -> Result<Expression, Fai
     })
 }
 
-/// What is read from memory, of a ray query, or by a subgroup.
-fn memory(context: &mut Context, name: &str, data: Data<'_, '_>) -> Result<Expression, Failure> {
+/// Reads a load, the length of an array or the result of a ray query, or else an expression that
+/// `cooperative` reads.
+fn memory(context: &mut Context, name: &str, data: Data<'_, '_>) -> Result<Expression, Failure>
+    ensures { IfOk result (λ e. IsExpressionOf name.now (Some (value_view «data».entry.value.now)) e) }
+{
     match name {
         "Load" => Ok(Expression::Load {
             pointer: data.field(context, "pointer")?,
@@ -228,12 +265,10 @@ fn memory(context: &mut Context, name: &str, data: Data<'_, '_>) -> Result<Expre
     }
 }
 
-/// An operation on cooperative matrices.
-fn cooperative(
-    context: &mut Context,
-    name: &str,
-    data: Data<'_, '_>,
-) -> Result<Expression, Failure> {
+/// Reads an operation on cooperative matrices.
+fn cooperative(context: &mut Context, name: &str, data: Data<'_, '_>) -> Result<Expression, Failure>
+    ensures { IfOk result (λ e. IsExpressionOf name.now (Some (value_view «data».entry.value.now)) e) }
+{
     match name {
         "CooperativeLoad" => {
             let fields = data.fields(context)?;

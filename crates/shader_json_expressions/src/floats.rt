@@ -1,8 +1,10 @@
-//! Floating-point numbers as the bits of their format.
+//! Reads floating-point numbers as the bits of their format.
+ghost use Rattle.shader_json_expressions.specs.Literals.{IsHalf};
+ghost use Rattle.shader_json_reader.specs.Numbers.{IsDouble, IsSingle};
 
 use json::Value;
-use shader_json_data::Read;
-use shader_json_values::{Context, Failure, double_bits, half_bits, is_integer, single_bits};
+use shader_json_declarations::Read;
+use shader_json_reader::{Context, Failure, double_bits, half_bits, is_integer, single_bits};
 
 /// The bits of an f64.
 #[derive(Clone, Copy)]
@@ -17,6 +19,8 @@ pub(crate) struct Single(pub u32);
 pub(crate) struct Half(pub u16);
 
 impl Read for Double {
+    ghost reads = { λ j float. IsDouble j float.0 };
+
     fn read(context: &mut Context, value: &Value<'_>) -> Result<Double, Failure> {
         match double_bits(value) {
             Some(bits) => Ok(Double(bits)),
@@ -26,6 +30,8 @@ impl Read for Double {
 }
 
 impl Read for Single {
+    ghost reads = { λ j float. IsSingle j float.0 };
+
     fn read(context: &mut Context, value: &Value<'_>) -> Result<Single, Failure> {
         match single_bits(value) {
             Some(bits) => Ok(Single(bits)),
@@ -35,7 +41,10 @@ impl Read for Single {
 }
 
 impl Read for Half {
-    /// An integer is the bits themselves, and a number with a point or an exponent the value.
+    ghost reads = { λ j float. IsHalf j float.0 };
+
+    /// Reads an integer as the bits themselves, and a number with a point or an exponent as the
+    /// value.
     fn read(context: &mut Context, value: &Value<'_>) -> Result<Half, Failure> {
         let Some(text) = value.as_number() else {
             return Err(context.refused("a number"));

@@ -1,4 +1,4 @@
-//! The expressions of a module from JSON.
+//! Reads a module's expressions from JSON.
 #![tactic(auto)]
 
 mod code;

@@ -1,13 +1,16 @@
-//! Literals.
+//! Reads literals.
+ghost use Rattle.shader_json_expressions.specs.Literals.{IsLiteral};
 
 use crate::code::Code;
 use crate::floats::{Double, Half, Single};
 use json::Value;
 use shader_ir::Literal;
-use shader_json_data::{Read, Variant};
-use shader_json_values::{Context, Failure};
+use shader_json_declarations::{Read, Variant};
+use shader_json_reader::{Context, Failure};
 
 impl Read for Code<Literal> {
+    ghost reads = { λ j literal. IsLiteral j literal.0 };
+
     fn read(context: &mut Context, value: &Value<'_>) -> Result<Code<Literal>, Failure> {
         let Variant { name, data } = Variant::of(context, value)?;
         let Some(data) = data else {

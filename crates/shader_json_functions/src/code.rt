@@ -1,5 +1,5 @@
-//! What statements are made of, beside handles.
+//! A wrapper for reading the components of statements.
 
-/// A value of a crate that is neither this one nor that of the trait `Read`, which needs a type of this crate.
+/// A value whose type and whose trait `Read` belong to other crates, so that reading it needs a type of this crate.
 #[derive(Clone, Copy)]
 pub(crate) struct Code<T>(pub T);

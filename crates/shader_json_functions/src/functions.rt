@@ -1,23 +1,29 @@
-//! Functions and entry points.
+//! Reads functions and entry points.
+ghost use Rattle.std.specs.Prelude.{IfOk, OnOk};
+ghost use Rattle.json.specs.Value.{members_view, value_view};
+ghost use Rattle.shader_json_functions.specs.Functions.{HasFunction, IsEntryPoint, IsFunction};
+ghost use Rattle.shader_json_reader.specs.Shapes.{IsList};
 
 use crate::statements::Body;
 use json::Value;
 use shader_arena::Arena;
 use shader_ir::{EntryPoint, Function, Items, mark};
-use shader_json_data::{Fields, Read};
+use shader_json_declarations::{Fields, Read, read_item};
 use shader_json_expressions::Expressions;
-use shader_json_values::{Context, Failure, within};
+use shader_json_reader::{Context, Failure, within};
 
 /// One function.
 #[derive(Drop)]
-struct Held(Function);
+struct ReadFunction(Function);
 
-/// Gives an empty function what these fields have, in an order of its own: a field that can't be read hides those behind it.
+/// Fills an empty function from these fields, in a fixed order. A field that can't be read hides the errors of those after it.
 fn fill(
     context: &mut Context,
     fields: Fields<'_, '_>,
     function: &mut Function,
-) -> Result<(), Failure> {
+) -> Result<(), Failure>
+    ensures { OnOk result (HasFunction (members_view fields.entry.members.now) function.new) }
+{
     let Expressions(expressions) = fields.needed(context, "expressions")?;
     function.expressions = expressions;
     let Body(body) = fields.needed(context, "body")?;
@@ -31,12 +37,14 @@ fn fill(
     Ok(())
 }
 
-impl Read for Held {
-    fn read(context: &mut Context, value: &Value<'_>) -> Result<Held, Failure> {
+impl Read for ReadFunction {
+    ghost reads = { λ j function. IsFunction j function.0 };
+
+    fn read(context: &mut Context, value: &Value<'_>) -> Result<ReadFunction, Failure> {
         let fields = Fields::of(context, value)?;
         let mut function = Function::new(context.alloc);
         fill(context, fields, &mut function)?;
-        Ok(Held(function))
+        Ok(ReadFunction(function))
     }
 }
 
@@ -45,13 +53,16 @@ impl Read for Held {
 pub struct Functions(pub Arena<Function, mark::Function>);
 
 impl Read for Functions {
+    ghost reads = { λ j functions. IsList IsFunction j functions.0 };
+
     fn read(context: &mut Context, value: &Value<'_>) -> Result<Functions, Failure> {
         let Value::Array(items) = value else {
             return Err(context.refused("an array"));
         };
         let mut functions = Arena::new(context.alloc);
         for (index, item) in items.iter().enumerate() {
-            let Held(function) = within(index, Held::read(context, item))?;
+            let read: ReadFunction = read_item(context, index, item)?;
+            let ReadFunction(function) = read;
             if functions.is_full() {
                 return Err(context.refused("an array of at most 4294967295 functions"));
             }
@@ -61,27 +72,45 @@ impl Read for Functions {
     }
 }
 
-/// The functions that a pipeline may start at.
+/// The functions at which a pipeline may start.
 #[derive(Drop)]
 pub struct EntryPoints(pub Items<EntryPoint>);
 
 impl Read for EntryPoints {
+    ghost reads = { λ j entry_points. IsList IsEntryPoint j entry_points.0 };
+
     fn read(context: &mut Context, value: &Value<'_>) -> Result<EntryPoints, Failure> {
         let Value::Array(items) = value else {
             return Err(context.refused("an array"));
         };
         let mut entry_points = Vec::with_capacity(context.alloc, items.len())?;
         for (index, item) in items.iter().enumerate() {
-            entry_points.push(within(index, entry_point(context, item))?)?;
+            let read = entry_point_at(context, index, item)?;
+            entry_points.push(read)?;
         }
         Ok(EntryPoints(Items::from(entry_points)))
     }
 }
 
-/// One entry point.
-fn entry_point(context: &mut Context, value: &Value<'_>) -> Result<EntryPoint, Failure> {
+/// Reads the entry point of this index.
+fn entry_point_at(
+    context: &mut Context,
+    index: usize,
+    value: &Value<'_>,
+) -> Result<EntryPoint, Failure>
+    ensures { IfOk result (λ entry_point. IsEntryPoint (value_view value.now) entry_point) }
+{
+    within(index, entry_point(context, value))
+}
+
+/// Reads an entry point.
+fn entry_point(context: &mut Context, value: &Value<'_>) -> Result<EntryPoint, Failure>
+    ensures { IfOk result (λ entry_point. IsEntryPoint (value_view value.now) entry_point) }
+{
     let fields = Fields::of(context, value)?;
-    let (Held(function), name, stage) = fields.triple(context, "function", "name", "stage")?;
+    let (ReadFunction(function), name, stage) = fields.triple(
+        context, "function", "name", "stage",
+    )?;
     Ok(EntryPoint {
         name,
         stage,

@@ -1,4 +1,4 @@
-//! The functions and entry points of a module from JSON, with their statements.
+//! Reads a module's functions and entry points from JSON, with their statements.
 #![tactic(auto)]
 
 mod code;

@@ -1,4 +1,7 @@
-//! What statements are made of: values of cases, and what atomics, subgroups and rays do.
+//! Reads the components of statements: case values, and operations on atomics, subgroups and rays.
+ghost use Rattle.shader_json_functions.specs.Operations.{IsAtomic, IsBarrier, IsCollective, IsDirection, IsMode};
+ghost use Rattle.shader_json_functions.specs.Operations.{IsOperation, IsPipelineFunction, IsQueryFunction, IsSwitchValue};
+ghost use Rattle.shader_json_functions.specs.Operations.{collective_name, direction_name, operation_name};
 
 use crate::code::Code;
 use json::Value;
@@ -6,10 +9,12 @@ use shader_ir::{
     AtomicFunction, Barrier, CollectiveOperation, Direction, GatherMode, RayPipelineFunction,
     RayQueryFunction, SubgroupOperation, SwitchValue,
 };
-use shader_json_data::{Read, Variant};
-use shader_json_values::{Context, Failure, flags, named};
+use shader_json_declarations::{Read, Spelled, Variant, named};
+use shader_json_reader::{Context, Failure, flags};
 
 impl Read for Code<Barrier> {
+    ghost reads = { λ j item. IsBarrier j item.0 };
+
     fn read(context: &mut Context, value: &Value<'_>) -> Result<Code<Barrier>, Failure> {
         Ok(Code(flags(
             context,
@@ -20,6 +25,8 @@ impl Read for Code<Barrier> {
 }
 
 impl Read for Code<SwitchValue> {
+    ghost reads = { λ j item. IsSwitchValue j item.0 };
+
     fn read(context: &mut Context, value: &Value<'_>) -> Result<Code<SwitchValue>, Failure> {
         let Variant { name, data } = Variant::of(context, value)?;
         let found = match (name, data) {
@@ -32,54 +39,74 @@ impl Read for Code<SwitchValue> {
     }
 }
 
+impl Spelled for Code<Direction> {
+    ghost spelling = { λ item. direction_name item.0 };
+}
+
 impl Read for Code<Direction> {
+    ghost reads = { λ j item. IsDirection j item.0 };
+
     fn read(context: &mut Context, value: &Value<'_>) -> Result<Code<Direction>, Failure> {
         let table = [
-            ("X", Direction::X),
-            ("Y", Direction::Y),
-            ("Diagonal", Direction::Diagonal),
+            ("X", Code(Direction::X)),
+            ("Y", Code(Direction::Y)),
+            ("Diagonal", Code(Direction::Diagonal)),
         ];
-        Ok(Code(named(context, value, &table, "`X`, `Y` or `Diagonal`")?))
+        named(context, value, &table, "`X`, `Y` or `Diagonal`")
     }
+}
+
+impl Spelled for Code<SubgroupOperation> {
+    ghost spelling = { λ item. operation_name item.0 };
 }
 
 impl Read for Code<SubgroupOperation> {
+    ghost reads = { λ j item. IsOperation j item.0 };
+
     fn read(context: &mut Context, value: &Value<'_>) -> Result<Code<SubgroupOperation>, Failure> {
         let table = [
-            ("All", SubgroupOperation::All),
-            ("Any", SubgroupOperation::Any),
-            ("Add", SubgroupOperation::Add),
-            ("Mul", SubgroupOperation::Mul),
-            ("Min", SubgroupOperation::Min),
-            ("Max", SubgroupOperation::Max),
-            ("And", SubgroupOperation::And),
-            ("Or", SubgroupOperation::Or),
-            ("Xor", SubgroupOperation::Xor),
+            ("All", Code(SubgroupOperation::All)),
+            ("Any", Code(SubgroupOperation::Any)),
+            ("Add", Code(SubgroupOperation::Add)),
+            ("Mul", Code(SubgroupOperation::Mul)),
+            ("Min", Code(SubgroupOperation::Min)),
+            ("Max", Code(SubgroupOperation::Max)),
+            ("And", Code(SubgroupOperation::And)),
+            ("Or", Code(SubgroupOperation::Or)),
+            ("Xor", Code(SubgroupOperation::Xor)),
         ];
-        Ok(Code(named(context, value, &table, "the name of a subgroup operation")?))
+        named(context, value, &table, "the name of a subgroup operation")
     }
 }
 
+impl Spelled for Code<CollectiveOperation> {
+    ghost spelling = { λ item. collective_name item.0 };
+}
+
 impl Read for Code<CollectiveOperation> {
+    ghost reads = { λ j item. IsCollective j item.0 };
+
     fn read(
         context: &mut Context,
         value: &Value<'_>,
     ) -> Result<Code<CollectiveOperation>, Failure> {
         let table = [
-            ("Reduce", CollectiveOperation::Reduce),
-            ("InclusiveScan", CollectiveOperation::InclusiveScan),
-            ("ExclusiveScan", CollectiveOperation::ExclusiveScan),
+            ("Reduce", Code(CollectiveOperation::Reduce)),
+            ("InclusiveScan", Code(CollectiveOperation::InclusiveScan)),
+            ("ExclusiveScan", Code(CollectiveOperation::ExclusiveScan)),
         ];
-        Ok(Code(named(
+        named(
             context,
             value,
             &table,
             "`Reduce`, `InclusiveScan` or `ExclusiveScan`",
-        )?))
+        )
     }
 }
 
 impl Read for Code<AtomicFunction> {
+    ghost reads = { λ j item. IsAtomic j item.0 };
+
     fn read(context: &mut Context, value: &Value<'_>) -> Result<Code<AtomicFunction>, Failure> {
         let Variant { name, data } = Variant::of(context, value)?;
         let found = match (name, data) {
@@ -100,6 +127,8 @@ impl Read for Code<AtomicFunction> {
 }
 
 impl Read for Code<GatherMode> {
+    ghost reads = { λ j item. IsMode j item.0 };
+
     fn read(context: &mut Context, value: &Value<'_>) -> Result<Code<GatherMode>, Failure> {
         let Variant { name, data } = Variant::of(context, value)?;
         let found = match (name, data) {
@@ -120,6 +149,8 @@ impl Read for Code<GatherMode> {
 }
 
 impl Read for Code<RayQueryFunction> {
+    ghost reads = { λ j item. IsQueryFunction j item.0 };
+
     fn read(context: &mut Context, value: &Value<'_>) -> Result<Code<RayQueryFunction>, Failure> {
         let Variant { name, data } = Variant::of(context, value)?;
         let found = match (name, data) {
@@ -149,6 +180,8 @@ impl Read for Code<RayQueryFunction> {
 }
 
 impl Read for Code<RayPipelineFunction> {
+    ghost reads = { λ j item. IsPipelineFunction j item.0 };
+
     fn read(
         context: &mut Context,
         value: &Value<'_>,

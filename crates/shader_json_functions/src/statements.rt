@@ -1,28 +1,40 @@
-//! Statements, and blocks of them.
+//! Reads statements and blocks.
+ghost use Rattle.std.specs.Prelude.{IfOk, None, Some, codes};
+ghost use Rattle.json.specs.Json.{object};
+ghost use Rattle.json.specs.Value.{members_view, value_view};
+ghost use Rattle.shader_ir.specs.BodyOf.{cases_of, step_of};
+ghost use Rattle.shader_json_functions.specs.Statements.{AreCases, IsBlock, IsCase, IsStatement, IsStepOf};
+ghost use Rattle.shader_json_reader.specs.Numbers.{IsUnsigned};
+ghost use Rattle.shader_json_reader.specs.Shapes.{IsArray, IsOnly, values_of};
 
 use crate::code::Code;
 use json::{MAX_DEPTH, Value};
 use shader_arena::Handle;
 use shader_ir::{Block, Statement, SwitchCase, mark};
-use shader_json_data::{Data, Fields, Read, Variant};
+use shader_json_declarations::{Data, Fields, Read, Variant};
 use shader_json_expressions::Tile;
-use shader_json_values::{Context, Failure, within};
+use shader_json_reader::{Context, Failure, within};
 
 /// The statements of a function.
 #[derive(Drop)]
 pub(crate) struct Body(pub Block);
 
 impl Read for Body {
+    ghost reads = { λ j body. IsBlock j body.0 };
+
     fn read(context: &mut Context, value: &Value<'_>) -> Result<Body, Failure> {
         Ok(Body(block(context, MAX_DEPTH, value)?))
     }
 }
 
-/// What stands for the old value of an atomic. Naga may leave it out, and a module here can't.
+/// The expression that stands for the old value of an atomic. Naga may omit it, but a module here
+/// has to have it.
 #[derive(Drop)]
 struct OldValue(Handle<mark::Expression>);
 
 impl Read for OldValue {
+    ghost reads = { λ j old. IsUnsigned j old.0 };
+
     fn read(context: &mut Context, value: &Value<'_>) -> Result<OldValue, Failure> {
         if value.is_null() {
             return Err(context.refused(
@@ -33,9 +45,11 @@ impl Read for OldValue {
     }
 }
 
-/// A block in which this many blocks may be in one another.
+/// Reads a block in which blocks nest at most `depth` deep, this one included.
 #[cycle(statement)]
-fn block(context: &mut Context, depth: usize, value: &Value<'_>) -> Result<Block, Failure> {
+fn block(context: &mut Context, depth: usize, value: &Value<'_>) -> Result<Block, Failure>
+    ensures { IfOk result (λ block. IsBlock (value_view value.now) block) }
+{
     let Value::Array(items) = value else {
         return Err(context.refused("an array"));
     };
@@ -44,14 +58,30 @@ fn block(context: &mut Context, depth: usize, value: &Value<'_>) -> Result<Block
     }
     let mut statements = Vec::with_capacity(context.alloc, items.len())?;
     for (index, item) in items.iter().enumerate() {
-        statements.push(within(index, statement(context, depth - 1, item))?)?;
+        let read = statement_at(context, depth - 1, index, item)?;
+        statements.push(read)?;
     }
     Ok(Block { statements })
 }
 
-/// A statement in which this many blocks may be in one another.
+/// Reads the statement of this index, in which blocks nest at most `depth` deep.
 #[cycle(statement)]
-fn statement(context: &mut Context, depth: usize, value: &Value<'_>) -> Result<Statement, Failure> {
+fn statement_at(
+    context: &mut Context,
+    depth: usize,
+    index: usize,
+    value: &Value<'_>,
+) -> Result<Statement, Failure>
+    ensures { IfOk result (λ statement. IsStatement (value_view value.now) (step_of statement)) }
+{
+    within(index, statement(context, depth, value))
+}
+
+/// Reads a statement in which blocks nest at most `depth` deep.
+#[cycle(statement)]
+fn statement(context: &mut Context, depth: usize, value: &Value<'_>) -> Result<Statement, Failure>
+    ensures { IfOk result (λ statement. IsStatement (value_view value.now) (step_of statement)) }
+{
     let Variant { name, data } = Variant::of(context, value)?;
     let Some(data) = data else {
         return bare(context, name);
@@ -85,53 +115,76 @@ fn statement(context: &mut Context, depth: usize, value: &Value<'_>) -> Result<S
     }
 }
 
-/// A block that is a field.
+/// Reads a block from a field.
 #[cycle(statement)]
 fn inner(
     context: &mut Context,
     depth: usize,
     fields: Fields<'_, '_>,
     name: &'static str,
-) -> Result<Block, Failure> {
+) -> Result<Block, Failure>
+    ensures { IfOk result (λ block. IsOnly (λ j. IsBlock j block) (values_of name.now (members_view fields.entry.members.now))) }
+{
     match fields.member(context, name) {
         Ok((index, value)) => fields.seen(within(index, block(context, depth, value))),
         Err(failure) => fields.seen(Err(failure)),
     }
 }
 
-/// The cases of a switch.
+/// Reads the cases of a switch from a field.
 #[cycle(statement)]
 fn cases(
     context: &mut Context,
     depth: usize,
     fields: Fields<'_, '_>,
-) -> Result<Vec<SwitchCase>, Failure> {
+) -> Result<Vec<SwitchCase>, Failure>
+    ensures { IfOk result (λ cases. IsOnly (λ j. IsArray j (λ js. AreCases (cases_of cases.items) js))
+        (values_of (codes "cases") (members_view fields.entry.members.now))) }
+{
     match fields.member(context, "cases") {
         Ok((index, value)) => fields.seen(within(index, case_list(context, depth, value))),
         Err(failure) => fields.seen(Err(failure)),
     }
 }
 
-/// The cases of a switch, from an array.
+/// Reads the cases of a switch from an array.
 #[cycle(statement)]
 fn case_list(
     context: &mut Context,
     depth: usize,
     value: &Value<'_>,
-) -> Result<Vec<SwitchCase>, Failure> {
+) -> Result<Vec<SwitchCase>, Failure>
+    ensures { IfOk result (λ cases. IsArray (value_view value.now) (λ js. AreCases (cases_of cases.items) js)) }
+{
     let Value::Array(items) = value else {
         return Err(context.refused("an array"));
     };
     let mut cases = Vec::with_capacity(context.alloc, items.len())?;
     for (index, item) in items.iter().enumerate() {
-        cases.push(within(index, case(context, depth, item))?)?;
+        let read = case_at(context, depth, index, item)?;
+        cases.push(read)?;
     }
     Ok(cases)
 }
 
-/// A case of a switch.
+/// Reads the case of this index.
 #[cycle(statement)]
-fn case(context: &mut Context, depth: usize, value: &Value<'_>) -> Result<SwitchCase, Failure> {
+fn case_at(
+    context: &mut Context,
+    depth: usize,
+    index: usize,
+    value: &Value<'_>,
+) -> Result<SwitchCase, Failure>
+    ensures { IfOk result (λ case. IsCase (value_view value.now) case.value case.body case.fall_through) }
+{
+    within(index, case(context, depth, value))
+}
+
+/// Reads a case of a switch.
+#[cycle(statement)]
+fn case(context: &mut Context, depth: usize, value: &Value<'_>) -> Result<SwitchCase, Failure>
+    ensures { IfOk result (λ case. IsCase (value_view value.now) case.value case.body case.fall_through) }
+{
     let fields = Fields::of(context, value)?;
     let Code(selected) = fields.needed(context, "value")?;
     Ok(SwitchCase {
@@ -141,8 +194,10 @@ fn case(context: &mut Context, depth: usize, value: &Value<'_>) -> Result<Switch
     })
 }
 
-/// A statement without operands.
-fn bare(context: &Context, name: &str) -> Result<Statement, Failure> {
+/// Reads a statement without operands.
+fn bare(context: &Context, name: &str) -> Result<Statement, Failure>
+    ensures { IfOk result (λ statement. IsStepOf (step_of statement) name.now None) }
+{
     match name {
         "Break" => Ok(Statement::Break),
         "Continue" => Ok(Statement::Continue),
@@ -151,8 +206,10 @@ fn bare(context: &Context, name: &str) -> Result<Statement, Failure> {
     }
 }
 
-/// A statement that evaluates, leaves, waits, or calls.
-fn flow(context: &mut Context, name: &str, data: Data<'_, '_>) -> Result<Statement, Failure> {
+/// Reads a statement that evaluates, leaves, waits or calls, or else one that `store` reads.
+fn flow(context: &mut Context, name: &str, data: Data<'_, '_>) -> Result<Statement, Failure>
+    ensures { IfOk result (λ statement. IsStepOf (step_of statement) name.now (Some (value_view «data».entry.value.now))) }
+{
     match name {
         "Emit" => Ok(Statement::Emit(data.read(context)?)),
         "Return" => Ok(Statement::Return {
@@ -179,8 +236,11 @@ fn flow(context: &mut Context, name: &str, data: Data<'_, '_>) -> Result<Stateme
     }
 }
 
-/// A statement that writes, or that loads for a whole work group.
-fn store(context: &mut Context, name: &str, data: Data<'_, '_>) -> Result<Statement, Failure> {
+/// Reads a statement that writes or that loads for a whole work group, or else one that `atomic`
+/// reads.
+fn store(context: &mut Context, name: &str, data: Data<'_, '_>) -> Result<Statement, Failure>
+    ensures { IfOk result (λ statement. IsStepOf (step_of statement) name.now (Some (value_view «data».entry.value.now))) }
+{
     match name {
         "Store" => {
             let (pointer, value) = data.pair(context, "pointer", "value")?;
@@ -208,8 +268,10 @@ fn store(context: &mut Context, name: &str, data: Data<'_, '_>) -> Result<Statem
     }
 }
 
-/// An atomic operation, or what is done with rays.
-fn atomic(context: &mut Context, name: &str, data: Data<'_, '_>) -> Result<Statement, Failure> {
+/// Reads an atomic operation or an operation on rays, or else a statement that `subgroup` reads.
+fn atomic(context: &mut Context, name: &str, data: Data<'_, '_>) -> Result<Statement, Failure>
+    ensures { IfOk result (λ statement. IsStepOf (step_of statement) name.now (Some (value_view «data».entry.value.now))) }
+{
     match name {
         "Atomic" => {
             let fields = data.fields(context)?;
@@ -250,8 +312,10 @@ fn atomic(context: &mut Context, name: &str, data: Data<'_, '_>) -> Result<State
     }
 }
 
-/// An operation of a subgroup.
-fn subgroup(context: &mut Context, name: &str, data: Data<'_, '_>) -> Result<Statement, Failure> {
+/// Reads an operation of a subgroup.
+fn subgroup(context: &mut Context, name: &str, data: Data<'_, '_>) -> Result<Statement, Failure>
+    ensures { IfOk result (λ statement. IsStepOf (step_of statement) name.now (Some (value_view «data».entry.value.now))) }
+{
     match name {
         "SubgroupBallot" => {
             let fields = data.fields(context)?;
@@ -275,8 +339,11 @@ fn subgroup(context: &mut Context, name: &str, data: Data<'_, '_>) -> Result<Sta
     }
 }
 
-/// An operation that a whole subgroup computes.
-fn collective(context: &mut Context, fields: Fields<'_, '_>) -> Result<Statement, Failure> {
+/// Reads an operation that a whole subgroup computes.
+fn collective(context: &mut Context, fields: Fields<'_, '_>) -> Result<Statement, Failure>
+    ensures { IfOk result (λ statement. IsStepOf (step_of statement) (codes "SubgroupCollectiveOperation")
+        (Some (object (members_view fields.entry.members.now)))) }
+{
     let (Code(op), Code(collective_op)) = fields.pair(context, "op", "collective_op")?;
     let (argument, result) = fields.pair(context, "argument", "result")?;
     Ok(Statement::SubgroupCollectiveOperation {

@@ -10,7 +10,7 @@ use Rattle.shader_ir.specs.declared.proc.type_resolution.TypeResolution.TheVaria
 use Rattle.shader_ir.specs.Conversion.{conversion}
 use Rattle.shader_ir.specs.Key.{InnerKey, StructKey, canonical, inner_of, key_of, pointer_at, pointer_to, IsNoStruct}
 use Rattle.shader_ir.specs.TypeTree.{TypeTree, tree_of}
-use Rattle.shader_ir.proofs.KeyLemmas.{key_of-no_struct, key_of-struct, StructKey-told}
+use Rattle.shader_ir.proofs.KeyLemmas.{key_of-no_struct, key_of-struct, StructKey-reported}
 use Rattle.shader_overloads.specs.declared.rule.Rule.{Rule}
 use Rattle.shader_overloads.specs.AcceptanceLaws.{AcceptsByKey, AcceptsCanonicalForms}
 use Rattle.shader_overloads.specs.Remaining.{accepts, argument_at, list_accepts, list_takes, some_list_takes, some_takes, takes}
@@ -117,8 +117,8 @@ module _ (all : List «Type») where
       | inr second ↦ let both : InnerKey (canonical all ty) ≡ StructKey second.0 = sym first ∙ same ∙ second.2 in absurd (cc)
     ]
     | inr first ↦
-        let told = StructKey-told all right first.0 (sym same ∙ first.2) in
-        let found : Some ty ≡ Some other = sym d ∙ ap (inner_of all) (first.1 ∙ sym told) ∙ e in
+        let reported = StructKey-reported all right first.0 (sym same ∙ first.2) in
+        let found : Some ty ≡ Some other = sym d ∙ ap (inner_of all) (first.1 ∙ sym reported) ∙ e in
         let is : ty ≡ other = cc in
         ap (canonical all) is
   ]

@@ -1,4 +1,4 @@
--- Regular sets and lists accept alike on the rules of the builtins.
+-- Regular sets and lists accept the same types on the rules of the built-in functions.
 use Rattle.std.proofs.Common.{◌≡◌, ◌∙◌, ap, sym, refl, ℕ, zero, suc, Bool, true, false, not}
 use Rattle.std.proofs.Common.{cond, ◌&&◌, ◌||◌, List, [], ◌∷◌, Option, Some, None, slice_get}
 use Rattle.std.specs.Option.{option_and_then}
@@ -23,30 +23,30 @@ use Rattle.shader_overloads.specs.Remaining.{leaf_scalar, list_takes, some_list_
 use Rattle.shader_overloads.specs.SameType.{same_type}
 use Rattle.shader_overloads.proofs.BuiltinLemmas.{is_named_inner, is_named_argument, is_named_rule, rules_named}
 use Rattle.shader_overloads.proofs.SetLemmas.{same_scalar_self, same_size_self}
-use Rattle.shader_overloads.proofs.TakesLemmas.{same_type-told}
+use Rattle.shader_overloads.proofs.TakesLemmas.{same_type-reported}
 
 -- ---- scalars
 
-same_kind_told : (j k : ScalarKind) → same_kind j k ≡ true → j ≡ k
-same_kind_told kinds.Sint kinds.Sint h = refl
-same_kind_told kinds.Uint kinds.Uint h = refl
-same_kind_told kinds.Float kinds.Float h = refl
-same_kind_told kinds.Bool kinds.Bool h = refl
-same_kind_told kinds.AbstractInt kinds.AbstractInt h = refl
-same_kind_told kinds.AbstractFloat kinds.AbstractFloat h = refl
-same_kind_told j k h = absurd (both_ways false refl h)
+same_kind_reported : (j k : ScalarKind) → same_kind j k ≡ true → j ≡ k
+same_kind_reported kinds.Sint kinds.Sint h = refl
+same_kind_reported kinds.Uint kinds.Uint h = refl
+same_kind_reported kinds.Float kinds.Float h = refl
+same_kind_reported kinds.Bool kinds.Bool h = refl
+same_kind_reported kinds.AbstractInt kinds.AbstractInt h = refl
+same_kind_reported kinds.AbstractFloat kinds.AbstractFloat h = refl
+same_kind_reported j k h = absurd (both_ways false refl h)
 
-pub same_scalar_told : (a b : s.Scalar) → same_scalar a b ≡ true → a ≡ b
-same_scalar_told a b h =
+pub same_scalar_reported : (a b : s.Scalar) → same_scalar a b ≡ true → a ≡ b
+same_scalar_reported a b h =
     let parts = and_parts (same_kind a.kind b.kind) _ h in
-    ap (λ k. scalar k a.width) (same_kind_told a.kind b.kind parts.0) ∙ ap (λ w. scalar b.kind w) (eqb-true a.width b.width parts.1)
+    ap (λ k. scalar k a.width) (same_kind_reported a.kind b.kind parts.0) ∙ ap (λ w. scalar b.kind w) (eqb-true a.width b.width parts.1)
 
 has_all_step : (p : s.Scalar → Bool) (a b : s.Scalar) (all : List s.Scalar) (found : Bool) → same_scalar a b ≡ found →
     (found || list_any (same_scalar a) all) ≡ true → p b ≡ true → (list_any (same_scalar a) all ≡ true → p a ≡ true) → p a ≡ true
-has_all_step p a b all true e h here later = ap p (same_scalar_told a b e) ∙ here
+has_all_step p a b all true e h here later = ap p (same_scalar_reported a b e) ∙ here
 has_all_step p a b all false e h here later = later h
 
--- what holds of all scalars of a list holds of each that it has
+-- a property of all scalars of a list holds of each scalar in it
 pub has_all : (p : s.Scalar → Bool) (a : s.Scalar) (all : List s.Scalar) → list_any (same_scalar a) all ≡ true →
     list_all p all ≡ true → p a ≡ true
 has_all p a [] any each = absurd (both_ways false refl any)
@@ -60,7 +60,7 @@ decided true false h = absurd (both_ways false refl h)
 decided false true h = absurd (both_ways false refl h)
 decided false false h = refl
 
--- of scalars with names, those convert that are listed
+-- the conversions between named scalars are those listed
 converts_named : (a b : s.Scalar) → is_named a ≡ true → is_named b ≡ true → scalar_converts a b ≡ is_convertible a b
 converts_named a b m n =
     let from = has_all (λ from. list_all (λ to. cond (scalar_converts from to) (is_convertible from to) (not (is_convertible from to)))
@@ -72,14 +72,14 @@ converts_self a b e = ap (scalar_converts a) (sym e) ∙ ap (λ v. v || kind_con
 
 -- ---- types
 
--- whether an argument of the second type has the constructor of the first, and a scalar to which the first's converts by its kind
+-- whether an argument of the second type has the constructor of the first, and a scalar to whose kind that of the first converts
 abbrev pub plain_takes : TypeInner → TypeInner → Bool
 plain_takes (Scalar a) (Scalar b) = scalar_converts a b
 plain_takes (Vector p a) (Vector q b) = same_size p q && scalar_converts a b
 plain_takes (Matrix p q a) (Matrix c r b) = same_size p c && same_size q r && scalar_converts a b
 plain_takes _ _ = false
 
--- so it is in a regular set, of scalars with names
+-- regular sets accept by this test, for named scalars
 pub takes_plainly : (ty inner : TypeInner) → is_named_or_none (leaf_scalar ty) ≡ true → is_named_inner inner ≡ true →
     takes ty inner ≡ plain_takes ty inner
 takes_plainly (Scalar a) (Scalar b) m n = sym (converts_named a b m n)
@@ -128,40 +128,45 @@ all_at p (y ∷ xs) zero x h at = let same : y ≡ x = cc in ap p (sym same) ∙
 all_at p (y ∷ xs) (suc k) x h at = all_at p xs k x (and_parts (p y) (list_all p xs) h).1 at
 
 module _ (all : List «Type») where
-  -- a pointer is no type of a builtin's argument
+  -- a pointer is never the type of a built-in function's argument
   pointer_other : (base : ℕ) (space : AddressSpace) (inner : TypeInner) → is_named_inner inner ≡ true →
       same_type (pointer_at base space (slice_get all base)) inner ≡ true → ⊥
   pointer_other base space inner n e =
-      both_ways (is_named_inner inner) (sym (ap is_named_inner (same_type-told _ inner e))
+      both_ways (is_named_inner inner) (sym (ap is_named_inner (same_type-reported _ inner e))
       ∙ pointer_at-unnamed base space (slice_get all base)) n
 
   other : (ty inner : TypeInner) → is_named_inner ty ≡ false → is_named_inner inner ≡ true → same_type ty inner ≡ true → ⊥
-  other ty inner unnamed n e = both_ways (is_named_inner inner) (sym (ap is_named_inner (same_type-told ty inner e)) ∙ unnamed) n
+  other ty inner unnamed n e = both_ways (is_named_inner inner) (sym (ap is_named_inner (same_type-reported ty inner e)) ∙ unnamed) n
 
-  -- in a list, an argument of a builtin takes what has its constructor and a scalar that converts to its scalar
+  -- in a list, an argument of a built-in function accepts values of its constructor whose scalar converts to its scalar
   pub list_takes_plainly : (ty inner : TypeInner) → is_named_inner inner ≡ true → plain_takes ty inner ≡ list_takes all ty inner
   list_takes_plainly (Scalar a) (Scalar b) n =
       sym (some_conversion a b)
-      ∙ sym (absorbed (same_type (Scalar a) (Scalar b)) _ (λ e. let told = same_type-told (Scalar a) (Scalar b) e in let same : a ≡ b =
+      ∙ sym (absorbed (same_type (Scalar a) (Scalar b)) _ (λ e. let reported = same_type-reported (Scalar a) (Scalar b) e in let same :
+      a ≡ b =
       cc in some_conversion a b ∙ converts_self a b same))
-  list_takes_plainly (Scalar a) (Vector q b) n = mixed _ (λ e. let told = same_type-told (Scalar a) (Vector q b) e in absurd (cc))
-  list_takes_plainly (Scalar a) (Matrix p q b) n = mixed _ (λ e. let told = same_type-told (Scalar a) (Matrix p q b) e in absurd (cc))
-  list_takes_plainly (Vector p a) (Scalar b) n = mixed _ (λ e. let told = same_type-told (Vector p a) (Scalar b) e in absurd (cc))
+  list_takes_plainly (Scalar a) (Vector q b) n = mixed _ (λ e. let reported = same_type-reported (Scalar a) (Vector q b) e in absurd (cc))
+  list_takes_plainly (Scalar a) (Matrix p q b) n =
+      mixed _ (λ e. let reported = same_type-reported (Scalar a) (Matrix p q b) e in absurd (cc))
+  list_takes_plainly (Vector p a) (Scalar b) n = mixed _ (λ e. let reported = same_type-reported (Vector p a) (Scalar b) e in absurd (cc))
   list_takes_plainly (Vector p a) (Vector q b) n =
       sym (shaped_conversion (same_size p q) a b)
       ∙ sym (absorbed (same_type (Vector p a) (Vector q b)) _ (λ e.
-      let told = same_type-told (Vector p a) (Vector q b) e in
+      let reported = same_type-reported (Vector p a) (Vector q b) e in
       let size : p ≡ q = cc in
       let same : a ≡ b = cc in
       shaped_conversion (same_size p q) a b ∙ and_from _ _ (ap (same_size p) (sym size) ∙ same_size_self p) (converts_self a b same)))
-  list_takes_plainly (Vector p a) (Matrix q r b) n = mixed _ (λ e. let told = same_type-told (Vector p a) (Matrix q r b) e in absurd (cc))
-  list_takes_plainly (Matrix p q a) (Scalar b) n = mixed _ (λ e. let told = same_type-told (Matrix p q a) (Scalar b) e in absurd (cc))
-  list_takes_plainly (Matrix p q a) (Vector r b) n = mixed _ (λ e. let told = same_type-told (Matrix p q a) (Vector r b) e in absurd (cc))
+  list_takes_plainly (Vector p a) (Matrix q r b) n =
+      mixed _ (λ e. let reported = same_type-reported (Vector p a) (Matrix q r b) e in absurd (cc))
+  list_takes_plainly (Matrix p q a) (Scalar b) n =
+      mixed _ (λ e. let reported = same_type-reported (Matrix p q a) (Scalar b) e in absurd (cc))
+  list_takes_plainly (Matrix p q a) (Vector r b) n =
+      mixed _ (λ e. let reported = same_type-reported (Matrix p q a) (Vector r b) e in absurd (cc))
   list_takes_plainly (Matrix p q a) (Matrix c r b) n =
       and_assoc (same_size p c) (same_size q r) (scalar_converts a b)
       ∙ sym (shaped_conversion (same_size p c && same_size q r) a b)
       ∙ sym (absorbed (same_type (Matrix p q a) (Matrix c r b)) _ (λ e.
-      let told = same_type-told (Matrix p q a) (Matrix c r b) e in
+      let reported = same_type-reported (Matrix p q a) (Matrix c r b) e in
       let columns : p ≡ c = cc in
       let rows : q ≡ r = cc in
       let same : a ≡ b = cc in
@@ -192,6 +197,6 @@ module _ (all : List «Type») where
   found_agrees ty arguments i (Some argument) at m n = argument_agrees ty argument m (all_at is_named_argument arguments i argument n at)
 
 pub acceptances_agree : AcceptancesAgree
-acceptances_agree all function place i ty rule named at =
+acceptances_agree all function position i ty rule named at =
     found_agrees all ty rule.arguments i (slice_get rule.arguments i) refl named
-    (all_at is_named_rule (rules_of function) place rule (rules_named function) at)
+    (all_at is_named_rule (rules_of function) position rule (rules_named function) at)

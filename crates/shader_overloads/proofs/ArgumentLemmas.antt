@@ -1,4 +1,4 @@
--- The arguments of a place of more rules.
+-- The arguments at a position, of one more rule.
 use Rattle.std.proofs.Common.{◌≡◌, ◌∙◌, ◌+◌, ℕ, zero, suc, ◌<◌, ◌≤◌, List, [], ◌∷◌, ◌++◌, Option}
 use Rattle.std.proofs.Common.{Some, None, slice_get, take, length, get_or, ap, refl, sym, arith}
 use Rattle.std.specs.List.{cons_option, filter_map}
@@ -24,7 +24,7 @@ slice_get-past [] i h = refl
 slice_get-past (x ∷ xs) zero h = absurd (omega arith)
 slice_get-past (x ∷ xs) (suc i) h = slice_get-past xs i (omega arith)
 
--- where no rule is so long, none has an argument of the place
+-- if every rule is too short, none has an argument at the position
 no_arguments : (i : ℕ) (rules : List Rule) → ((k : ℕ) (rule : Rule) → slice_get rules k ≡ Some rule → length rule.arguments ≤ i) →
     arguments_at i rules ≡ []
 no_arguments i [] short = refl
@@ -41,7 +41,7 @@ none_from_nil : {X : Type 0} (found : Option X) (xs : List X) → cons_option fo
 none_from_nil None xs e = (refl, e)
 none_from_nil (Some x) xs e = cc
 
--- where a rule is longer, one has
+-- if some rule is long enough, one has
 some_arguments : (i : ℕ) (rules : List Rule) (k : ℕ) (rule : Rule) → slice_get rules k ≡ Some rule → i < length rule.arguments →
     arguments_at i rules ≡ [] → ⊥
 some_arguments i [] k rule at long e = cc

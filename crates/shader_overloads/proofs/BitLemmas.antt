@@ -14,19 +14,19 @@ use Rattle.std.proofs.lemmas.Nat.Bits.{bit_at_ones_above, bit_at_cat_low, bit_at
 use Rattle.shader_overloads.specs.Bits.{has_bit, one_bits, items_where}
 use Rattle.shader_overloads.proofs.ListLemmas.{Front, items_where-front, items_where-none, items_where-split, first_within}
 
--- the lowest set bit of n stands at `place`, below w, and `rest` is what stands above it
+-- the lowest set bit of n is at `position`, below w, and `rest` is the number without it
 pub record Lowest (w n : ℕ) : Type 0 where
-  pub place : ℕ
+  pub position : ℕ
   pub rest : ℕ
-  pub below : place < w
-  pub is : n ≡ rest * 2 ^ (suc place) + 2 ^ place
+  pub below : position < w
+  pub is : n ≡ rest * 2 ^ (suc position) + 2 ^ position
 
 double : (w n : ℕ) → n ≡ 2 * (n / 2) → Lowest w (n / 2) → Lowest (suc w) n
 double w n even l = record {
-  place = suc l.place;
+  position = suc l.position;
   rest = l.rest;
   below = omega arith;
-  is = even ∙ ap (λ m. 2 * m) l.is ∙ rw (pow-succ' 2 (suc l.place), pow-succ' 2 l.place) (omega arith);
+  is = even ∙ ap (λ m. 2 * m) l.is ∙ rw (pow-succ' 2 (suc l.position), pow-succ' 2 l.position) (omega arith);
 }
 
 pub lowest : (w n : ℕ) → 0 < n → n < 2 ^ w → Lowest w n
@@ -34,13 +34,13 @@ lowest zero n some fits = absurd (omega arith)
 lowest (suc w) n some fits =
     let half : n < 2 * 2 ^ w = rw (← pow-succ' 2 w) fits in
     elim (cases_lt 0 (n % 2)) [
-      | inl odd ↦ record { place = 0; rest = n / 2; below = omega arith; is = omega arith }
+      | inl odd ↦ record { position = 0; rest = n / 2; below = omega arith; is = omega arith }
       | inr even ↦ double w n (omega arith) (lowest w (n / 2) (omega arith) (omega arith))
     ]
 
 -- bit i of a number whose bits from suc k on are those of a
-below_place : (a k b i : ℕ) → i < suc k → bit_at (a * 2 ^ suc k + b) i ≡ bit_at b i
-below_place a k b i h = bit_at_cat_low a (suc k) b i h
+below_position : (a k b i : ℕ) → i < suc k → bit_at (a * 2 ^ suc k + b) i ≡ bit_at b i
+below_position a k b i h = bit_at_cat_low a (suc k) b i h
 
 module _ (n k a : ℕ) (is : n ≡ a * 2 ^ suc k + 2 ^ k) where
   one_less : n - 1 ≡ a * 2 ^ suc k + (2 ^ k - 1)
@@ -61,7 +61,7 @@ module _ (n k a : ℕ) (is : n ≡ a * 2 ^ suc k + 2 ^ k) where
   less_high : (i : ℕ) → k < i → bit_at (n - 1) i ≡ bit_at a (i - suc k)
   less_high i h = ap (λ m. bit_at m i) one_less ∙ bit_at_cat_high a (suc k) (2 ^ k - 1) i (omega (arith, small)) (omega arith)
 
-  -- without its lowest bit
+  -- the number without its lowest bit
   pub rest_low : (i : ℕ) → i ≤ k → bit_at (bit_and n (n - 1)) i ≡ 0
   rest_low i h = elim (cases_order i k) [
     | inl e ↦ let z : bit_at (n - 1) i ≡ 0 = less_low i (omega arith) ∙ ap (bit_at (2 ^ k - 1)) e ∙ bit_at_ones_above k k (omega arith) in
@@ -102,7 +102,7 @@ module _ (n k a : ℕ) (is : n ≡ a * 2 ^ suc k + 2 ^ k) where
         ]
   ])
 
--- the first number of a run that passes p, where q passes only those after it
+-- the first number of a run that passes p, if q passes only those after it
 module _ (p q : ℕ → Bool) (k : ℕ) (none : (i : ℕ) → i < k → p i ≡ false) (here : p k ≡ true) (gone : (i : ℕ) → i ≤ k →
     q i ≡ false) (same : (i : ℕ) → k < i → q i ≡ p i) where
   after_first : (s w : ℕ) → k < s → filter p (range_with_len s w) ≡ filter q (range_with_len s w)
@@ -122,15 +122,15 @@ module _ (p q : ℕ → Bool) (k : ℕ) (none : (i : ℕ) → i < k → p i ≡ 
 step_at : (n : ℕ) → n < 2 ^ 64 → Lowest 64 n → one_bits n ≡ bit_and n (2 ^ 64 - 1 - (n - 1)) ∷ one_bits (bit_and n (n - 1))
 unfolding one_bits
 step_at n fits l =
-    ap (map (λ k. 2 ^ k)) (from_first (has_bit n) (has_bit (bit_and n (n - 1))) l.place
-    (λ i h. ap (λ d. nat_eq d 1) (bit_low n l.place l.rest l.is i (omega arith) ∙ bit_at-pow_other l.place i (λ e. omega arith)))
-    (ap (λ d. nat_eq d 1) (bit_low n l.place l.rest l.is l.place (omega arith) ∙ bit_at-pow_same l.place))
-    (λ i h. ap (λ d. nat_eq d 1) (rest_low n l.place l.rest l.is i h))
-    (λ i h. ap (λ d. nat_eq d 1) (rest_high n l.place l.rest l.is i h))
+    ap (map (λ k. 2 ^ k)) (from_first (has_bit n) (has_bit (bit_and n (n - 1))) l.position
+    (λ i h. ap (λ d. nat_eq d 1) (bit_low n l.position l.rest l.is i (omega arith) ∙ bit_at-pow_other l.position i (λ e. omega arith)))
+    (ap (λ d. nat_eq d 1) (bit_low n l.position l.rest l.is l.position (omega arith) ∙ bit_at-pow_same l.position))
+    (λ i h. ap (λ d. nat_eq d 1) (rest_low n l.position l.rest l.is i h))
+    (λ i h. ap (λ d. nat_eq d 1) (rest_high n l.position l.rest l.is i h))
     0 64 (omega arith) (omega (arith, l.below)))
-    ∙ ap (λ (x : ℕ). x ∷ one_bits (bit_and n (n - 1))) (sym (item_is n l.place l.rest l.is w64 fits l.below))
+    ∙ ap (λ (x : ℕ). x ∷ one_bits (bit_and n (n - 1))) (sym (item_is n l.position l.rest l.is w64 fits l.below))
 
--- the next set bit, and those that are left
+-- the next set bit and the remaining ones
 pub one_bits_step : (n : ℕ) → n < 2 ^ 64 → 0 < n → one_bits n ≡ bit_and n (2 ^ 64 - 1 - (n - 1)) ∷ one_bits (bit_and n (n - 1))
 one_bits_step n fits some = step_at n fits (lowest 64 n some fits)
 
@@ -148,13 +148,13 @@ pub record SplitAt (n t : ℕ) : Type 0 where
   pub gone : (i : ℕ) → i ≤ t → has_bit (bit_and n (n - 1)) i ≡ false
   pub same : (i : ℕ) → t < i → has_bit (bit_and n (n - 1)) i ≡ has_bit n i
 
-split_at : (n : ℕ) → n < 2 ^ 16 → (l : Lowest 16 n) → SplitAt n l.place
+split_at : (n : ℕ) → n < 2 ^ 16 → (l : Lowest 16 n) → SplitAt n l.position
 split_at n fits l = record {
-  none = λ i h. ap (λ d. nat_eq d 1) (bit_low n l.place l.rest l.is i (omega arith) ∙ bit_at-pow_other l.place i (λ e. omega arith));
-  here = ap (λ d. nat_eq d 1) (bit_low n l.place l.rest l.is l.place (omega arith) ∙ bit_at-pow_same l.place);
-  item = item_is n l.place l.rest l.is w16 fits l.below;
-  gone = λ i h. ap (λ d. nat_eq d 1) (rest_low n l.place l.rest l.is i h);
-  same = λ i h. ap (λ d. nat_eq d 1) (rest_high n l.place l.rest l.is i h);
+  none = λ i h. ap (λ d. nat_eq d 1) (bit_low n l.position l.rest l.is i (omega arith) ∙ bit_at-pow_other l.position i (λ e. omega arith));
+  here = ap (λ d. nat_eq d 1) (bit_low n l.position l.rest l.is l.position (omega arith) ∙ bit_at-pow_same l.position);
+  item = item_is n l.position l.rest l.is w16 fits l.below;
+  gone = λ i h. ap (λ d. nat_eq d 1) (rest_low n l.position l.rest l.is i h);
+  same = λ i h. ap (λ d. nat_eq d 1) (rest_high n l.position l.rest l.is i h);
 }
 
 -- the first element of a set, the set of it alone, and the set of the others
@@ -174,17 +174,18 @@ pub split : {X : Type 0} (n : ℕ) (xs : List X) (d : X) → n < 2 ^ 16 → item
 split n xs d fits some =
     let l = lowest 16 n (some_bit n xs some) fits in
     let s = split_at n fits l in
-    let within = first_within (has_bit n) xs l.place s.none some in
+    let within = first_within (has_bit n) xs l.position s.none some in
     record {
-      first = get_or xs l.place d;
-      alone = ap (λ m. items_where (has_bit m) xs) s.item ∙ items_where-split (has_bit (2 ^ l.place)) (λ _. false) xs l.place d
-          (λ i h. ap (λ b. nat_eq b 1) (bit_at-pow_other l.place i (λ e. omega arith))) (ap (λ b. nat_eq b 1) (bit_at-pow_same l.place))
-          (λ i h. refl) (λ i h. sym (ap (λ b. nat_eq b 1) (bit_at-pow_other l.place i (λ e. omega arith)))) within
-          ∙ ap (λ ys. get_or xs l.place d ∷ ys) (items_where-none (λ _. false) xs (λ i h. refl));
-      whole = items_where-split (has_bit n) (has_bit (bit_and n (n - 1))) xs l.place d s.none s.here s.gone s.same within;
+      first = get_or xs l.position d;
+      alone = ap (λ m. items_where (has_bit m) xs) s.item ∙ items_where-split (has_bit (2 ^ l.position)) (λ _. false) xs l.position d
+          (λ i h. ap (λ b. nat_eq b 1) (bit_at-pow_other l.position i (λ e. omega arith)))
+          (ap (λ b. nat_eq b 1) (bit_at-pow_same l.position))
+          (λ i h. refl) (λ i h. sym (ap (λ b. nat_eq b 1) (bit_at-pow_other l.position i (λ e. omega arith)))) within
+          ∙ ap (λ ys. get_or xs l.position d ∷ ys) (items_where-none (λ _. false) xs (λ i h. refl));
+      whole = items_where-split (has_bit n) (has_bit (bit_and n (n - 1))) xs l.position d s.none s.here s.gone s.same within;
     }
 
--- the number of zeros below the lowest set bit is the place of the first element
+-- the number of zeros below the lowest set bit is the position of the first element
 pub first_element : {X : Type 0} (w : Width) (n : ℕ) (xs : List X) (d : X) → n < 2 ^ bits w → items_where (has_bit n) xs ≢ [] →
     (trailing_zeros w n < length xs) × Front (items_where (has_bit n) xs) xs (trailing_zeros w n) d
 first_element w n xs d fits some =
@@ -201,7 +202,7 @@ members_step n xs d fits some =
     let s = split n xs d fits some in
     ap (map (λ x. x ∷ [])) s.whole ∙ ap (λ ys. ys ∷ map (λ x. x ∷ []) (items_where (has_bit (bit_and n (n - 1))) xs)) (sym s.alone)
 
--- a set has one element exactly where none is left without its first
+-- a set has one element exactly if none remains without its first
 pub single : {X : Type 0} {n : ℕ} {xs : List X} → Split n xs →
     (items_where (has_bit (bit_and n (n - 1))) xs ≡ [] → length (items_where (has_bit n) xs) ≡ 1) ×
     (length (items_where (has_bit n) xs) ≡ 1 → items_where (has_bit (bit_and n (n - 1))) xs ≡ [])

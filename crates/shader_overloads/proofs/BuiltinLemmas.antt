@@ -1,4 +1,4 @@
--- What holds of each builtin: the arguments of its rules, and the group that it is in.
+-- Properties of each built-in function: the arguments of its rules, and its group.
 use Rattle.std.proofs.Common.{◌≡◌, zero, suc, Bool, true, false, not, List, [], ◌∷◌, Option, Some, None, refl, arith}
 use Rattle.std.specs.List.{All, list_all}
 use Rattle.std.specs.Option.{option_or}
@@ -22,7 +22,7 @@ use Rattle.shader_overloads.specs.Rules.{regular_rules}
 
 -- ---- the arguments of the rules
 
--- a scalar, vector or matrix of a scalar that has a name
+-- the type is a scalar, vector or matrix of a named scalar
 abbrev pub is_named_inner : TypeInner → Bool
 is_named_inner (Scalar a) = is_named a
 is_named_inner (Vector n a) = is_named a
@@ -36,7 +36,7 @@ is_named_argument (Value inner) = is_named_inner inner
 abbrev pub is_named_rule : Rule → Bool
 is_named_rule rule = list_all is_named_argument rule.arguments
 
--- all arguments of the rules of the builtins are over scalars that have names
+-- all arguments of the rules of the built-in functions are over named scalars
 pub rules_named : (function : MathFunction) → list_all is_named_rule (rules_of function) ≡ true
 unfolding regular_rules named_scalars ldexp_rules outer_rules refract_rules transpose_rules extract_bits_rules insert_bits_rules mix_rules
 rules_named f.Abs = refl
@@ -135,7 +135,7 @@ all_from_test P p each [] e k d h = absurd (omega arith)
 all_from_test P p each (x ∷ xs) e zero d h = each x (and_parts (p x) (list_all p xs) e).0
 all_from_test P p each (x ∷ xs) e (suc k) d h = all_from_test P p each xs (and_parts (p x) (list_all p xs) e).1 k d (omega arith)
 
--- so they fit any types
+-- the rules of the built-in functions therefore fit any arena of types
 pub rules_fit : (list : List «Type») (function : MathFunction) → RulesFit list (rules_of function)
 rules_fit list function = record {
   each = all_from_test (RuleFits list) is_named_rule (λ rule e. all_from_test (ArgumentFits list) is_named_argument (argument_fits list)
@@ -147,7 +147,7 @@ rules_fit list function = record {
 abbrev pub rules_among : List MathFunction → MathFunction → Option (List Rule)
 rules_among group function = rules_if (is_among group function) function
 
--- a builtin is in one of the groups, or its set is a list
+-- a built-in function is in one of the groups, or its set is a list
 pub groups_joined : (function : MathFunction)
     → option_or (option_or (option_or (option_or (option_or (rules_among float_functions function) (rules_among number_functions function))
     (rules_among packing_functions function)) (rules_among geometric_functions function)) (rules_among matrix_functions function))
@@ -156,7 +156,7 @@ pub groups_joined : (function : MathFunction)
 groups_joined f.Ldexp = refl
 groups_joined _ = refl
 
--- the rules of the first group that has the builtin are its rules
+-- the rules of the first group that contains the function are its rules
 pub joined : (function : MathFunction) {floats numbers packings vectors matrices splits : Option (List Rule)}
     → floats ≡ rules_among float_functions function → numbers ≡ rules_among number_functions function
     → packings ≡ rules_among packing_functions function → vectors ≡ rules_among geometric_functions function

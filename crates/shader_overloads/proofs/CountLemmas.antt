@@ -1,4 +1,4 @@
--- How many arguments the rules of a set have.
+-- The numbers of arguments of the rules of a set.
 use Rattle.std.proofs.Common.{◌≡◌, ◌≢◌, ◌∙◌, ℕ, zero, suc, List, [], ◌∷◌, ◌++◌, length, map, refl, ap, arith, subst, Some, slice_get}
 use Rattle.std.specs.List.{flat_map}
 use Rattle.std.proofs.lemmas.List.{length-replicate}
@@ -7,17 +7,17 @@ use Rattle.shader_ir.specs.declared.proc.type_resolution.TypeResolution.TheVaria
 use Rattle.shader_overloads.specs.declared.constructor_set.ConstructorSize.{ConstructorSize}
 use Rattle.shader_overloads.specs.declared.mask.Mask.{Mask}
 use Rattle.shader_overloads.specs.declared.regular.ConclusionRule.{ConclusionRule}
-use Rattle.shader_overloads.specs.declared.regular.RegularRows.{RegularRows}
+use Rattle.shader_overloads.specs.declared.regular.RegularTable.{RegularTable}
 use Rattle.shader_overloads.specs.declared.rule.Rule.{Rule}
 use Rattle.shader_ir.specs.Scalars.{named_scalars}
 use Rattle.shader_overloads.specs.Constructors.{all_constructors, to_inner}
 use Rattle.shader_overloads.specs.Counts.{IsCount, IsLeastCount, IsGreatestCount}
-use Rattle.shader_overloads.specs.Masks.{has_place, rules_at}
+use Rattle.shader_overloads.specs.Masks.{has_position, rules_at}
 use Rattle.shader_overloads.specs.Regular.{all_rules}
 use Rattle.shader_overloads.specs.Rules.{regular_rules, rule_for}
-use Rattle.shader_overloads.proofs.ListCountLemmas.{place_of}
+use Rattle.shader_overloads.proofs.ListCountLemmas.{position_of}
 
--- an element of a list, of which each is made by f of some two parts
+-- a property of an element of a list whose elements are built by f from two components
 element_of : {X Y Z : Type 0} (P : Z → Type 0) (f : X → Y → Z) → ((x : X) (y : Y) → P (f x y)) → (x : X) (ys : List Y) (rest : List Z) →
     ((k : ℕ) (z : Z) → slice_get rest k ≡ Some z → P z) → (k : ℕ) (z : Z) → slice_get (map (f x) ys ++ rest) k ≡ Some z → P z
 element_of P f each x [] rest later k z at = later k z at
@@ -44,12 +44,12 @@ some_first : (rules : List Rule) → rules ≢ [] → (rule : Rule) × (slice_ge
 some_first [] some = absurd (some refl)
 some_first (rule ∷ rules) some = (rule, refl)
 
-module _ (table : RegularRows) (mask : Mask) (rules : List Rule) (is : rules_at mask (all_rules table) ≡ rules) where
-  -- so it is of those whose numbers are in a mask
+module _ (table : RegularTable) (mask : Mask) (rules : List Rule) (is : rules_at mask (all_rules table) ≡ rules) where
+  -- each rule whose number is in a mask has the arity
   bound : (k : ℕ) (rule : Rule) → slice_get rules k ≡ Some rule → length rule.arguments ≡ table.arity
   bound k rule at =
-      let r = place_of (has_place mask) (all_rules table) rule k (ap (λ list. slice_get list k) is ∙ at) in
-      count_of table.arity table.conclude all_constructors named_scalars r.place rule r.at
+      let r = position_of (has_position mask) (all_rules table) rule k (ap (λ list. slice_get list k) is ∙ at) in
+      count_of table.arity table.conclude all_constructors named_scalars r.position rule r.at
 
   reached : rules ≢ [] → IsCount table.arity rules
   reached some =

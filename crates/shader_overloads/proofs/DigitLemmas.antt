@@ -8,7 +8,7 @@ use Rattle.std.proofs.lemmas.Nat.{and_mask, mod_below, mul-le, pow_pos, shr_spli
 use Rattle.std.proofs.lemmas.Nat.Bits.{bit_at-lt, bit_at-zero, bit_at_cat_high, bit_at_cat_low}
 use Rattle.shader_overloads.specs.Bits.{has_bit}
 
--- ---- parts of a number
+-- ---- splitting a number
 
 pub low_bits : (n w k : ℕ) → k < w → bit_at (n % 2 ^ w) k ≡ bit_at n k
 low_bits n w k h = sym (bit_at_cat_low (n / 2 ^ w) w (n % 2 ^ w) k h) ∙ ap (λ m. bit_at m k) (shr_split n w)
@@ -45,19 +45,19 @@ digits-bit f zero k each h = absurd (omega arith)
 digits-bit f (suc n) k each h = elim (cases_lt k 12) [
   | inl near ↦
       let group : 0 ≡ k / 12 = omega arith in
-      let place : k ≡ k % 12 = omega arith in
-      bit_at_cat_low (digits (λ i. f (suc i)) n) 12 (f 0) k near ∙ ap (bit_at (f 0)) place ∙ ap (λ i. bit_at (f i) (k % 12)) group
+      let position : k ≡ k % 12 = omega arith in
+      bit_at_cat_low (digits (λ i. f (suc i)) n) 12 (f 0) k near ∙ ap (bit_at (f 0)) position ∙ ap (λ i. bit_at (f i) (k % 12)) group
   | inr far ↦
       let group : suc ((k - 12) / 12) ≡ k / 12 = omega arith in
-      let place : (k - 12) % 12 ≡ k % 12 = omega arith in
+      let position : (k - 12) % 12 ≡ k % 12 = omega arith in
       bit_at_cat_high (digits (λ i. f (suc i)) n) 12 (f 0) k (each 0) far
       ∙ digits-bit (λ i. f (suc i)) n (k - 12) (λ i. each (suc i)) (omega arith)
-      ∙ ap (λ i. bit_at (f i) ((k - 12) % 12)) group ∙ ap (bit_at (f (k / 12))) place
+      ∙ ap (λ i. bit_at (f i) ((k - 12) % 12)) group ∙ ap (bit_at (f (k / 12))) position
 ]
 
 -- ---- the product of two sets of bits
 
--- the bits of a number of five bits, moved twelve places apart
+-- the bits of a number of five bits, moved twelve positions apart
 spread : (groups : ℕ) → groups < 32 → bit_and (groups * 17600780175361) 281543712968705 ≡ digits (bit_at groups) 5
 spread groups h =
     let test = λ (n : ℕ). nat_eq (bit_and (n * 17600780175361) 281543712968705) (digits (bit_at n) 5) in

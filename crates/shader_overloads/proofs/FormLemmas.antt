@@ -1,4 +1,4 @@
--- The lists of the builtins as they are made.
+-- The lists of the built-in functions as they are built.
 use Rattle.std.proofs.Common.{◌≡◌, ◌≤◌, true, List, [], ◌∷◌, length, ap, arith}
 use Rattle.std.specs.List.{flat_map, list_all}
 use Rattle.shader_ir.specs.declared.scalar.VectorSize.TheVariants.{Bi, Tri, Quad}
@@ -17,71 +17,71 @@ matrices =
     ∷ sizes.Matrix Tri Bi ∷ sizes.Matrix Tri Tri ∷ sizes.Matrix Tri Quad
     ∷ sizes.Matrix Quad Bi ∷ sizes.Matrix Quad Tri ∷ sizes.Matrix Quad Quad ∷ []
 
--- the rules of a list that is made are the written ones, which a list can hold
-pub record IsMade (made written : List Rule) : Type 0 where
-  pub is : made ≡ written
-  pub few : length made ≤ 63
-  pub no_struct : list_all has_no_struct made ≡ true
+-- the rules of a built list are the expected ones, which a list can hold
+pub record IsBuilt (built expected : List Rule) : Type 0 where
+  pub is : built ≡ expected
+  pub few : length built ≤ 63
+  pub no_struct : list_all has_no_struct built ≡ true
 
-pub ldexp_made : (rules : List Rule) → rules ≡ flat_map (λ scalar. flat_map (λ size. rows forms.Ldexp size scalar) scalars_and_vectors)
-    all_floats → IsMade rules ldexp_rules
+pub ldexp_built : (rules : List Rule) → rules ≡ flat_map (λ scalar. flat_map (λ size. rows forms.Ldexp size scalar) scalars_and_vectors)
+    all_floats → IsBuilt rules ldexp_rules
 unfolding ldexp_rules
-ldexp_made rules e = record {
+ldexp_built rules e = record {
   is = e;
   few = let count : length rules ≡ 16 = ap length e in omega arith;
   no_struct = ap (list_all has_no_struct) e;
 }
 
-pub outer_made : (rules : List Rule) → rules ≡ flat_map (λ size. flat_map (rows forms.Outer size) all_floats) matrices →
-    IsMade rules outer_rules
+pub outer_built : (rules : List Rule) → rules ≡ flat_map (λ size. flat_map (rows forms.Outer size) all_floats) matrices →
+    IsBuilt rules outer_rules
 unfolding outer_rules
-outer_made rules e = record {
+outer_built rules e = record {
   is = e;
   few = let count : length rules ≡ 36 = ap length e in omega arith;
   no_struct = ap (list_all has_no_struct) e;
 }
 
-pub refract_made : (rules : List Rule) → rules ≡ flat_map (λ size. flat_map (rows forms.Refract size) all_floats) vectors →
-    IsMade rules refract_rules
+pub refract_built : (rules : List Rule) → rules ≡ flat_map (λ size. flat_map (rows forms.Refract size) all_floats) vectors →
+    IsBuilt rules refract_rules
 unfolding refract_rules
-refract_made rules e = record {
+refract_built rules e = record {
   is = e;
   few = let count : length rules ≡ 12 = ap length e in omega arith;
   no_struct = ap (list_all has_no_struct) e;
 }
 
-pub transpose_made : (rules : List Rule) → rules ≡ flat_map (λ size. flat_map (rows forms.Transpose size) all_floats) matrices →
-    IsMade rules transpose_rules
+pub transpose_built : (rules : List Rule) → rules ≡ flat_map (λ size. flat_map (rows forms.Transpose size) all_floats) matrices →
+    IsBuilt rules transpose_rules
 unfolding transpose_rules
-transpose_made rules e = record {
+transpose_built rules e = record {
   is = e;
   few = let count : length rules ≡ 36 = ap length e in omega arith;
   no_struct = ap (list_all has_no_struct) e;
 }
 
-pub extract_bits_made : (rules : List Rule) → rules ≡ flat_map
+pub extract_bits_built : (rules : List Rule) → rules ≡ flat_map
     (λ scalar. flat_map (λ size. rows forms.ExtractBits size scalar) scalars_and_vectors) integers_by_width →
-    IsMade rules extract_bits_rules
+    IsBuilt rules extract_bits_rules
 unfolding extract_bits_rules
-extract_bits_made rules e = record {
+extract_bits_built rules e = record {
   is = e;
   few = let count : length rules ≡ 24 = ap length e in omega arith;
   no_struct = ap (list_all has_no_struct) e;
 }
 
-pub insert_bits_made : (rules : List Rule) → rules ≡ flat_map
-    (λ scalar. flat_map (λ size. rows forms.InsertBits size scalar) scalars_and_vectors) integers_by_width → IsMade rules insert_bits_rules
+pub insert_bits_built : (rules : List Rule) → rules ≡ flat_map
+    (λ scalar. flat_map (λ size. rows forms.InsertBits size scalar) scalars_and_vectors) integers_by_width → IsBuilt rules insert_bits_rules
 unfolding insert_bits_rules
-insert_bits_made rules e = record {
+insert_bits_built rules e = record {
   is = e;
   few = let count : length rules ≡ 24 = ap length e in omega arith;
   no_struct = ap (list_all has_no_struct) e;
 }
 
-pub mix_made : (rules : List Rule) → rules ≡ flat_map (λ scalar. flat_map (λ size. rows forms.Mix size scalar) scalars_and_vectors)
-    all_floats → IsMade rules mix_rules
+pub mix_built : (rules : List Rule) → rules ≡ flat_map (λ scalar. flat_map (λ size. rows forms.Mix size scalar) scalars_and_vectors)
+    all_floats → IsBuilt rules mix_rules
 unfolding mix_rules
-mix_made rules e = record {
+mix_built rules e = record {
   is = e;
   few = let count : length rules ≡ 32 = ap length e in omega arith;
   no_struct = ap (list_all has_no_struct) e;

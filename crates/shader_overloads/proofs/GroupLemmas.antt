@@ -7,11 +7,11 @@ use Rattle.std.proofs.lemmas.Nat.{and_le_r, pow-add, pow_pos, shl_whole}
 use Rattle.std.proofs.lemmas.Nat.Bits.{bit_at-zero, bit_at_above, bit_at_cat_high, bit_at_cat_low}
 use Rattle.shader_overloads.specs.declared.mask.Mask.{Mask}
 use Rattle.shader_overloads.specs.Bits.{has_bit}
-use Rattle.shader_overloads.specs.Masks.{has_place}
+use Rattle.shader_overloads.specs.Masks.{has_position}
 use Rattle.shader_overloads.proofs.DigitLemmas.{masked_bit}
-use Rattle.shader_overloads.proofs.PlaceLemmas.{place_in_number}
+use Rattle.shader_overloads.proofs.PositionLemmas.{position_in_number}
 
--- twelve members at the place of a group
+-- twelve members at the position of a group
 moved_bit : (members group k : ℕ) → members < 4096 → has_bit (members * 2 ^ (12 * group)) k
     ≡ (nat_eq (k / 12) group && has_bit members (k % 12))
 moved_bit members group k small =
@@ -26,14 +26,14 @@ moved_bit members group k small =
           ap (λ n. bit_at n k) bare ∙ bit_at_cat_high members start 0 k (pow_pos start) after in
           elim (cases_lt (k - start) 12) [
             | inl near ↦
-                let place : k - start ≡ k % 12 = omega arith in
-                rw (eq-eqb (k / 12) group (omega arith)) (ap (λ d. nat_eq d 1) (upper ∙ ap (bit_at members) place))
+                let position : k - start ≡ k % 12 = omega arith in
+                rw (eq-eqb (k / 12) group (omega arith)) (ap (λ d. nat_eq d 1) (upper ∙ ap (bit_at members) position))
             | inr far ↦
                 rw (ne_eqb (k / 12) group (λ e. omega arith)) (ap (λ d. nat_eq d 1) (upper ∙ bit_at_above members 12 (k - start) small far))
           ]
     ]
 
--- a power of two in two parts
+-- a power of two as a product
 in_parts : (n s a : ℕ) → a ≤ s → n * 2 ^ s ≡ n * 2 ^ (s - a) * 2 ^ a
 in_parts n s a h =
     let sum : s ≡ s - a + a = omega arith in
@@ -48,25 +48,25 @@ module _ (members k : ℕ) where
 
   placed : (group : ℕ) (words : Mask) → words.low < 2 ^ 64 → words.middle < 2 ^ 64 →
       twelve * 2 ^ (12 * group) ≡ (words.high * 2 ^ 64 + words.middle) * 2 ^ 64 + words.low →
-      has_place words k ≡ (nat_eq (k / 12) group && has_bit members (k % 12))
+      has_position words k ≡ (nat_eq (k / 12) group && has_bit members (k % 12))
   placed group words low middle is =
-      place_in_number words (twelve * 2 ^ (12 * group)) k low middle is
+      position_in_number words (twelve * 2 ^ (12 * group)) k low middle is
       ∙ moved_bit twelve group k small
       ∙ ap (λ b. nat_eq (k / 12) group && b) (masked_bit members 12 (k % 12) (omega arith))
 
-  pub in_low : (group : ℕ) → group < 5 → has_place (record { low = twelve * 2 ^ (12 * group) % 2 ^ 64; middle = 0; high = 0 }) k
+  pub in_low : (group : ℕ) → group < 5 → has_position (record { low = twelve * 2 ^ (12 * group) % 2 ^ 64; middle = 0; high = 0 }) k
       ≡ (nat_eq (k / 12) group && has_bit members (k % 12))
   in_low group h =
       let whole = shl_whole twelve 12 (12 * group) 64 small (omega arith) in
       placed group (record { low = twelve * 2 ^ (12 * group) % 2 ^ 64; middle = 0; high = 0 }) (omega arith) (omega arith)
       (omega (arith, whole))
 
-  pub across_low : has_place (record { low = twelve * 2 ^ 60 % 2 ^ 64; middle = twelve / 2 ^ 4; high = 0 }) k
+  pub across_low : has_position (record { low = twelve * 2 ^ 60 % 2 ^ 64; middle = twelve / 2 ^ 4; high = 0 }) k
       ≡ (nat_eq (k / 12) 5 && has_bit members (k % 12))
   across_low = placed 5 (record { low = twelve * 2 ^ 60 % 2 ^ 64; middle = twelve / 2 ^ 4; high = 0 }) (omega arith) (omega (arith, small))
       (omega (arith, small))
 
-  pub in_middle : (group : ℕ) → 5 < group → group < 10 → has_place
+  pub in_middle : (group : ℕ) → 5 < group → group < 10 → has_position
       (record { low = 0; middle = twelve * 2 ^ (12 * group - 64) % 2 ^ 64; high = 0 }) k
       ≡ (nat_eq (k / 12) group && has_bit members (k % 12))
   in_middle group low high =
@@ -75,12 +75,12 @@ module _ (members k : ℕ) where
       placed group (record { low = 0; middle = twelve * 2 ^ (12 * group - 64) % 2 ^ 64; high = 0 }) (omega arith) (omega arith)
       (omega (arith, whole, parts))
 
-  pub across_middle : has_place (record { low = 0; middle = twelve * 2 ^ 56 % 2 ^ 64; high = twelve / 2 ^ 8 }) k
+  pub across_middle : has_position (record { low = 0; middle = twelve * 2 ^ 56 % 2 ^ 64; high = twelve / 2 ^ 8 }) k
       ≡ (nat_eq (k / 12) 10 && has_bit members (k % 12))
   across_middle = placed 10 (record { low = 0; middle = twelve * 2 ^ 56 % 2 ^ 64; high = twelve / 2 ^ 8 }) (omega arith) (omega arith)
       (omega (arith, small))
 
-  pub in_high : (group : ℕ) → 10 < group → group < 13 → has_place
+  pub in_high : (group : ℕ) → 10 < group → group < 13 → has_position
       (record { low = 0; middle = 0; high = twelve * 2 ^ (12 * group - 128) % 2 ^ 64 }) k
       ≡ (nat_eq (k / 12) group && has_bit members (k % 12))
   in_high group low high =

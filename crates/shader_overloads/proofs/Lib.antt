@@ -6,7 +6,7 @@ pub mod RegularLemmas
 pub mod SetLemmas
 pub mod MaskLemmas
 pub mod DigitLemmas
-pub mod PlaceLemmas
+pub mod PositionLemmas
 pub mod PairLemmas
 pub mod GroupLemmas
 pub mod TableLemmas

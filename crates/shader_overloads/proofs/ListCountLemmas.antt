@@ -1,4 +1,4 @@
--- How many arguments the rules have that are left of a list.
+-- The numbers of arguments of the remaining rules of a list.
 use Rattle.std.proofs.Common.{◌≡◌, ◌≤◌, ◌∙◌, ℕ, zero, suc, Bool, true, false, not, ◌&&◌, nat_eq, List, [], ◌∷◌}
 use Rattle.std.proofs.Common.{length, sym, ap, arith, subst, inl, inr, ◌⊎◌, Some, slice_get, min, max, refl}
 use Rattle.std.proofs.Math.Nat.{min-eq_left, min-eq_right, max-eq_left, max-eq_right}
@@ -7,25 +7,27 @@ use Rattle.shader_overloads.specs.declared.rule.Rule.{Rule}
 use Rattle.shader_overloads.specs.Bits.{cons_if, items_where}
 use Rattle.shader_overloads.specs.Counts.{IsCount, IsLeastCount, IsGreatestCount}
 
--- ---- elements and their places
+-- ---- elements and their positions
 
--- a place that passes, with its element
-pub record PlaceOf {X : Type 0} (p : ℕ → Bool) (xs : List X) (x : X) : Type 0 where
-  pub place : ℕ
-  pub at : slice_get xs place ≡ Some x
-  pub passes : p place ≡ true
+-- a position that passes, with its element
+pub record PositionOf {X : Type 0} (p : ℕ → Bool) (xs : List X) (x : X) : Type 0 where
+  pub position : ℕ
+  pub at : slice_get xs position ≡ Some x
+  pub passes : p position ≡ true
 
-place_of_kept : {X : Type 0} (p : ℕ → Bool) (y x : X) (xs rest : List X) (b : Bool) → p 0 ≡ b →
-    ((k : ℕ) → slice_get rest k ≡ Some x → PlaceOf (λ i. p (suc i)) xs x) → (k : ℕ) → slice_get (cons_if b y rest) k ≡ Some x →
-    PlaceOf p (y ∷ xs) x
-place_of_kept p y x xs rest true here later zero at = record { place = 0; at = at; passes = here }
-place_of_kept p y x xs rest true here later (suc k) at = let r = later k at in record { place = suc r.place; at = r.at; passes = r.passes }
-place_of_kept p y x xs rest false here later k at = let r = later k at in record { place = suc r.place; at = r.at; passes = r.passes }
+position_of_retained : {X : Type 0} (p : ℕ → Bool) (y x : X) (xs rest : List X) (b : Bool) → p 0 ≡ b →
+    ((k : ℕ) → slice_get rest k ≡ Some x → PositionOf (λ i. p (suc i)) xs x) → (k : ℕ) → slice_get (cons_if b y rest) k ≡ Some x →
+    PositionOf p (y ∷ xs) x
+position_of_retained p y x xs rest true here later zero at = record { position = 0; at = at; passes = here }
+position_of_retained p y x xs rest true here later (suc k) at = let r = later k at in
+    record { position = suc r.position; at = r.at; passes = r.passes }
+position_of_retained p y x xs rest false here later k at = let r = later k at in
+    record { position = suc r.position; at = r.at; passes = r.passes }
 
-pub place_of : {X : Type 0} (p : ℕ → Bool) (xs : List X) (x : X) (k : ℕ) → slice_get (items_where p xs) k ≡ Some x → PlaceOf p xs x
-place_of p [] x k at = absurd (cc)
-place_of p (y ∷ xs) x k at = place_of_kept p y x xs (items_where (λ i. p (suc i)) xs) (p 0) refl
-    (λ j e. place_of (λ i. p (suc i)) xs x j e) k at
+pub position_of : {X : Type 0} (p : ℕ → Bool) (xs : List X) (x : X) (k : ℕ) → slice_get (items_where p xs) k ≡ Some x → PositionOf p xs x
+position_of p [] x k at = absurd (cc)
+position_of p (y ∷ xs) x k at = position_of_retained p y x xs (items_where (λ i. p (suc i)) xs) (p 0) refl
+    (λ j e. position_of (λ i. p (suc i)) xs x j e) k at
 
 -- an element of a list, with its number
 record Listed {X : Type 0} (xs : List X) (x : X) : Type 0 where
@@ -47,7 +49,7 @@ listed p (y ∷ xs) x (suc k) here at = listed_later (p 0) y x (items_where (λ 
 
 -- ---- the best count so far
 
--- a count of a member that is in the relation to those of all members that are no longer left
+-- the argument count of a member that is related to those of all members already visited
 pub record BestSoFar (relation : ℕ → ℕ → Type 0) (members left : ℕ → Bool) (rules : List Rule) (best : ℕ) : Type 0 where
   pub reached : IsCount best (items_where members rules)
   pub bound : (k : ℕ) (rule : Rule) → slice_get rules k ≡ Some rule → members k ≡ true → left k ≡ false →
@@ -70,36 +72,36 @@ still_left : (b : Bool) → (b && not false) ≡ false → b ≡ false
 still_left true e = e
 still_left false e = refl
 
--- the better one of the best so far and of the count of the next rule
-best_next : (relation : ℕ → ℕ → Type 0) (members left next : ℕ → Bool) (rules : List Rule) (place best better : ℕ) (rule : Rule)
-    → slice_get rules place ≡ Some rule → members place ≡ true → ((k : ℕ) → next k ≡ (left k && not (nat_eq k place))) →
+-- the better of the best so far and the count of the next rule
+best_next : (relation : ℕ → ℕ → Type 0) (members left next : ℕ → Bool) (rules : List Rule) (position best better : ℕ) (rule : Rule)
+    → slice_get rules position ≡ Some rule → members position ≡ true → ((k : ℕ) → next k ≡ (left k && not (nat_eq k position))) →
     (better ≡ best) ⊎ (better ≡ length rule.arguments)
     → relation better (length rule.arguments) → ((n : ℕ) → relation best n → relation better n)
     → BestSoFar relation members left rules best → BestSoFar relation members next rules better
-best_next relation members left next rules place best better rule at in_set others which new old so = record {
+best_next relation members left next rules position best better rule at in_set others which new old so = record {
   reached = elim which [
     | inl e ↦ subst (λ n. IsCount n (items_where members rules)) (sym e) so.reached
-    | inr e ↦ let r = listed members rules rule place in_set at in (r.number, rule, r.at, sym e)
+    | inr e ↦ let r = listed members rules rule position in_set at in (r.number, rule, r.at, sym e)
   ];
-  bound = λ k other found here out. elim (cases_eq k place) [
+  bound = λ k other found here out. elim (cases_eq k position) [
     | inl e ↦ let same : rule ≡ other = cc (sym at ∙ ap (slice_get rules) (sym e) ∙ found) in
         subst (λ (r : Rule). relation better (length r.arguments)) same new
     | inr ne ↦ old (length other.arguments) (so.bound k other found here
-        (still_left (left k) (sym (ap (λ b. left k && not b) (ne_eqb k place ne)) ∙ sym (others k) ∙ out)))
+        (still_left (left k) (sym (ap (λ b. left k && not b) (ne_eqb k position ne)) ∙ sym (others k) ∙ out)))
   ];
 }
 
-module _ (members left next : ℕ → Bool) (rules : List Rule) (place best : ℕ) (rule : Rule) (at : slice_get rules place ≡ Some rule)
-    (in_set : members place ≡ true) (others : (k : ℕ) → next k ≡ (left k && not (nat_eq k place))) where
+module _ (members left next : ℕ → Bool) (rules : List Rule) (position best : ℕ) (rule : Rule) (at : slice_get rules position ≡ Some rule)
+    (in_set : members position ≡ true) (others : (k : ℕ) → next k ≡ (left k && not (nat_eq k position))) where
   pub least_next : BestSoFar AtMost members left rules best → BestSoFar AtMost members next rules (min best (length rule.arguments))
   least_next so = elim (cases_lt best (length rule.arguments)) [
     | inl less ↦
         let is : min best (length rule.arguments) ≡ best = min-eq_left (omega arith) in
-        best_next AtMost members left next rules place best _ rule at in_set others (inl is) (omega (arith, is))
+        best_next AtMost members left next rules position best _ rule at in_set others (inl is) (omega (arith, is))
         (λ n h. omega (arith, is)) so
     | inr more ↦
         let is : min best (length rule.arguments) ≡ length rule.arguments = min-eq_right more in
-        best_next AtMost members left next rules place best _ rule at in_set others (inr is) (omega (arith, is))
+        best_next AtMost members left next rules position best _ rule at in_set others (inr is) (omega (arith, is))
         (λ n h. omega (arith, is)) so
   ]
 
@@ -107,11 +109,11 @@ module _ (members left next : ℕ → Bool) (rules : List Rule) (place best : �
   greatest_next so = elim (cases_lt best (length rule.arguments)) [
     | inl less ↦
         let is : max best (length rule.arguments) ≡ length rule.arguments = max-eq_right (omega arith) in
-        best_next AtLeast members left next rules place best _ rule at in_set others (inr is) (omega (arith, is))
+        best_next AtLeast members left next rules position best _ rule at in_set others (inr is) (omega (arith, is))
         (λ n h. omega (arith, is)) so
     | inr more ↦
         let is : max best (length rule.arguments) ≡ best = max-eq_left more in
-        best_next AtLeast members left next rules place best _ rule at in_set others (inl is) (omega (arith, is))
+        best_next AtLeast members left next rules position best _ rule at in_set others (inl is) (omega (arith, is))
         (λ n h. omega (arith, is)) so
   ]
 
@@ -119,8 +121,8 @@ best_done : (relation : ℕ → ℕ → Type 0) (members left : ℕ → Bool) (r
     BestSoFar relation members left rules best → (k : ℕ) (rule : Rule) → slice_get (items_where members rules) k ≡ Some rule →
     relation best (length rule.arguments)
 best_done relation members left rules best none so k rule at =
-    let r = place_of members rules rule k at in
-    so.bound r.place rule r.at r.passes (none r.place)
+    let r = position_of members rules rule k at in
+    so.bound r.position rule r.at r.passes (none r.position)
 
 pub least_done : (members left : ℕ → Bool) (rules : List Rule) (best : ℕ) → ((k : ℕ) → left k ≡ false) →
     BestSoFar AtMost members left rules best → IsLeastCount best (items_where members rules)

@@ -1,4 +1,4 @@
--- The elements at the places that pass.
+-- The elements at the positions that pass.
 use Rattle.std.proofs.Common.{◌≡◌, ◌≢◌, ℕ, zero, suc, ◌+◌, ◌<◌, ◌≤◌, Bool, true, false, cond, not, ◌&&◌, ◌||◌, List, [], ◌∷◌, ◌++◌}
 use Rattle.std.proofs.Common.{length, map, refl, sym, ◌∙◌, ap, arith, inl, inr, Some, slice_get, get_or, length-append, ◌*◌}
 use Rattle.std.specs.List.{filter, flat_map, list_any}
@@ -16,12 +16,12 @@ items_where_agree p q [] agree = refl
 items_where_agree p q (x ∷ xs) agree =
     rw (agree 0) (ap (cons_if (q 0) x) (items_where_agree (λ k. p (suc k)) (λ k. q (suc k)) xs (λ i. agree (suc i))))
 
--- the elements begin with the one at place t
+-- the elements begin with the one at position t
 pub record Front {X : Type 0} (ys xs : List X) (t : ℕ) (d : X) : Type 0 where
   pub rest : List X
   pub is : ys ≡ get_or xs t d ∷ rest
 
--- t is the first place that passes
+-- t is the first position that passes
 pub items_where-front : {X : Type 0} (p : ℕ → Bool) (xs : List X) (t : ℕ) (d : X) → ((i : ℕ) → i < t → p i ≡ false) → p t ≡ true →
     t < length xs → Front (items_where p xs) xs t d
 items_where-front p [] t d none here h = absurd (omega arith)
@@ -30,7 +30,7 @@ items_where-front p (x ∷ xs) (suc t) d none here h =
     let tail = items_where-front (λ k. p (suc k)) xs t d (λ i l. none (suc i) (omega arith)) here (omega arith) in
     record { rest = tail.rest; is = rw (none 0 (omega arith)) tail.is }
 
--- t is the first place that passes p, and q passes what p passes after it
+-- t is the first position that passes p, and q passes what p passes after it
 pub items_where-split : {X : Type 0} (p q : ℕ → Bool) (xs : List X) (t : ℕ) (d : X) → ((i : ℕ) → i < t → p i ≡ false) → p t ≡ true →
     ((i : ℕ) → i ≤ t → q i ≡ false) → ((i : ℕ) → t < i → q i ≡ p i) → t < length xs → items_where p xs ≡ get_or xs t d ∷ items_where q xs
 items_where-split p q [] t d none here gone same h = absurd (omega arith)
@@ -57,12 +57,12 @@ pub filter_all : {X : Type 0} (xs : List X) → filter (λ _. true) xs ≡ xs
 filter_all [] = refl
 filter_all (x ∷ xs) = ap (λ ys. x ∷ ys) (filter_all xs)
 
--- ---- the places of a set against a test of the elements
+-- ---- positions of a set and a test of the elements
 
--- at each place, the first test says what the second says of the element there
-abbrev pub Places : {X : Type 0} → (ℕ → Bool) → (X → Bool) → List X → Type 0
-Places m q [] = Unit {0}
-Places m q (x ∷ xs) = (m 0 ≡ q x) × Places (λ k. m (suc k)) q xs
+-- at each position, the first test agrees with the second on the element there
+abbrev pub Positions : {X : Type 0} → (ℕ → Bool) → (X → Bool) → List X → Type 0
+Positions m q [] = Unit {0}
+Positions m q (x ∷ xs) = (m 0 ≡ q x) × Positions (λ k. m (suc k)) q xs
 
 filter-cons_if : {X : Type 0} (q : X → Bool) (b : Bool) (x : X) (xs : List X) →
     filter q (cons_if b x xs) ≡ cons_if (b && q x) x (filter q xs)
@@ -70,11 +70,12 @@ filter-cons_if q true x xs = elim (q x) as (λ v. cond v (x ∷ filter q xs) (fi
     [ true ↦ refl | false ↦ refl ]
 filter-cons_if q false x xs = refl
 
-pub items_where-and : {X : Type 0} (q : X → Bool) (m n r : ℕ → Bool) (xs : List X) → Places m q xs → ((k : ℕ) → r k ≡ (n k && m k)) →
+pub items_where-and : {X : Type 0} (q : X → Bool) (m n r : ℕ → Bool) (xs : List X) → Positions m q xs → ((k : ℕ) → r k ≡ (n k && m k)) →
     items_where r xs ≡ filter q (items_where n xs)
-items_where-and q m n r [] places both = refl
-items_where-and q m n r (x ∷ xs) places both =
-    rw (both 0, places.0) (ap (cons_if (n 0 && q x) x) (items_where-and q (λ k. m (suc k)) (λ k. n (suc k)) (λ k. r (suc k)) xs places.1
+items_where-and q m n r [] positions both = refl
+items_where-and q m n r (x ∷ xs) positions both =
+    rw (both 0, positions.0)
+    (ap (cons_if (n 0 && q x) x) (items_where-and q (λ k. m (suc k)) (λ k. n (suc k)) (λ k. r (suc k)) xs positions.1
     (λ k. both (suc k))) ∙ sym (filter-cons_if q (n 0) x _))
 
 any-cons_if : {X : Type 0} (test : X → Bool) (b : Bool) (x : X) (xs : List X) → test x ≡ false → list_any test xs ≡ false →
@@ -98,7 +99,7 @@ any-filter test q (x ∷ xs) h =
       | false ↦ any-filter test q xs parts.1
     ]
 
--- a list whose elements all differ by a test
+-- a list whose elements are pairwise distinct by a test
 abbrev pub all_differ : {X : Type 0} → (X → X → Bool) → List X → Bool
 all_differ same [] = true
 all_differ same (x ∷ xs) = not (list_any (same x) xs) && all_differ same xs
@@ -107,69 +108,72 @@ module _ {X : Type 0} (same : X → X → Bool) (same_self : (x : X) → same x 
   absent : (x : X) (xs ys : List X) → list_any (same x) ys ≡ false → x ∷ xs ≡ ys → ⊥
   absent x xs ys none e = both_ways (list_any (same x) ys) none (ap (list_any (same x)) (sym e) ∙ or_left _ _ (same_self x))
 
-  one_place : (x : X) (fs bs : List X) → list_any (same x) fs ≡ false → list_any (same x) bs ≡ false → (b c : Bool) →
+  one_position : (x : X) (fs bs : List X) → list_any (same x) fs ≡ false → list_any (same x) bs ≡ false → (b c : Bool) →
       cons_if b x fs ≡ cond c (x ∷ bs) bs → (b ≡ c) × (fs ≡ bs)
-  one_place x fs bs no_a no_b true true e = (refl, cc)
-  one_place x fs bs no_a no_b false false e = (refl, e)
-  one_place x fs bs no_a no_b true false e = absurd (absent x fs bs no_b e)
-  one_place x fs bs no_a no_b false true e = absurd (absent x bs fs no_a (sym e))
+  one_position x fs bs no_a no_b true true e = (refl, cc)
+  one_position x fs bs no_a no_b false false e = (refl, e)
+  one_position x fs bs no_a no_b true false e = absurd (absent x fs bs no_b e)
+  one_position x fs bs no_a no_b false true e = absurd (absent x bs fs no_a (sym e))
 
-  -- where the elements differ, a set whose list is a filter has the places that pass
-  pub places_from_list : (q : X → Bool) (m : ℕ → Bool) (xs : List X) → all_differ same xs ≡ true →
-      items_where m xs ≡ filter q xs → Places m q xs
-  places_from_list q m [] differ e = tt
-  places_from_list q m (x ∷ xs) differ e =
+  -- if the elements are distinct, a set whose list is a filter contains the positions that pass
+  pub positions_from_list : (q : X → Bool) (m : ℕ → Bool) (xs : List X) → all_differ same xs ≡ true →
+      items_where m xs ≡ filter q xs → Positions m q xs
+  positions_from_list q m [] differ e = tt
+  positions_from_list q m (x ∷ xs) differ e =
       let parts = and_parts (not (list_any (same x) xs)) (all_differ same xs) differ in
       let none = not-true _ parts.0 in
-      let step = one_place x _ _ (any-items_where (same x) (λ k. m (suc k)) xs none) (any-filter (same x) q xs none) (m 0) (q x) e in
-      (step.0, places_from_list q (λ k. m (suc k)) xs parts.1 step.1)
+      let step = one_position x _ _ (any-items_where (same x) (λ k. m (suc k)) xs none) (any-filter (same x) q xs none) (m 0) (q x) e in
+      (step.0, positions_from_list q (λ k. m (suc k)) xs parts.1 step.1)
 
-  found_here : (x : X) (rest : List X) (b : Bool) → list_any (same x) rest ≡ false → b ≡ list_any (same x) (cons_if b x rest)
-  found_here x rest true none = sym (or_left _ _ (same_self x))
-  found_here x rest false none = sym none
+  located_here : (x : X) (rest : List X) (b : Bool) → list_any (same x) rest ≡ false → b ≡ list_any (same x) (cons_if b x rest)
+  located_here x rest true none = sym (or_left _ _ (same_self x))
+  located_here x rest false none = sym none
 
   found_later : (x y : X) (rest : List X) (b : Bool) → same y x ≡ false → list_any (same y) rest ≡ list_any (same y) (cons_if b x rest)
   found_later x y rest true other = sym (ap (λ v. v || list_any (same y) rest) other)
   found_later x y rest false other = refl
 
   module _ (same_sym : (x y : X) → same x y ≡ same y x) where
-    places_later : (m : ℕ → Bool) (x : X) (rest ys : List X) (b : Bool) → list_any (same x) ys ≡ false →
-        Places m (λ y. list_any (same y) rest) ys → Places m (λ y. list_any (same y) (cons_if b x rest)) ys
-    places_later m x rest [] b none places = tt
-    places_later m x rest (y ∷ ys) b none places =
+    positions_later : (m : ℕ → Bool) (x : X) (rest ys : List X) (b : Bool) → list_any (same x) ys ≡ false →
+        Positions m (λ y. list_any (same y) rest) ys → Positions m (λ y. list_any (same y) (cons_if b x rest)) ys
+    positions_later m x rest [] b none positions = tt
+    positions_later m x rest (y ∷ ys) b none positions =
         let parts = or_parts (same x y) (list_any (same x) ys) none in
-        (places.0 ∙ found_later x y rest b (same_sym y x ∙ parts.0), places_later (λ k. m (suc k)) x rest ys b parts.1 places.1)
+        (positions.0 ∙ found_later x y rest b (same_sym y x ∙ parts.0), positions_later (λ k. m (suc k)) x rest ys b parts.1 positions.1)
 
-    -- where the elements differ, a place is in a set exactly where its element is in the set's list
-    pub places_of_members : (m : ℕ → Bool) (xs : List X) → all_differ same xs ≡ true →
-        Places m (λ x. list_any (same x) (items_where m xs)) xs
-    places_of_members m [] differ = tt
-    places_of_members m (x ∷ xs) differ =
+    -- if the elements are distinct, a position is in a set exactly if its element is in the set's list
+    pub positions_of_members : (m : ℕ → Bool) (xs : List X) → all_differ same xs ≡ true →
+        Positions m (λ x. list_any (same x) (items_where m xs)) xs
+    positions_of_members m [] differ = tt
+    positions_of_members m (x ∷ xs) differ =
         let parts = and_parts (not (list_any (same x) xs)) (all_differ same xs) differ in
         let none = not-true _ parts.0 in
-        let absent_later = any-items_where (same x) (λ k. m (suc k)) xs none in
-        (found_here x _ (m 0) absent_later, places_later (λ k. m (suc k)) x _ xs (m 0) none (places_of_members (λ k. m (suc k)) xs parts.1))
+        let absent_later = any-items_where (same x) (λ k. m (suc k)) xs none in (
+          located_here x _ (m 0) absent_later,
+          positions_later (λ k. m (suc k)) x _ xs (m 0) none
+              (positions_of_members (λ k. m (suc k)) xs parts.1),
+        )
 
--- a set whose places pass a test has the elements that pass
-pub items_where-filtered : {X : Type 0} (q : X → Bool) (m : ℕ → Bool) (xs : List X) → Places m q xs → items_where m xs ≡ filter q xs
-items_where-filtered q m [] places = refl
-items_where-filtered q m (x ∷ xs) places =
-    rw places.0 (elim (q x) as (λ b. cons_if b x (items_where (λ k. m (suc k)) xs) ≡ cond b (x ∷ filter q xs) (filter q xs)) [
-      | true ↦ ap (λ ys. x ∷ ys) (items_where-filtered q (λ k. m (suc k)) xs places.1)
-      | false ↦ items_where-filtered q (λ k. m (suc k)) xs places.1
+-- a set whose positions pass a test contains the elements that pass
+pub items_where-filtered : {X : Type 0} (q : X → Bool) (m : ℕ → Bool) (xs : List X) → Positions m q xs → items_where m xs ≡ filter q xs
+items_where-filtered q m [] positions = refl
+items_where-filtered q m (x ∷ xs) positions =
+    rw positions.0 (elim (q x) as (λ b. cons_if b x (items_where (λ k. m (suc k)) xs) ≡ cond b (x ∷ filter q xs) (filter q xs)) [
+      | true ↦ ap (λ ys. x ∷ ys) (items_where-filtered q (λ k. m (suc k)) xs positions.1)
+      | false ↦ items_where-filtered q (λ k. m (suc k)) xs positions.1
     ])
 
-pub places_of_either : {X : Type 0} (p q : X → Bool) (m n r : ℕ → Bool) (xs : List X) → Places m p xs → Places n q xs →
-    ((k : ℕ) → r k ≡ (m k || n k)) → Places r (λ x. p x || q x) xs
-places_of_either p q m n r [] left right either = tt
-places_of_either p q m n r (x ∷ xs) left right either = (
+pub positions_of_either : {X : Type 0} (p q : X → Bool) (m n r : ℕ → Bool) (xs : List X) → Positions m p xs → Positions n q xs →
+    ((k : ℕ) → r k ≡ (m k || n k)) → Positions r (λ x. p x || q x) xs
+positions_of_either p q m n r [] left right either = tt
+positions_of_either p q m n r (x ∷ xs) left right either = (
   either 0 ∙ ap (λ b. b || n 0) left.0 ∙ ap (λ b. p x || b) right.0,
-  places_of_either p q (λ k. m (suc k)) (λ k. n (suc k)) (λ k. r (suc k)) xs left.1 right.1 (λ k. either (suc k)),
+  positions_of_either p q (λ k. m (suc k)) (λ k. n (suc k)) (λ k. r (suc k)) xs left.1 right.1 (λ k. either (suc k)),
 )
 
 -- ---- elements by their numbers
 
--- a set of places whose elements are those of another set that pass a test
+-- a set of positions whose elements are those of another set that pass a test
 pub items_where-filter : {X : Type 0} (q : X → Bool) (n r : ℕ → Bool) (xs : List X) →
     ((k : ℕ) (x : X) → slice_get xs k ≡ Some x → r k ≡ (n k && q x)) → items_where r xs ≡ filter q (items_where n xs)
 items_where-filter q n r [] each = refl
@@ -197,7 +201,7 @@ slice_get-map f [] k x e = cc
 slice_get-map f (y ∷ xs) zero x e = let d : y ≡ x = cc in ap (λ v. Some (f v)) d
 slice_get-map f (y ∷ xs) (suc k) x e = slice_get-map f xs k x e
 
--- the element of a number among all combinations
+-- the element with a number among all combinations
 pub slice_get-combinations : {X Y Z : Type 0} (f : X → Y → Z) (xs : List X) (ys : List Y) (i j : ℕ) (x : X) (y : Y) →
     slice_get xs i ≡ Some x → slice_get ys j ≡ Some y → slice_get (flat_map (λ v. map (f v) ys) xs) (i * length ys + j) ≡ Some (f x y)
 slice_get-combinations f [] ys i j x y d e = cc
@@ -224,7 +228,7 @@ length-combinations f (x ∷ xs) ys = omega (
   length-combinations f xs ys,
 )
 
--- the element at a place within a list
+-- the element at a position within a list
 pub record ElementAt {X : Type 0} (xs : List X) (k : ℕ) : Type 0 where
   pub element : X
   pub is : slice_get xs k ≡ Some element
@@ -234,13 +238,13 @@ element_at [] k h = absurd (omega arith)
 element_at (x ∷ xs) zero h = record { element = x; is = refl }
 element_at (x ∷ xs) (suc k) h = let e = element_at xs k (omega arith) in record { element = e.element; is = e.is }
 
-pub Places-at : {X : Type 0} (m : ℕ → Bool) (q : X → Bool) (xs : List X) (k : ℕ) (x : X) → Places m q xs →
+pub Positions-at : {X : Type 0} (m : ℕ → Bool) (q : X → Bool) (xs : List X) (k : ℕ) (x : X) → Positions m q xs →
     slice_get xs k ≡ Some x → m k ≡ q x
-Places-at m q [] k x places e = cc
-Places-at m q (y ∷ xs) zero x places e = let d : y ≡ x = cc in places.0 ∙ ap q d
-Places-at m q (y ∷ xs) (suc k) x places e = Places-at (λ i. m (suc i)) q xs k x places.1 e
+Positions-at m q [] k x positions e = cc
+Positions-at m q (y ∷ xs) zero x positions e = let d : y ≡ x = cc in positions.0 ∙ ap q d
+Positions-at m q (y ∷ xs) (suc k) x positions e = Positions-at (λ i. m (suc i)) q xs k x positions.1 e
 
--- the first element of a set of places
+-- the first element of a set of positions
 pub items_where-first : {X : Type 0} (p : ℕ → Bool) (xs : List X) (t : ℕ) → ((i : ℕ) → i < t → p i ≡ false) → p t ≡ true → t < length xs →
     slice_get (items_where p xs) 0 ≡ slice_get xs t
 items_where-first p [] t none here h = absurd (omega arith)
@@ -283,7 +287,7 @@ items_where-append p (x ∷ xs) ys =
     omega arith in ap p e)))
     ∙ cons_if-append (p 0) x _ _
 
--- where each number is in the set as its two parts are in theirs, the set has the combinations of the parts
+-- if each number is in the set exactly as its two components are in theirs, the set contains the combinations of the components
 pub items_where-combinations : {X Y Z : Type 0} (f : X → Y → Z) (m g h : ℕ → Bool) (xs : List X) (ys : List Y) →
     ((i j : ℕ) → i < length xs → j < length ys → m (i * length ys + j) ≡ (g i && h j)) →
     items_where m (flat_map (λ x. map (f x) ys) xs) ≡ flat_map (λ x. map (f x) (items_where h ys)) (items_where g xs)

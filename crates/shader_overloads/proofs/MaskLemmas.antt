@@ -1,4 +1,4 @@
--- Masks of the rules that are left.
+-- Masks of the remaining rules.
 use Rattle.std.proofs.Common.{◌≡◌, ℕ, zero, suc, ◌-◌, ◌*◌, ◌%◌, ◌^◌, ◌<◌, ◌≤◌, Bool, true, false, ◌||◌, List, [], ◌∷◌, length}
 use Rattle.std.proofs.Common.{refl, sym, ◌∙◌, ap, arith, inl, inr, bit_or, nat_eq, nat_lt, Some, slice_get, All, get_or, subst}
 use Rattle.std.proofs.Math.Nat.{mod-eq_of_lt}
@@ -9,7 +9,7 @@ use Rattle.std.proofs.lemmas.Bool.{cases_lt, cases_eq, eq-eqb, ne_eqb, lt-ltb, l
 use Rattle.std.proofs.lemmas.Nat.Bits.{bit_at_set_same, bit_at_set_other, bit_at_ones, bit_at_ones_above}
 use Rattle.shader_overloads.specs.Bits.{cons_if, has_bit, items_where}
 
--- a bit put into a word
+-- a bit set in a word
 pub with_bit : (n p k : ℕ) → p < 64 → has_bit (bit_or n (1 * 2 ^ p % 2 ^ 64)) k ≡ (nat_eq k p || has_bit n k)
 with_bit n p k h = elim (cases_eq k p) [
   | inl e ↦ rw (e, eq-eqb p p refl) (ap (λ d. nat_eq d 1) (bit_at_set_same w64 n p h))
@@ -22,7 +22,7 @@ all_bits count k = elim (cases_lt k count) [
   | inr far ↦ ap (λ d. nat_eq d 1) (bit_at_ones_above count k far) ∙ sym (le-ltb k count far)
 ]
 
--- ---- a set of places of a list
+-- ---- a set of positions of a list
 
 pub no_element : {X : Type 0} (xs : List X) (k : ℕ) (x : X) → xs ≡ [] → slice_get xs k ≡ Some x → ⊥
 no_element [] k x e at = cc
@@ -32,7 +32,7 @@ all_later : {X : Type 0} (P : X → Type 0) (b : Bool) (x : X) (xs : List X) →
 all_later P true x xs all = All-tail P x xs all
 all_later P false x xs all = all
 
--- what holds of all that is left holds of each that the mask has
+-- a property of all remaining elements holds of each in the mask
 pub member_has : {X : Type 0} (P : X → Type 0) (p : ℕ → Bool) (xs : List X) (k : ℕ) (x : X) → All P (items_where p xs) → p k ≡ true →
     slice_get xs k ≡ Some x → P x
 member_has P p [] k x all here at = absurd (cc)
@@ -43,7 +43,7 @@ member_has P p (y ∷ xs) zero x all here at =
 member_has P p (y ∷ xs) (suc k) x all here at =
     member_has P (λ k. p (suc k)) xs k x (all_later P (p 0) y (items_where (λ k. p (suc k)) xs) all) here at
 
--- the element at a place, as a look-up
+-- the element at a position, as a look-up
 pub found : {X : Type 0} (xs : List X) (k : ℕ) (x : X) → k < length xs → x ≡ get_or xs k x → slice_get xs k ≡ Some x
 found [] k x h e = absurd (omega arith)
 found (y ∷ xs) zero x h e = ap Some (sym e)

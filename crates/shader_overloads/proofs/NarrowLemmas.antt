@@ -1,4 +1,4 @@
--- The rules that remain, call by call.
+-- The remaining rules, call by call.
 use Rattle.std.proofs.lemmas.List.{drop_more}
 use Rattle.std.proofs.Common.{drop, length, get_or, ◌+◌, ◌<◌, ◌≡◌, ℕ, Bool, true, false}
 use Rattle.std.proofs.Common.{cond, ◌&&◌, List, [], ◌∷◌, refl, sym, ◌∙◌, ap, subst}
@@ -32,7 +32,7 @@ module _ (accepting : List «Type» → ℕ → TypeInner → Rule → Bool) (ty
   pub remaining-nil : (rules : List Rule) → remaining accepting types [] rules ≡ rules
   remaining-nil rules = filter_all rules
 
-  -- one call of a list: what the later calls leave of the set after it is what they and it leave of the set before it
+  -- one call on a set: the later calls on the set after it leave the same rules as all these calls on the set before it
   pub narrowed : (calls : List SetCall) (k : ℕ) (d call : SetCall) (before after all : List Rule) → k < length calls →
       get_or calls k d ≡ call → after ≡ filter (λ rule. passes accepting types rule call) before →
       remaining accepting types (drop k calls) before ≡ all → remaining accepting types (drop (k + 1) calls) after ≡ all

@@ -4,9 +4,9 @@ use Rattle.std.proofs.lemmas.Bool.{cases_lt}
 use Rattle.std.proofs.lemmas.Nat.Bits.{bit_at_above, bit_at_cat_high, bit_at_cat_low}
 use Rattle.shader_overloads.specs.declared.mask.Mask.{Mask}
 use Rattle.shader_overloads.specs.Bits.{has_bit}
-use Rattle.shader_overloads.specs.Masks.{IsBelow, has_place}
+use Rattle.shader_overloads.specs.Masks.{IsBelow, has_position}
 use Rattle.shader_overloads.proofs.DigitLemmas.{high_bits, masked_bit}
-use Rattle.shader_overloads.proofs.PlaceLemmas.{place_in_number}
+use Rattle.shader_overloads.proofs.PositionLemmas.{position_in_number}
 
 -- a word of 60 bits has the members for each bit of five groups
 abbrev HasPairs : ℕ → ℕ → ℕ → Type 0
@@ -22,8 +22,8 @@ module _ (groups members first second third : ℕ) (first_is : HasPairs first (b
   abbrev words : Mask
   words = record { low = first + second * 2 ^ 60 % 2 ^ 64; middle = second / 2 ^ 4 + third * 2 ^ 56 % 2 ^ 64; high = third / 2 ^ 8 }
 
-  in_joined : (k : ℕ) → has_place words k ≡ has_bit joined k
-  in_joined k = place_in_number words joined k (omega arith) (omega arith) (omega arith)
+  in_joined : (k : ℕ) → has_position words k ≡ has_bit joined k
+  in_joined k = position_in_number words joined k (omega arith) (omega arith) (omega arith)
 
   joined-bit : (k : ℕ) → k < 180 → has_bit joined k ≡ (has_bit groups (k / 12) && has_bit members (k % 12))
   joined-bit k h = elim (cases_lt k 60) [
@@ -34,14 +34,14 @@ module _ (groups members first second third : ℕ) (first_is : HasPairs first (b
     | inr far ↦
         let upper = bit_at_cat_high (third * 2 ^ 60 + second) 60 first k first_in far in
         let five : (k - 60) / 12 ≡ k / 12 - 5 = omega arith in
-        let place : (k - 60) % 12 ≡ k % 12 = omega arith in
+        let position : (k - 60) % 12 ≡ k % 12 = omega arith in
         elim (cases_lt k 120) [
           | inl near ↦
               ap (λ d. nat_eq d 1) (upper ∙ bit_at_cat_low third 60 second (k - 60) (omega arith))
               ∙ second_is (k - 60) (omega arith)
               ∙ ap (λ b. b && has_bit members ((k - 60) % 12)) (masked_bit (groups / 2 ^ 5) 5 ((k - 60) / 12) (omega arith)
               ∙ ap (has_bit (groups / 2 ^ 5)) five ∙ ap (λ d. nat_eq d 1) (high_bits groups 5 (k / 12) (omega arith)))
-              ∙ ap (λ n. has_bit groups (k / 12) && has_bit members n) place
+              ∙ ap (λ n. has_bit groups (k / 12) && has_bit members n) position
           | inr past ↦
               let ten : (k - 60 - 60) / 12 ≡ k / 12 - 10 = omega arith in
               let later : (k - 60 - 60) % 12 ≡ k % 12 = omega arith in
@@ -53,7 +53,7 @@ module _ (groups members first second third : ℕ) (first_is : HasPairs first (b
         ]
   ]
 
-  pub words-pair : (k : ℕ) → k < 180 → has_place words k ≡ (has_bit groups (k / 12) && has_bit members (k % 12))
+  pub words-pair : (k : ℕ) → k < 180 → has_position words k ≡ (has_bit groups (k / 12) && has_bit members (k % 12))
   words-pair k h = in_joined k ∙ joined-bit k h
 
   pub words-within : groups < 2 ^ 13 → IsBelow words 156

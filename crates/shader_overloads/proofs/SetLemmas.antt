@@ -1,4 +1,4 @@
--- Sets of scalars and of constructors, joined and met.
+-- Unions and intersections of sets of scalars and of constructors.
 use Rattle.std.proofs.Common.{◌≡◌, ℕ, ◌<◌, Bool, true, false, ◌&&◌, ◌||◌, Option, length, refl, ◌∙◌}
 use Rattle.std.proofs.Common.{ap, arith, inl, inr, ◌⊎◌, bit_and, nat_eq, min, max, Some, slice_get}
 use Rattle.std.specs.List.{filter}
@@ -21,8 +21,8 @@ use Rattle.shader_overloads.specs.declared.scalar_set.ScalarSet.{ScalarSet}
 use Rattle.shader_overloads.specs.Bits.{has_bit}
 use Rattle.shader_overloads.specs.ScalarSets.{scalars_in, has_scalar}
 use Rattle.shader_overloads.specs.Constructors.{constructors_in, has_constructor, all_constructors, same_constructor}
-use Rattle.shader_overloads.proofs.ListLemmas.{Places, items_where-and, items_where-filtered, places_from_list}
-use Rattle.shader_overloads.proofs.ListLemmas.{places_of_members, places_of_either, Places-at, slice_get-within}
+use Rattle.shader_overloads.proofs.ListLemmas.{Positions, items_where-and, items_where-filtered, positions_from_list}
+use Rattle.shader_overloads.proofs.ListLemmas.{positions_of_members, positions_of_either, Positions-at, slice_get-within}
 
 digit_cases : (a : ℕ) → a < 2 → (a ≡ 0) ⊎ (a ≡ 1)
 digit_cases a h = elim (cases_lt a 1) [ inl l ↦ inl (omega arith) | inr l ↦ inr (omega arith) ]
@@ -141,9 +141,9 @@ same_constructor_sym (sizes.Matrix c r) (sizes.Matrix m n) =
 
 -- ---- sets of scalars
 
-scalar_members : (set : ScalarSet) → Places (has_bit set.0) (has_scalar set) named_scalars
+scalar_members : (set : ScalarSet) → Positions (has_bit set.0) (has_scalar set) named_scalars
 unfolding named_scalars
-scalar_members set = places_of_members same_scalar same_scalar_self same_scalar_sym (has_bit set.0) named_scalars refl
+scalar_members set = positions_of_members same_scalar same_scalar_self same_scalar_sym (has_bit set.0) named_scalars refl
 
 pub scalars_of_both : (a b both : ScalarSet) → both.0 ≡ bit_and a.0 b.0 → scalars_in both ≡ filter (has_scalar b) (scalars_in a)
 scalars_of_both a b both e = items_where-and (has_scalar b) (has_bit b.0) (has_bit a.0) (has_bit both.0) named_scalars (scalar_members b)
@@ -153,15 +153,15 @@ pub scalars_of_either : (a b either : ScalarSet) → either.0 ≡ bit_or a.0 b.0
     scalars_in either ≡ filter (λ scalar. has_scalar a scalar || has_scalar b scalar) named_scalars
 scalars_of_either a b either e =
     items_where-filtered _ (has_bit either.0) named_scalars
-    (places_of_either (has_scalar a) (has_scalar b) (has_bit a.0) (has_bit b.0) (has_bit either.0) named_scalars (scalar_members a)
+    (positions_of_either (has_scalar a) (has_scalar b) (has_bit a.0) (has_bit b.0) (has_bit either.0) named_scalars (scalar_members a)
     (scalar_members b) (λ k. ap (λ n. has_bit n k) e ∙ has_bit-or a.0 b.0 k))
 
--- whether a set of the scalars that pass has the scalar of a place
-pub scalar_place : (q : Scalar → Bool) (set : ScalarSet) (k : ℕ) (s : Scalar) → scalars_in set ≡ filter q named_scalars →
+-- whether a set of the scalars that pass contains the scalar at a position
+pub scalar_position : (q : Scalar → Bool) (set : ScalarSet) (k : ℕ) (s : Scalar) → scalars_in set ≡ filter q named_scalars →
     slice_get named_scalars k ≡ Some s → has_bit set.0 k ≡ q s
 unfolding named_scalars
-scalar_place q set k s e at = Places-at (has_bit set.0) q named_scalars k s
-    (places_from_list same_scalar same_scalar_self q (has_bit set.0) named_scalars refl e) at
+scalar_position q set k s e at = Positions-at (has_bit set.0) q named_scalars k s
+    (positions_from_list same_scalar same_scalar_self q (has_bit set.0) named_scalars refl e) at
 
 -- ---- sets of constructors
 
@@ -169,9 +169,9 @@ same_some : Option ConstructorSize → Option ConstructorSize → Bool
 same_some (Some a) (Some b) = same_constructor a b
 same_some _ _ = false
 
-constructor_members : (set : ConstructorSet) → Places (has_bit set.0) (has_constructor set) all_constructors
+constructor_members : (set : ConstructorSet) → Positions (has_bit set.0) (has_constructor set) all_constructors
 unfolding all_constructors
-constructor_members set = places_of_members same_constructor same_constructor_self same_constructor_sym (has_bit set.0)
+constructor_members set = positions_of_members same_constructor same_constructor_self same_constructor_sym (has_bit set.0)
     all_constructors refl
 
 pub constructors_of_both : (a b both : ConstructorSet) → both.0 ≡ bit_and a.0 b.0 →
@@ -183,14 +183,14 @@ pub constructors_of_either : (a b either : ConstructorSet) → either.0 ≡ bit_
     constructors_in either ≡ filter (λ size. has_constructor a size || has_constructor b size) all_constructors
 constructors_of_either a b either e =
     items_where-filtered _ (has_bit either.0) all_constructors
-    (places_of_either (has_constructor a) (has_constructor b) (has_bit a.0) (has_bit b.0) (has_bit either.0) all_constructors
+    (positions_of_either (has_constructor a) (has_constructor b) (has_bit a.0) (has_bit b.0) (has_bit either.0) all_constructors
     (constructor_members a) (constructor_members b) (λ k. ap (λ n. has_bit n k) e ∙ has_bit-or a.0 b.0 k))
 
--- the test of equality, by places
+-- the test of equality, by positions
 same_at : ℕ → ℕ → Bool
 same_at j k = same_some (slice_get all_constructors j) (slice_get all_constructors k)
 
--- the constructors differ, so one has no other place
+-- the constructors are distinct, so each has only one position
 constructors_apart : (j k : ℕ) → j < 13 → k < 13 → nat_eq k j ≡ same_at j k
 unfolding all_constructors same_at same_some
 constructors_apart j k l m =
@@ -201,10 +201,10 @@ pub length-constructors : length all_constructors ≡ 13
 unfolding all_constructors
 length-constructors = refl
 
-pub same_place : (j k : ℕ) (size other : ConstructorSize) → slice_get all_constructors j ≡ Some size →
+pub same_position : (j k : ℕ) (size other : ConstructorSize) → slice_get all_constructors j ≡ Some size →
     slice_get all_constructors k ≡ Some other → nat_eq k j ≡ same_constructor size other
 unfolding same_at same_some
-same_place j k size other at_j at_k =
+same_position j k size other at_j at_k =
     constructors_apart j k (omega (arith, slice_get-within all_constructors j size at_j, length-constructors))
     (omega (arith, slice_get-within all_constructors k other at_k, length-constructors))
     ∙ ap (λ o. same_some o (slice_get all_constructors k)) at_j

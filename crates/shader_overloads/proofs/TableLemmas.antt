@@ -7,7 +7,7 @@ use Rattle.std.proofs.lemmas.Bool.{and_parts, both_ways, cases_eq, cases_lt, eq-
 use Rattle.shader_ir.specs.declared.types.«Type».{«Type»}
 use Rattle.shader_overloads.specs.declared.mask.Mask.{Mask}
 use Rattle.shader_overloads.specs.declared.rule.Rule.{Rule}
-use Rattle.shader_overloads.specs.Masks.{IsBelow, IsLeastPlace, IsTaken, RowFits, has_place, rules_at}
+use Rattle.shader_overloads.specs.Masks.{IsBelow, IsLeastPosition, IsTaken, NumberFits, has_position, rules_at}
 use Rattle.shader_overloads.specs.Remaining.{RuleFits, RulesFit}
 use Rattle.shader_overloads.proofs.ListLemmas.{element_at, first_within, items_where-filter, items_where-first}
 use Rattle.shader_overloads.proofs.ListLemmas.{items_where-none, items_where-split, slice_get-within}
@@ -15,32 +15,35 @@ use Rattle.shader_overloads.proofs.MaskLemmas.{member_has, no_element}
 
 -- all numbers of one set are in another
 abbrev pub IsInside : Mask → Mask → Type 0
-IsInside left mask = (k : ℕ) → has_place left k ≡ true → has_place mask k ≡ true
+IsInside left mask = (k : ℕ) → has_position left k ≡ true → has_position mask k ≡ true
 
 pub inside_itself : (mask : Mask) → IsInside mask mask
 inside_itself mask k h = h
 
-pub still_inside : (mask left next : Mask) (row : ℕ) → IsInside left mask → IsTaken left row next → IsInside next mask
-still_inside mask left next row inside taken k h = inside k (and_parts (has_place left k) (not (nat_eq k row)) (sym (taken.others k) ∙ h)).0
+pub still_inside : (mask left next : Mask) (number : ℕ) → IsInside left mask → IsTaken left number next → IsInside next mask
+still_inside mask left next number inside taken k h =
+    inside k (and_parts (has_position left k) (not (nat_eq k number)) (sym (taken.others k) ∙ h)).0
 
-pub taken_within : (mask left next : Mask) (row bound : ℕ) → IsBelow mask bound → IsInside left mask → IsTaken left row next → row < bound
-taken_within mask left next row bound within inside taken = elim (cases_lt row bound) [
+pub taken_within : (mask left next : Mask) (number bound : ℕ) → IsBelow mask bound → IsInside left mask → IsTaken left number next →
+    number < bound
+taken_within mask left next number bound within inside taken = elim (cases_lt number bound) [
   | inl h ↦ h
-  | inr past ↦ absurd (both_ways (has_place mask row) (within row past) (inside row taken.first.here))
+  | inr past ↦ absurd (both_ways (has_position mask number) (within number past) (inside number taken.first.here))
 ]
 
--- the rule of a number that is taken is among those that fit
-pub taken_fits : (types : List «Type») (mask left next : Mask) (rows : List Rule) (row : ℕ) → RulesFit types (rules_at mask rows) →
-    IsInside left mask → IsTaken left row next → RowFits types rows row
-taken_fits types mask left next rows row fits inside taken rule at =
-    member_has (RuleFits types) (has_place mask) rows row rule fits.each (inside row taken.first.here) at
+-- the rule of a removed number is among those that fit
+pub taken_fits : (types : List «Type») (mask left next : Mask) (table_rules : List Rule) (number : ℕ) →
+    RulesFit types (rules_at mask table_rules) →
+    IsInside left mask → IsTaken left number next → NumberFits types table_rules number
+taken_fits types mask left next table_rules number fits inside taken rule at =
+    member_has (RuleFits types) (has_position mask) table_rules number rule fits.each (inside number taken.first.here) at
 
 -- ---- the numbers of the rules that pass a test
 
--- of the numbers that are no longer left, those are kept whose rule passes
+-- of the numbers already visited, those whose rules pass are recorded
 abbrev pub Decided : (Rule → Bool) → Mask → Mask → Mask → List Rule → Type 0
-Decided q mask left kept rows = (k : ℕ) (rule : Rule) → slice_get rows k ≡ Some rule →
-    has_place kept k ≡ (has_place mask k && (not (has_place left k) && q rule))
+Decided q mask left retained table_rules = (k : ℕ) (rule : Rule) → slice_get table_rules k ≡ Some rule →
+    has_position retained k ≡ (has_position mask k && (not (has_position left k) && q rule))
 
 but_true : (b : Bool) → (b && not true) ≡ false
 but_true true = refl
@@ -59,45 +62,47 @@ failed true true = refl
 failed true false = refl
 failed false l = refl
 
-module _ (q : Rule → Bool) (mask : Mask) (rows : List Rule) where
-  pub decided_none : (kept : Mask) → ((k : ℕ) → has_place kept k ≡ false) → Decided q mask mask kept rows
-  decided_none kept none k rule at = none k ∙ undecided (has_place mask k) (q rule)
+module _ (q : Rule → Bool) (mask : Mask) (table_rules : List Rule) where
+  pub decided_none : (retained : Mask) → ((k : ℕ) → has_position retained k ≡ false) → Decided q mask mask retained table_rules
+  decided_none retained none k rule at = none k ∙ undecided (has_position mask k) (q rule)
 
-  pub decided_in : (left next kept more : Mask) (row : ℕ) → ((rule : Rule) → slice_get rows row ≡ Some rule → q rule ≡ true) →
-      IsInside left mask → IsTaken left row next → ((k : ℕ) → has_place more k ≡ (nat_eq k row || has_place kept k)) →
-      Decided q mask left kept rows → Decided q mask next more rows
-  decided_in left next kept more row passes inside taken put so k rule at = elim (cases_eq k row) [
+  pub decided_in : (left next retained more : Mask) (number : ℕ) →
+      ((rule : Rule) → slice_get table_rules number ≡ Some rule → q rule ≡ true) →
+      IsInside left mask → IsTaken left number next → ((k : ℕ) → has_position more k ≡ (nat_eq k number || has_position retained k)) →
+      Decided q mask left retained table_rules → Decided q mask next more table_rules
+  decided_in left next retained more number passes inside taken put so k rule at = elim (cases_eq k number) [
     | inl e ↦
-        let gone : has_place next k ≡ false = taken.others k ∙ rw (eq-eqb k row e) (but_true (has_place left k)) in
-        let here : has_place mask k ≡ true = ap (has_place mask) e ∙ inside row taken.first.here in
-        let passed : q rule ≡ true = passes rule (sym (ap (slice_get rows) e) ∙ at) in
-        put k ∙ rw (eq-eqb k row e, here, gone, passed) refl
+        let gone : has_position next k ≡ false = taken.others k ∙ rw (eq-eqb k number e) (but_true (has_position left k)) in
+        let here : has_position mask k ≡ true = ap (has_position mask) e ∙ inside number taken.first.here in
+        let passed : q rule ≡ true = passes rule (sym (ap (slice_get table_rules) e) ∙ at) in
+        put k ∙ rw (eq-eqb k number e, here, gone, passed) refl
     | inr ne ↦
-        let same : has_place next k ≡ has_place left k = taken.others k ∙ rw (ne_eqb k row ne) (but_false (has_place left k)) in
-        put k ∙ rw (ne_eqb k row ne, same) (so k rule at)
+        let same : has_position next k ≡ has_position left k = taken.others k ∙ rw (ne_eqb k number ne) (but_false (has_position left k)) in
+        put k ∙ rw (ne_eqb k number ne, same) (so k rule at)
   ]
 
-  pub decided_out : (left next kept : Mask) (row : ℕ) → ((rule : Rule) → slice_get rows row ≡ Some rule → q rule ≡ false) →
-      IsTaken left row next → Decided q mask left kept rows → Decided q mask next kept rows
-  decided_out left next kept row fails taken so k rule at = elim (cases_eq k row) [
+  pub decided_out : (left next retained : Mask) (number : ℕ) → ((rule : Rule) → slice_get table_rules number ≡ Some rule → q rule ≡ false) →
+      IsTaken left number next → Decided q mask left retained table_rules → Decided q mask next retained table_rules
+  decided_out left next retained number fails taken so k rule at = elim (cases_eq k number) [
     | inl e ↦
-        let refused : q rule ≡ false = fails rule (sym (ap (slice_get rows) e) ∙ at) in
-        so k rule at ∙ rw refused (failed (has_place mask k) (not (has_place left k))
-        ∙ sym (failed (has_place mask k) (not (has_place next k))))
+        let refused : q rule ≡ false = fails rule (sym (ap (slice_get table_rules) e) ∙ at) in
+        so k rule at ∙ rw refused (failed (has_position mask k) (not (has_position left k))
+        ∙ sym (failed (has_position mask k) (not (has_position next k))))
     | inr ne ↦
-        let same : has_place next k ≡ has_place left k = taken.others k ∙ rw (ne_eqb k row ne) (but_false (has_place left k)) in
+        let same : has_position next k ≡ has_position left k = taken.others k ∙ rw (ne_eqb k number ne) (but_false (has_position left k)) in
         so k rule at ∙ rw same refl
   ]
 
-  pub decided_all : (left kept : Mask) → ((k : ℕ) → has_place left k ≡ false) → Decided q mask left kept rows →
-      rules_at kept rows ≡ filter q (rules_at mask rows)
-  decided_all left kept none so =
-      items_where-filter q (has_place mask) (has_place kept) rows (λ k rule at. so k rule at
-      ∙ ap (λ b. has_place mask k && (not b && q rule)) (none k))
+  pub decided_all : (left retained : Mask) → ((k : ℕ) → has_position left k ≡ false) → Decided q mask left retained table_rules →
+      rules_at retained table_rules ≡ filter q (rules_at mask table_rules)
+  decided_all left retained none so =
+      items_where-filter q (has_position mask) (has_position retained) table_rules (λ k rule at. so k rule at
+      ∙ ap (λ b. has_position mask k && (not b && q rule)) (none k))
 
-pub put_within : (kept more : Mask) (row bound : ℕ) → row < bound → ((k : ℕ) → has_place more k ≡ (nat_eq k row || has_place kept k)) →
-    IsBelow kept bound → IsBelow more bound
-put_within kept more row bound h put within k past = put k ∙ rw (ne_eqb k row (λ e. omega arith)) (within k past)
+pub put_within : (retained more : Mask) (number bound : ℕ) → number < bound →
+    ((k : ℕ) → has_position more k ≡ (nat_eq k number || has_position retained k)) →
+    IsBelow retained bound → IsBelow more bound
+put_within retained more number bound h put within k past = put k ∙ rw (ne_eqb k number (λ e. omega arith)) (within k past)
 
 -- ---- the rules one after another
 
@@ -106,57 +111,60 @@ get_or-found [] k x at = refl
 get_or-found (y ∷ xs) zero x at = cc
 get_or-found (y ∷ xs) (suc k) x at = get_or-found xs k x at
 
-pub next_rule : (left next : Mask) (rows : List Rule) (row : ℕ) (rule : Rule) → slice_get rows row ≡ Some rule → IsTaken left row next →
-    rules_at left rows ≡ rule ∷ rules_at next rows
-next_rule left next rows row rule at taken =
-    items_where-split (has_place left) (has_place next) rows row rule taken.first.least taken.first.here gone same
-    (slice_get-within rows row rule at)
-    ∙ ap (λ r. r ∷ rules_at next rows) (get_or-found rows row rule at)
+pub next_rule : (left next : Mask) (table_rules : List Rule) (number : ℕ) (rule : Rule) → slice_get table_rules number ≡ Some rule →
+    IsTaken left number next →
+    rules_at left table_rules ≡ rule ∷ rules_at next table_rules
+next_rule left next table_rules number rule at taken =
+    items_where-split (has_position left) (has_position next) table_rules number rule taken.first.least taken.first.here gone same
+    (slice_get-within table_rules number rule at)
+    ∙ ap (λ r. r ∷ rules_at next table_rules) (get_or-found table_rules number rule at)
   where
-    gone : (i : ℕ) → i ≤ row → has_place next i ≡ false
-    gone i h = elim (cases_eq i row) [
-      | inl e ↦ taken.others i ∙ rw (eq-eqb i row e) (but_true (has_place left i))
-      | inr ne ↦ taken.others i ∙ ap (λ b. b && not (nat_eq i row)) (taken.first.least i (omega (arith, ne)))
+    gone : (i : ℕ) → i ≤ number → has_position next i ≡ false
+    gone i h = elim (cases_eq i number) [
+      | inl e ↦ taken.others i ∙ rw (eq-eqb i number e) (but_true (has_position left i))
+      | inr ne ↦ taken.others i ∙ ap (λ b. b && not (nat_eq i number)) (taken.first.least i (omega (arith, ne)))
     ]
 
-    same : (i : ℕ) → row < i → has_place next i ≡ has_place left i
-    same i h = taken.others i ∙ rw (ne_eqb i row (λ e. omega arith)) (but_false (has_place left i))
+    same : (i : ℕ) → number < i → has_position next i ≡ has_position left i
+    same i h = taken.others i ∙ rw (ne_eqb i number (λ e. omega arith)) (but_false (has_position left i))
 
--- the rules so far grow by the next one
-pub listed_next : (mask left next : Mask) (rows done more : List Rule) (row : ℕ) (rule : Rule) → slice_get rows row ≡ Some rule →
-    IsTaken left row next → more ≡ done ++ rule ∷ [] → done ++ rules_at left rows ≡ rules_at mask rows →
-    more ++ rules_at next rows ≡ rules_at mask rows
-listed_next mask left next rows done more row rule at taken grown so =
-    ap (λ list. list ++ rules_at next rows) grown
-    ∙ append_assoc done (rule ∷ []) (rules_at next rows)
-    ∙ ap (λ list. done ++ list) (sym (next_rule left next rows row rule at taken))
+-- the rules so far and the next one
+pub listed_next : (mask left next : Mask) (table_rules done more : List Rule) (number : ℕ) (rule : Rule) →
+    slice_get table_rules number ≡ Some rule →
+    IsTaken left number next → more ≡ done ++ rule ∷ [] → done ++ rules_at left table_rules ≡ rules_at mask table_rules →
+    more ++ rules_at next table_rules ≡ rules_at mask table_rules
+listed_next mask left next table_rules done more number rule at taken grown so =
+    ap (λ list. list ++ rules_at next table_rules) grown
+    ∙ append_assoc done (rule ∷ []) (rules_at next table_rules)
+    ∙ ap (λ list. done ++ list) (sym (next_rule left next table_rules number rule at taken))
     ∙ so
 
-pub none_at : (mask : Mask) (rows : List Rule) → ((k : ℕ) → has_place mask k ≡ false) → rules_at mask rows ≡ []
-none_at mask rows none = items_where-none (has_place mask) rows (λ i h. none i)
+pub none_at : (mask : Mask) (table_rules : List Rule) → ((k : ℕ) → has_position mask k ≡ false) → rules_at mask table_rules ≡ []
+none_at mask table_rules none = items_where-none (has_position mask) table_rules (λ i h. none i)
 
 -- ---- the first rule
 
-pub first_at : (mask : Mask) (rows : List Rule) (row : ℕ) → rules_at mask rows ≢ [] → IsLeastPlace mask row →
-    (row < length rows) × (slice_get (rules_at mask rows) 0 ≡ slice_get rows row)
-first_at mask rows row some first =
-    let within = first_within (has_place mask) rows row first.least some in
-    (within, items_where-first (has_place mask) rows row first.least first.here within)
+pub first_at : (mask : Mask) (table_rules : List Rule) (number : ℕ) → rules_at mask table_rules ≢ [] → IsLeastPosition mask number →
+    (number < length table_rules) × (slice_get (rules_at mask table_rules) 0 ≡ slice_get table_rules number)
+first_at mask table_rules number some first =
+    let within = first_within (has_position mask) table_rules number first.least some in
+    (within, items_where-first (has_position mask) table_rules number first.least first.here within)
 
-some_at : (mask : Mask) (rows : List Rule) (row : ℕ) → IsBelow mask (length rows) → IsLeastPlace mask row → rules_at mask rows ≡ [] → ⊥
-some_at mask rows row within first none = elim (cases_lt row (length rows)) [
+some_at : (mask : Mask) (table_rules : List Rule) (number : ℕ) → IsBelow mask (length table_rules) → IsLeastPosition mask number →
+    rules_at mask table_rules ≡ [] → ⊥
+some_at mask table_rules number within first none = elim (cases_lt number (length table_rules)) [
   | inl near ↦
-      let element = element_at rows row near in
-      no_element (rules_at mask rows) 0 element.element none
-      (items_where-first (has_place mask) rows row first.least first.here near ∙ element.is)
-  | inr far ↦ both_ways (has_place mask row) (within row far) first.here
+      let element = element_at table_rules number near in
+      no_element (rules_at mask table_rules) 0 element.element none
+      (items_where-first (has_position mask) table_rules number first.least first.here near ∙ element.is)
+  | inr far ↦ both_ways (has_position mask number) (within number far) first.here
 ]
 
-pub empty_mask : (mask : Mask) (rows : List Rule) (found : Option ℕ) (empty : Bool) → IsBelow mask (length rows) →
-    is_some found ≡ not empty → IfNone found ((k : ℕ) → has_place mask k ≡ false) → IfSome found (IsLeastPlace mask) →
-    (empty ≡ true) ↔ (rules_at mask rows ≡ [])
-empty_mask mask rows None true within told none first = (λ _. none_at mask rows none, λ _. refl)
-empty_mask mask rows None false within told none first = absurd (both_ways false refl told)
-empty_mask mask rows (Some row) true within told none first = absurd (both_ways true told refl)
-empty_mask mask rows (Some row) false within told none first =
-    (λ h. absurd (both_ways false refl h), λ e. absurd (some_at mask rows row within first e))
+pub empty_mask : (mask : Mask) (table_rules : List Rule) (found : Option ℕ) (empty : Bool) → IsBelow mask (length table_rules) →
+    is_some found ≡ not empty → IfNone found ((k : ℕ) → has_position mask k ≡ false) → IfSome found (IsLeastPosition mask) →
+    (empty ≡ true) ↔ (rules_at mask table_rules ≡ [])
+empty_mask mask table_rules None true within reported none first = (λ _. none_at mask table_rules none, λ _. refl)
+empty_mask mask table_rules None false within reported none first = absurd (both_ways false refl reported)
+empty_mask mask table_rules (Some number) true within reported none first = absurd (both_ways true reported refl)
+empty_mask mask table_rules (Some number) false within reported none first =
+    (λ h. absurd (both_ways false refl h), λ e. absurd (some_at mask table_rules number within first e))

@@ -1,4 +1,4 @@
--- Which types rules tell apart.
+-- Laws on which types rules can distinguish.
 use Rattle.std.specs.Prelude.{◌≡◌, ℕ, Bool, true, IsTrue, List, Option, Some, None, slice_get}
 use Rattle.std.specs.List.{list_any}
 use Rattle.shader_ir.specs.declared.operators.MathFunction.{MathFunction}
@@ -17,25 +17,25 @@ abbrev pub AcceptsCanonicalForms : (List «Type» → ℕ → TypeInner → Rule
 AcceptsCanonicalForms accepting =
     (types : List «Type») (i : ℕ) (ty : TypeInner) (rule : Rule) → accepting types i (canonical types ty) rule ≡ accepting types i ty rule
 
--- so are any two types of one key
+-- any two types with one key are accepted by the same rules
 abbrev pub AcceptsByKey : (List «Type» → ℕ → TypeInner → Rule → Bool) → Type 0
 AcceptsByKey accepting =
     (types : List «Type») (i : ℕ) (left right : TypeResolution) (ty other : TypeInner) (rule : Rule)
     → inner_of types left ≡ Some ty → inner_of types right ≡ Some other → key_of types left ≡ key_of types right
     → accepting types i ty rule ≡ accepting types i other rule
 
--- one of the twelve scalars that have names
+-- the scalar is one of the twelve named scalars
 abbrev pub is_named : Scalar → Bool
 is_named s = list_any (same_scalar s) named_scalars
 
--- such a scalar, or none
+-- the scalar is a named one, or there is none
 abbrev pub is_named_or_none : Option Scalar → Bool
 is_named_or_none None = true
 is_named_or_none (Some s) = is_named s
 
--- on the rules of the builtins, regular sets and lists accept the same types, as far as scalars with names are at their leaves
+-- on the rules of the built-in functions, regular sets and lists accept the same types, if the leaf scalars are named ones
 abbrev pub AcceptancesAgree : Type 0
 AcceptancesAgree =
-    (types : List «Type») (function : MathFunction) (place i : ℕ) (ty : TypeInner) (rule : Rule)
-    → IsTrue (is_named_or_none (leaf_scalar ty)) → slice_get (rules_of function) place ≡ Some rule
+    (types : List «Type») (function : MathFunction) (position i : ℕ) (ty : TypeInner) (rule : Rule)
+    → IsTrue (is_named_or_none (leaf_scalar ty)) → slice_get (rules_of function) position ≡ Some rule
     → accepts types i ty rule ≡ list_accepts types i ty rule

@@ -1,4 +1,4 @@
--- The builtins by the arguments that they take.
+-- The built-in functions, grouped by their arguments.
 use Rattle.std.specs.Prelude.{Bool, true, false, List, [], ◌∷◌, Option, Some, None}
 use Rattle.std.specs.List.{list_any}
 use Rattle.shader_ir.specs.contracts.operators.MathFunctionPartialEq.TheImpl as functions
@@ -18,13 +18,13 @@ abbrev pub number_functions : List MathFunction
 number_functions = f.Abs ∷ f.Sign ∷ f.Min ∷ f.Max ∷ f.Clamp ∷ f.CountTrailingZeros ∷ f.CountLeadingZeros ∷ f.CountOneBits ∷ f.ReverseBits
     ∷ f.FirstTrailingBit ∷ f.FirstLeadingBit ∷ []
 
--- numbers that are packed into a word, or words of packed numbers
+-- packing numbers into a word, and unpacking them
 abbrev pub packing_functions : List MathFunction
 packing_functions = f.Pack4x8snorm ∷ f.Pack4x8unorm ∷ f.Pack2x16snorm ∷ f.Pack2x16unorm ∷ f.Pack2x16float ∷ f.Pack4xI8 ∷ f.Pack4xI8Clamp
     ∷ f.Pack4xU8 ∷ f.Pack4xU8Clamp ∷ f.Unpack4x8snorm ∷ f.Unpack4x8unorm ∷ f.Unpack2x16snorm ∷ f.Unpack2x16unorm ∷ f.Unpack2x16float
     ∷ f.Unpack4xI8 ∷ f.Unpack4xU8 ∷ f.Dot4I8Packed ∷ f.Dot4U8Packed ∷ []
 
--- vectors, of which products, lengths or directions are taken
+-- products, lengths and directions of vectors
 abbrev pub geometric_functions : List MathFunction
 geometric_functions = f.Dot ∷ f.Cross ∷ f.Distance ∷ f.Length ∷ f.Normalize ∷ f.FaceForward ∷ f.Reflect ∷ []
 
@@ -32,7 +32,7 @@ geometric_functions = f.Dot ∷ f.Cross ∷ f.Distance ∷ f.Length ∷ f.Normal
 abbrev pub matrix_functions : List MathFunction
 matrix_functions = f.Inverse ∷ f.Determinant ∷ []
 
--- floats that are split into two parts
+-- floats that are split in two
 abbrev pub splitting_functions : List MathFunction
 splitting_functions = f.Modf ∷ f.Frexp ∷ []
 
@@ -42,11 +42,11 @@ same_function = functions.ghosts.eq
 abbrev pub is_among : List MathFunction → MathFunction → Bool
 is_among group function = list_any (same_function function) group
 
--- whether the overload set of a builtin is a list
+-- whether the overload set of a built-in function is a list
 abbrev pub is_listed : MathFunction → Bool
 is_listed = is_among (f.Ldexp ∷ f.Outer ∷ f.Refract ∷ f.Transpose ∷ f.ExtractBits ∷ f.InsertBits ∷ f.Mix ∷ [])
 
--- the rules of a builtin, where it passes a test
+-- the rules of a built-in function, if it passes a test
 abbrev pub rules_if : Bool → MathFunction → Option (List Rule)
 rules_if true function = Some (rules_of function)
 rules_if false function = None

@@ -1,4 +1,4 @@
--- The rules of each builtin, written out.
+-- The rules of each built-in function, written out.
 use Rattle.std.specs.Prelude.{ℕ, Bool, List, [], ◌∷◌, ◌++◌, map}
 use Rattle.std.specs.List.{flat_map}
 use Rattle.shader_ir.specs.declared.operators.MathFunction.{MathFunction}
@@ -47,7 +47,7 @@ u32 = scalar Uint 4
 abbrev pub f32 : Scalar
 f32 = scalar Float 4
 
--- the integers in the order of the lists that hold them: of each width the signed one, then the unsigned
+-- the integers in the order of the lists: by width, the signed one before the unsigned
 abbrev pub integers_by_width : List Scalar
 integers_by_width = i32 ∷ u32 ∷ scalar Sint 2 ∷ scalar Uint 2 ∷ scalar Sint 8 ∷ scalar Uint 8 ∷ []
 
@@ -71,46 +71,46 @@ exponent_of_kind _ = i32
 abbrev pub exponent_of : Scalar → Scalar
 exponent_of s = exponent_of_kind s.kind
 
--- of each float: the scalar with an exponent, and each vector with a vector of exponents of its size
+-- for each float: the scalar with an exponent, and each vector with a vector of exponents of its size
 unfoldable pub ldexp_rules : List Rule
 ldexp_rules =
     flat_map (λ s.
     rule (types.Scalar s ∷ types.Scalar (exponent_of s) ∷ []) (types.Scalar s)
     ∷ map (λ size. rule (types.Vector size s ∷ types.Vector size (exponent_of s) ∷ []) (types.Vector size s)) vector_sizes) all_floats
 
--- of a vector of the columns' size and one of the rows', the matrix
+-- a vector of the columns' size and one of the rows' give the matrix
 unfoldable pub outer_rules : List Rule
 outer_rules =
     flat_map (λ columns. flat_map (λ rows.
     map (λ s. rule (types.Vector columns s ∷ types.Vector rows s ∷ []) (types.Matrix columns rows s)) all_floats) vector_sizes) vector_sizes
 
--- of two vectors and a scalar
+-- two vectors and a scalar
 unfoldable pub refract_rules : List Rule
 refract_rules =
     flat_map (λ size. map (λ s. rule (types.Vector size s ∷ types.Vector size s ∷ types.Scalar s ∷ []) (types.Vector size s))
     all_floats) vector_sizes
 
--- of a matrix, the one with columns and rows exchanged
+-- a matrix gives the one with columns and rows exchanged
 unfoldable pub transpose_rules : List Rule
 transpose_rules =
     flat_map (λ columns. flat_map (λ rows.
     map (λ s. rule (types.Matrix columns rows s ∷ []) (types.Matrix rows columns s)) all_floats) vector_sizes) vector_sizes
 
--- of an integer or a vector of integers, an offset and a count
+-- an integer or a vector of integers, an offset and a count
 unfoldable pub extract_bits_rules : List Rule
 extract_bits_rules = flat_map (λ s. map (λ t. rule (t ∷ types.Scalar u32 ∷ types.Scalar u32 ∷ []) t) (shapes s)) integers_by_width
 
--- of two integers or two vectors of integers, an offset and a count
+-- two integers or two vectors of integers, an offset and a count
 unfoldable pub insert_bits_rules : List Rule
 insert_bits_rules = flat_map (λ s. map (λ t. rule (t ∷ t ∷ types.Scalar u32 ∷ types.Scalar u32 ∷ []) t) (shapes s)) integers_by_width
 
--- of two equal types and a third one like them or its scalar; of scalars the two rules are the same
+-- two arguments of one type, and a third of that type or of its scalar; for scalars the two rules are the same
 unfoldable pub mix_rules : List Rule
 mix_rules = flat_map (λ s. flat_map (λ t. rule (t ∷ t ∷ t ∷ []) t ∷ rule (t ∷ t ∷ types.Scalar s ∷ []) t ∷ []) (shapes s)) all_floats
 
 -- ---- the table
 
--- the rules of a builtin: arguments, conclusion, constructors and scalars of a regular set, or a list
+-- the rules of a built-in function: arguments, conclusion, constructors and scalars of a regular set, or a list
 abbrev pub rules_of : MathFunction → List Rule
 rules_of f.Abs = regular_rules 1 gives.ArgumentType scalars_and_vectors numeric
 rules_of f.Sign = regular_rules 1 gives.ArgumentType scalars_and_vectors numeric
@@ -192,7 +192,7 @@ rules_of f.ExtractBits = extract_bits_rules
 rules_of f.InsertBits = insert_bits_rules
 rules_of f.Mix = mix_rules
 
--- how the set of a builtin accepts arguments
+-- how the set of a built-in function accepts arguments
 abbrev pub acceptance_of : MathFunction → List «Type» → ℕ → TypeInner → Rule → Bool
 acceptance_of f.Ldexp = list_accepts
 acceptance_of f.Outer = list_accepts

@@ -1,4 +1,4 @@
--- The constructors of types from scalars, and sets of them.
+-- Type constructors and sets of them.
 use Rattle.std.specs.Prelude.{Bool, true, false, ◌&&◌, List, [], ◌∷◌}
 use Rattle.std.specs.List.{list_any}
 use Rattle.shader_ir.specs.declared.scalar.Scalar.{Scalar}
@@ -25,14 +25,14 @@ all_constructors =
     ∷ sizes.Matrix Tri Bi ∷ sizes.Matrix Tri Tri ∷ sizes.Matrix Tri Quad
     ∷ sizes.Matrix Quad Bi ∷ sizes.Matrix Quad Tri ∷ sizes.Matrix Quad Quad ∷ []
 
--- whether a type is made by a constructor
-abbrev pub is_made_by : TypeInner → ConstructorSize → Bool
-is_made_by (types.Scalar s) sizes.Scalar = true
-is_made_by (types.Vector m s) (sizes.Vector n) = same_size m n
-is_made_by (types.Matrix columns rows s) (sizes.Matrix m n) = same_size columns m && same_size rows n
-is_made_by _ _ = false
+-- whether a type is built by a constructor
+abbrev pub is_built_by : TypeInner → ConstructorSize → Bool
+is_built_by (types.Scalar s) sizes.Scalar = true
+is_built_by (types.Vector m s) (sizes.Vector n) = same_size m n
+is_built_by (types.Matrix columns rows s) (sizes.Matrix m n) = same_size columns m && same_size rows n
+is_built_by _ _ = false
 
--- the type that a constructor makes of a scalar
+-- the type that a constructor builds from a scalar
 abbrev pub to_inner : ConstructorSize → Scalar → TypeInner
 to_inner sizes.Scalar s = types.Scalar s
 to_inner (sizes.Vector size) s = types.Vector size s

@@ -1,4 +1,4 @@
--- The rules that each list of the builtins has of one constructor and one scalar.
+-- The rules of each list form for one constructor and one scalar.
 use Rattle.std.specs.Prelude.{List, [], ◌∷◌}
 use Rattle.shader_ir.specs.declared.scalar.Scalar.{Scalar}
 use Rattle.shader_ir.specs.declared.types.TypeInner.TheVariants as types

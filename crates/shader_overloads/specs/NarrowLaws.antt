@@ -1,4 +1,4 @@
--- How calls on a set act on one another.
+-- Laws on the calls that narrow a set.
 use Rattle.std.specs.Prelude.{◌≡◌, ℕ, Bool, List, filter}
 use Rattle.shader_ir.specs.declared.types.«Type».{«Type»}
 use Rattle.shader_ir.specs.declared.types.TypeInner.{TypeInner}
@@ -17,7 +17,7 @@ CallsCommute =
     → after_call accepting types second (after_call accepting types first rules)
     ≡ after_call accepting types first (after_call accepting types second rules)
 
--- a call that is repeated leaves all rules
+-- repeating a call rules out nothing more
 abbrev pub CallsRepeat : Type 0
 CallsRepeat =
     (accepting : List «Type» → ℕ → TypeInner → Rule → Bool) (types : List «Type») (call : SetCall) (rules : List Rule)

@@ -1,4 +1,4 @@
--- Which rules accept an argument, and the rules that remain after the calls on a set.
+-- Acceptance of arguments by rules, and the rules that remain after the calls on a set.
 use Rattle.std.specs.Prelude.{ℕ, Bool, true, false, not, ◌&&◌, ◌||◌, List, filter, slice_get, length}
 use Rattle.std.specs.Prelude.{All, Option, Some, None, option_and_then, is_some, IfSome}
 use Rattle.std.specs.List.{list_all}
@@ -20,7 +20,7 @@ use Rattle.shader_overloads.specs.SameType.{same_type}
 
 -- ---- abstract types
 
--- whether a type that is told is not abstract
+-- whether a type is given and isn't abstract
 abbrev pub is_concrete : List «Type» → Option TypeInner → Bool
 is_concrete types None = true
 is_concrete types (Some inner) = not (is_abstract (tree_of types inner))
@@ -31,11 +31,11 @@ has_concrete_arguments types rule = list_all (λ argument. is_concrete types (in
 
 -- ---- acceptance
 
--- the type of a rule's argument i, where it has one
+-- the type of a rule's argument i, if it has one
 abbrev pub argument_at : List «Type» → ℕ → Rule → Option TypeInner
 argument_at types i rule = option_and_then (inner_of types) (slice_get rule.arguments i)
 
--- whether an argument of the second type takes a value of the first: the same constructor, and a scalar to which the first's converts
+-- whether an argument of the second type accepts a value of the first: the same constructor, and a scalar to which the first's converts
 abbrev pub takes : TypeInner → TypeInner → Bool
 takes (Scalar from) (Scalar to) = is_convertible from to
 takes (Vector m from) (Vector n to) = same_size m n && is_convertible from to
@@ -53,11 +53,11 @@ abbrev pub some_takes : TypeInner → Option TypeInner → Bool
 some_takes ty None = false
 some_takes ty (Some argument) = takes ty argument
 
--- whether a rule of a regular set has an argument i that takes a value of the type
+-- whether a rule of a regular set has an argument i that accepts a value of the type
 abbrev pub accepts : List «Type» → ℕ → TypeInner → Rule → Bool
 accepts types i ty rule = some_takes ty (argument_at types i rule)
 
--- whether an argument of the second type takes a value of the first, in a list: the same type, or one to which the first converts
+-- whether an argument of the second type accepts a value of the first in a list: the same type, or one to which the first converts
 abbrev pub list_takes : List «Type» → TypeInner → TypeInner → Bool
 list_takes types ty argument =
     same_type (canonical types ty) (canonical types argument) || is_some (conversion (tree_of types ty) (tree_of types argument))
@@ -66,7 +66,7 @@ abbrev pub some_list_takes : List «Type» → TypeInner → Option TypeInner �
 some_list_takes types ty None = false
 some_list_takes types ty (Some argument) = list_takes types ty argument
 
--- whether a rule of a list has an argument i that takes a value of the type
+-- whether a rule of a list has an argument i that accepts a value of the type
 abbrev pub list_accepts : List «Type» → ℕ → TypeInner → Rule → Bool
 list_accepts types i ty rule = some_list_takes types ty (argument_at types i rule)
 
@@ -81,20 +81,20 @@ passes accepting types rule ConcreteOnly = has_concrete_arguments types rule
 abbrev pub remaining : (List «Type» → ℕ → TypeInner → Rule → Bool) → List «Type» → List SetCall → List Rule → List Rule
 remaining accepting types calls rules = filter (λ rule. list_all (passes accepting types rule) calls) rules
 
--- ---- what the calls ask
+-- ---- preconditions of the calls
 
--- the handles of a rule's argument are in range, and it is no struct
+-- the handles of a rule's argument are in range, and it isn't a struct outside the arena
 abbrev pub ArgumentFits : List «Type» → TypeResolution → Type 0
 ArgumentFits types argument = FitsTypes types argument × IfSome (inner_of types argument) IsNoStruct
 
 abbrev pub RuleFits : List «Type» → Rule → Type 0
 RuleFits types rule = All (ArgumentFits types) rule.arguments
 
--- so it is of the arguments of all rules
+-- the arguments of all rules fit
 pub record RulesFit (types : List «Type») (rules : List Rule) : Type 0 where
   pub each : All (RuleFits types) rules
 
--- a struct that is no type of the arena
+-- the type is a struct outside the arena
 abbrev pub is_free_struct : TypeResolution → Bool
 is_free_struct (resolutions.Value (Struct span members)) = true
 is_free_struct _ = false

@@ -1,4 +1,4 @@
--- The type of a builtin's result in a module.
+-- The result type of a built-in function in a module.
 use Rattle.std.specs.Prelude.{ℕ, Bool, Option, Some, None}
 use Rattle.std.specs.Map.{lookup}
 use Rattle.shader_ir.specs.contracts.«module».PredeclaredTypePartialEq.TheImpl as predeclared
@@ -13,7 +13,7 @@ use Rattle.shader_overloads.specs.declared.rule.Conclusion.TheVariants.{Value, P
 abbrev pub same_predeclared : PredeclaredType → PredeclaredType → Bool
 same_predeclared = predeclared.ghosts.eq
 
--- the type that a module registers for a builtin's result
+-- the type that a module registers for a built-in function's result
 abbrev pub registered : SpecialTypes → PredeclaredType → Option ℕ
 registered special predeclared = lookup (same_predeclared predeclared) special.predeclared_types
 
@@ -21,12 +21,12 @@ abbrev pub found_resolution : Option ℕ → Option TypeResolution
 found_resolution (Some handle) = Some (resolutions.Handle handle)
 found_resolution None = None
 
--- the conclusion is no free-standing struct
+-- the conclusion isn't a struct outside the arena
 abbrev pub ConcludesNoMembers : Conclusion → Type 0
 ConcludesNoMembers (Value inner) = IsNoStruct inner
 ConcludesNoMembers (Predeclared predeclared) = Unit {0}
 
--- the type that a conclusion stands for, where the module has it
+-- the type that a conclusion stands for, if the module has it
 abbrev pub resolution_of : SpecialTypes → Conclusion → Option TypeResolution
 resolution_of special (Value inner) = Some (resolutions.Value inner)
 resolution_of special (Predeclared predeclared) = found_resolution (registered special predeclared)

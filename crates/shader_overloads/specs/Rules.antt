@@ -1,4 +1,4 @@
--- Rules: what a builtin takes and what it gives.
+-- Rules: the arguments and the result of a built-in function.
 use Rattle.std.specs.Prelude.{ℕ, Bool, true, false, List, map, replicate, Option, Some, None}
 use Rattle.std.specs.List.{flat_map}
 use Rattle.shader_ir.specs.declared.scalar.Scalar.{Scalar}
@@ -18,24 +18,24 @@ use Rattle.shader_overloads.specs.declared.regular.ConclusionRule.TheVariants as
 use Rattle.shader_overloads.specs.declared.rule.Rule.{Rule}
 use Rattle.shader_overloads.specs.Constructors.{to_inner}
 
--- whether a constructor makes scalars or vectors
+-- whether a constructor builds scalars or vectors
 abbrev pub is_scalar_or_vector : ConstructorSize → Bool
 is_scalar_or_vector sizes.Scalar = true
 is_scalar_or_vector (sizes.Vector size) = true
 is_scalar_or_vector (sizes.Matrix columns rows) = false
 
--- the size of a vector, and none of a scalar
+-- the size of a vector, or none for a scalar
 abbrev pub vector_size : ConstructorSize → Option VectorSize
 vector_size (sizes.Vector size) = Some size
 vector_size _ = None
 
--- whether a regular set may conclude so from an argument that this constructor makes
+-- whether a regular set may have this conclusion for an argument of this constructor
 abbrev pub can_conclude : ConclusionRule → ConstructorSize → Bool
 can_conclude conclusions.Frexp size = is_scalar_or_vector size
 can_conclude conclusions.Modf size = is_scalar_or_vector size
 can_conclude _ size = true
 
--- the conclusion from an argument of this constructor and scalar
+-- the conclusion for an argument of this constructor and scalar
 abbrev pub conclusion_of : ConclusionRule → ConstructorSize → Scalar → Conclusion
 conclusion_of conclusions.ArgumentType size s = Value (to_inner size s)
 conclusion_of conclusions.Scalar size s = Value (types.Scalar s)
@@ -48,11 +48,11 @@ conclusion_of conclusions.Vec4F size s = Value (types.Vector Quad (scalar kinds.
 conclusion_of conclusions.Vec4I size s = Value (types.Vector Quad (scalar kinds.Sint 4))
 conclusion_of conclusions.Vec4U size s = Value (types.Vector Quad (scalar kinds.Uint 4))
 
--- the rule of one constructor and scalar: all its arguments have the type that they make
+-- the rule of one constructor and scalar: all its arguments have the type that these build
 abbrev pub rule_for : ℕ → ConclusionRule → ConstructorSize → Scalar → Rule
 rule_for arity conclude size s =
     record { arguments = replicate arity (resolutions.Value (to_inner size s)); conclusion = conclusion_of conclude size s }
 
--- the rules of a regular set: constructor by constructor, and within each scalar by scalar
+-- the rules of a regular set, by constructor and then by scalar
 unfoldable pub regular_rules : ℕ → ConclusionRule → List ConstructorSize → List Scalar → List Rule
 regular_rules arity conclude sizes scalars = flat_map (λ size. map (rule_for arity conclude size) scalars) sizes

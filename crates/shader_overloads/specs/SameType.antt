@@ -1,4 +1,4 @@
--- A test of the equality of types.
+-- A decision procedure for the equality of types.
 use Rattle.std.specs.Prelude.{◌==◌, Bool, true, false, ◌&&◌}
 use Rattle.std.specs.Coded.{Coded, codes}
 use base.Stored.{Gv, gnil, gnum, gcons}
@@ -10,7 +10,7 @@ same_code (gnum m) (gnum n) = m == n
 same_code (gcons a b) (gcons c d) = same_code a c && same_code b d
 same_code _ _ = false
 
--- a code that tells types apart
+-- an encoding that distinguishes types
 pub inner_coded : Coded TypeInner
 inner_coded = hlevel codes
 

@@ -1,4 +1,4 @@
--- Sets of scalars, as lists in the order of the named scalars.
+-- Sets of scalars as lists in the order of the named scalars.
 use Rattle.std.specs.Prelude.{Bool, not, List}
 use Rattle.std.specs.List.{list_any}
 use Rattle.shader_ir.specs.declared.scalar.Scalar.{Scalar}
@@ -10,7 +10,7 @@ use Rattle.shader_overloads.specs.Bits.{has_bit, items_where}
 abbrev pub scalars_in : ScalarSet → List Scalar
 scalars_in set = items_where (has_bit set.0) named_scalars
 
--- whether a set has a scalar
+-- whether a set contains a scalar
 abbrev pub has_scalar : ScalarSet → Scalar → Bool
 has_scalar set scalar = list_any (same_scalar scalar) (scalars_in set)
 

@@ -1,4 +1,4 @@
-//! Overload sets of either kind.
+//! Overload sets of either kind: lists and regular sets.
 ghost use Rattle.std.specs.Prelude.{◌≡◌};
 
 use crate::{List, OverloadSet, Regular, Rule};
@@ -9,7 +9,7 @@ use std::alloc::{AllocError, Global};
 /// An overload set of either kind.
 #[derive(Drop)]
 pub enum AnyOverloadSet {
-    /// Rules that are listed one by one.
+    /// Rules listed one by one.
     List(List),
     /// All combinations of constructors and scalars.
     Regular(Regular),

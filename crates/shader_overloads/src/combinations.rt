@@ -1,13 +1,13 @@
 //! Combinations of the items of slices.
 ghost use Rattle.std.specs.Prelude.{◌≡◌, ◌↔◌, [], IsTrue};
 ghost use Rattle.std.specs.Iterator.{YieldsFirst, item_count};
-ghost use Rattle.shader_overloads.specs.Combinations.{pairs_of, triples_of};
+ghost use Rattle.shader_overloads.specs.Combinations.{pair_combinations, triples_of};
 
 use std::marker::Model;
 
-/// All pairs of an item of the first slice and one of the second, those of one first item together.
+/// Returns all pairs of an item of `left` and an item of `right`, in order, `left` outermost.
 pub fn pairs<'a, T: Copy, U: Copy>(left: &'a [T], right: &'a [U]) -> PairsLeft<'a, T, U>
-    ensures { result ≡ pairs_of left.now right.now }
+    ensures { result ≡ pair_combinations left.now right.now }
 {
     PairsLeft {
         left,
@@ -16,7 +16,7 @@ pub fn pairs<'a, T: Copy, U: Copy>(left: &'a [T], right: &'a [U]) -> PairsLeft<'
     }
 }
 
-/// All triples of items of the three slices, the first slice outermost.
+/// Returns all triples of items of the three slices, in order, the first slice outermost.
 pub fn triples<'a, T: Copy, U: Copy, V: Copy>(
     left: &'a [T],
     middle: &'a [U],
@@ -32,11 +32,11 @@ pub fn triples<'a, T: Copy, U: Copy, V: Copy>(
     }
 }
 
-/// The pairs that [`pairs`] has left to give.
+/// An iterator over the remaining pairs of [`pairs`].
 #[derive(Drop)]
 pub struct PairsLeft<'a, T, U> {
     left: &'a [T],
-    /// What the first of `left` is still to be paired with.
+    /// The items still to be paired with the first of `left`.
     partners: &'a [U],
     right: &'a [U],
 }
@@ -72,11 +72,11 @@ impl<'a, T: Copy, U: Copy> Iterator for PairsLeft<'a, T, U> {
     }
 }
 
-/// The triples that [`triples`] has left to give.
+/// An iterator over the remaining triples of [`triples`].
 #[derive(Drop)]
 pub struct TriplesLeft<'a, T, U, V> {
     left: &'a [T],
-    /// What the first of `left` is still to be joined with.
+    /// The pairs still to be joined with the first of `left`.
     partners: PairsLeft<'a, U, V>,
     middle: &'a [U],
     right: &'a [V],

@@ -2,21 +2,21 @@
 ghost use Rattle.std.specs.Prelude.{⊤, codes, ◌≡◌, ◌==◌, ◌≢◌, ◌↔◌, ◌<◌, ◌||◌, [], ◌∷◌, length, filter, map, IsTrue, Some, slice_get};
 ghost use Rattle.std.specs.Iterator.{YieldsFirstBy, item_count};
 ghost use Rattle.shader_overloads.specs.Constructors.{all_constructors, constructors_in, has_constructor};
-ghost use Rattle.shader_overloads.specs.Constructors.{is_made_by, same_constructor, to_inner};
+ghost use Rattle.shader_overloads.specs.Constructors.{is_built_by, same_constructor, to_inner};
 
 use bitflags::{Flag, Flags};
 use shader_ir::{Scalar, TypeInner, VectorSize};
 use std::marker::Model;
 use std::ops::{BitAnd, BitOr};
 
-/// What a type constructor makes of a scalar.
+/// A type constructor, which builds a type from a scalar.
 #[derive(Clone, Copy, Debug)]
 pub enum ConstructorSize {
     /// The scalar itself.
     Scalar,
-    /// A vector of it.
+    /// A vector of the scalar.
     Vector(VectorSize),
-    /// A matrix of it, so many columns of so many rows.
+    /// A matrix of the scalar, by its columns and rows.
     Matrix {
         columns: VectorSize,
         rows: VectorSize,
@@ -24,7 +24,7 @@ pub enum ConstructorSize {
 }
 
 impl ConstructorSize {
-    /// The type that the constructor makes of the scalar.
+    /// Returns the type that the constructor builds from the scalar.
     pub fn to_inner(self, scalar: Scalar) -> TypeInner
         ensures { result ≡ to_inner self scalar }
     {
@@ -40,7 +40,7 @@ impl ConstructorSize {
     }
 }
 
-/// The constructors by the places of their bits.
+/// The constructors by the positions of their bits.
 static SIZES_FOR_BITS: [ConstructorSize; 13] = [
     ConstructorSize::Scalar,
     ConstructorSize::Vector(VectorSize::Bi),
@@ -84,30 +84,30 @@ static SIZES_FOR_BITS: [ConstructorSize; 13] = [
     },
 ];
 
-/// What the constructor of a place makes.
+/// Returns the constructor at a position.
 #[tactic(auto, unfolding(crate::specs::Constructors::all_constructors))]
-pub fn size_at(place: usize) -> ConstructorSize
-    requires { place < 13 }
-    ensures { slice_get all_constructors place ≡ Some result }
+pub fn size_at(position: usize) -> ConstructorSize
+    requires { position < 13 }
+    ensures { slice_get all_constructors position ≡ Some result }
 {
-    SIZES_FOR_BITS[place]
+    SIZES_FOR_BITS[position]
 }
 
-/// The place of a constructor.
+/// Returns the position of a constructor.
 #[tactic(auto, unfolding(crate::specs::Constructors::all_constructors))]
 #[inline(always)]
-pub fn place_of(size: ConstructorSize) -> usize
+pub fn position_of(size: ConstructorSize) -> usize
     ensures { slice_get all_constructors result ≡ Some size }
 {
     match size {
         ConstructorSize::Scalar => 0,
-        ConstructorSize::Vector(size) => place_of_vector(size),
-        ConstructorSize::Matrix { columns, rows } => place_of_matrix(columns, rows),
+        ConstructorSize::Vector(size) => position_of_vector(size),
+        ConstructorSize::Matrix { columns, rows } => position_of_matrix(columns, rows),
     }
 }
 
 #[tactic(auto, unfolding(crate::specs::Constructors::all_constructors))]
-fn place_of_vector(size: VectorSize) -> usize
+fn position_of_vector(size: VectorSize) -> usize
     ensures { slice_get all_constructors result ≡ Some (ConstructorSize.Vector size) }
 {
     match size {
@@ -118,7 +118,7 @@ fn place_of_vector(size: VectorSize) -> usize
 }
 
 #[tactic(auto, unfolding(crate::specs::Constructors::all_constructors))]
-fn place_of_matrix(columns: VectorSize, rows: VectorSize) -> usize
+fn position_of_matrix(columns: VectorSize, rows: VectorSize) -> usize
     ensures { slice_get all_constructors result ≡ Some (ConstructorSize.Matrix columns rows) }
 {
     match (columns, rows) {
@@ -165,12 +165,12 @@ impl ConstructorSet {
 
     pub const MAT4X4: ConstructorSet = ConstructorSet(1 << 12);
 
-    /// The vectors.
+    /// All vectors.
     pub const VECN: ConstructorSet = ConstructorSet(Self::VEC2.0 | Self::VEC3.0 | Self::VEC4.0);
 
     pub const SCALAR_OR_VECN: ConstructorSet = ConstructorSet(Self::SCALAR.0 | Self::VECN.0);
 
-    /// The matrices of as many rows as columns.
+    /// The matrices with as many rows as columns.
     pub const SQUARE_MATRICES: ConstructorSet = ConstructorSet(
         Self::MAT2X2.0 | Self::MAT3X3.0 | Self::MAT4X4.0,
     );
@@ -244,9 +244,9 @@ impl ConstructorSet {
         Self::EMPTY
     }
 
-    /// The set of the type's constructor, or the empty set where it has none.
+    /// Returns the set of the type's constructor, or the empty set if it has none.
     pub fn singleton(inner: &TypeInner) -> ConstructorSet
-        ensures { constructors_in result ≡ filter (is_made_by inner.now) all_constructors }
+        ensures { constructors_in result ≡ filter (is_built_by inner.now) all_constructors }
     {
         match inner {
             TypeInner::Scalar(_) => Self::SCALAR,
@@ -294,7 +294,7 @@ impl ConstructorSet {
         !self.is_empty() && ConstructorSet(self.0 & (self.0 - 1)).is_empty()
     }
 
-    /// What the sole constructor makes.
+    /// Returns the sole constructor.
     pub fn size(self) -> ConstructorSize
         requires { length (constructors_in self) ≡ 1 }
         ensures { constructors_in self ≡ result ∷ [] }
@@ -302,7 +302,7 @@ impl ConstructorSet {
         self.first_size()
     }
 
-    /// What the first constructor in the order of the bits makes.
+    /// Returns the first constructor in the order of the bits.
     pub fn first_size(self) -> ConstructorSize
         requires { constructors_in self ≢ [] }
         ensures { slice_get (constructors_in self) 0 ≡ Some result }
@@ -310,7 +310,7 @@ impl ConstructorSet {
         SIZES_FOR_BITS[self.0.trailing_zeros() as usize]
     }
 
-    /// The sets of one constructor of this set each, in the order of the bits.
+    /// Returns an iterator over the one-constructor subsets of this set, in the order of the bits.
     pub fn members(self) -> ConstructorMembers
         ensures { result ≡ constructors_in self }
     {
@@ -363,7 +363,8 @@ impl BitOr for ConstructorSet {
     }
 }
 
-/// The members of a set of constructors, which contracts see as the list of those left.
+/// An iterator over the remaining members of a set of constructors, which contracts see as their
+/// list.
 #[derive(Drop)]
 pub struct ConstructorMembers {
     left: ConstructorSet,

@@ -1,4 +1,4 @@
-//! Laws of rules, of the sets of them and of what sets are made of, each the contract of a function that does nothing.
+//! Laws about rules, overload sets and the sets that they are built from. Each law is the contract of a function that does nothing.
 ghost use Rattle.std.specs.Prelude.{◌≡◌, ◌∷◌, ◌++◌, []};
 ghost use Rattle.shader_ir.specs.Scalars.{abstract_float, abstract_int, floats, integers, scalar};
 ghost use Rattle.shader_overloads.specs.AcceptanceLaws.{AcceptancesAgree, AcceptsByKey, AcceptsCanonicalForms};
@@ -12,7 +12,7 @@ ghost use Rattle.shader_overloads.specs.ScalarSets.{scalars_in};
 use crate::{ConstructorSet, ConstructorSize, ScalarSet};
 use shader_ir::{ScalarKind, VectorSize};
 
-/// Each named set of scalars holds the scalars that its name says.
+/// States that each named set of scalars contains exactly the scalars that its name says.
 #[tactic(auto, unfolding(shader_ir::specs::Scalars::named_scalars))]
 pub fn scalar_sets_are_named()
     ensures empty { scalars_in ScalarSet.EMPTY ≡ [] }
@@ -38,7 +38,7 @@ pub fn scalar_sets_are_named()
     ensures concrete { scalars_in ScalarSet.CONCRETE ≡ integers ++ floats ++ scalar ScalarKind.Bool 1 ∷ [] }
 {}
 
-/// Each named set of constructors holds the constructors that its name says.
+/// States that each named set of constructors contains exactly the constructors that its name says.
 #[tactic(auto, unfolding(crate::specs::Constructors::all_constructors))]
 pub fn constructor_sets_are_named()
     ensures empty { constructors_in ConstructorSet.EMPTY ≡ [] }
@@ -60,17 +60,17 @@ pub fn constructor_sets_are_named()
     ensures square_matrices { constructors_in ConstructorSet.SQUARE_MATRICES ≡ square_matrices }
 {}
 
-/// What `OneBitsIter` gives, which contracts see as the list of a number's set bits: powers of two, each below the next, that
-/// add up to the number.
+/// States that the items of `OneBitsIter`, which contracts see as the list of a number's set bits, are strictly increasing powers of two
+/// that add up to the number.
 pub fn one_bits_add_up()
     ensures powers { OneBitsArePowers }
     ensures growing { OneBitsGrow }
     ensures sum { OneBitsAddUp }
 {}
 
-/// Whether a rule accepts a type depends on the type's key alone, in regular sets and in lists.
+/// States that whether a rule accepts a type depends on the type's key alone, both in regular sets and in lists.
 ///
-/// So a pointer to a scalar or a vector is accepted exactly where the value pointer that stands for it is.
+/// A pointer to a scalar or a vector is therefore accepted exactly if its value pointer is.
 pub fn acceptance_is_by_key()
     ensures canonical { AcceptsCanonicalForms accepts }
     ensures canonical_in_lists { AcceptsCanonicalForms list_accepts }
@@ -78,15 +78,15 @@ pub fn acceptance_is_by_key()
     ensures key_in_lists { AcceptsByKey list_accepts }
 {}
 
-/// The calls that narrow a set leave the same rules in whatever order, and repeating one changes nothing.
+/// States that the order of the calls that narrow a set doesn't matter, and that repeating a call changes nothing.
 pub fn calls_commute()
     ensures commute { CallsCommute }
     ensures repeat { CallsRepeat }
 {}
 
-/// The two kinds of sets accept alike on all rules of the builtins, at types whose leaf scalar has a name.
+/// States that both kinds of sets accept the same types on all rules of the built-in functions, if the type's leaf scalar is a named one.
 ///
-/// They differ elsewhere: a regular set knows none but the twelve scalars that have names.
+/// They differ elsewhere, as a regular set knows only the twelve named scalars.
 pub fn acceptances_agree()
     ensures { AcceptancesAgree }
 {}

@@ -1,4 +1,4 @@
-//! The rules of builtin functions, and how the types of a call narrow them.
+//! The rules of built-in functions, and how the argument types of a call narrow them.
 #![tactic(auto)]
 
 mod any_overload_set;

@@ -1,4 +1,4 @@
-//! Overload sets that hold their rules one by one.
+//! Overload sets that store their rules one by one.
 ghost use Rattle.std.specs.Prelude.{◌≡◌, ◌≢◌, ◌↔◌, ◌≤◌, ◌<◌, [], All, IsTrue, IfOk, Some, length, slice_get};
 ghost use Rattle.std.specs.List.{list_all};
 ghost use Rattle.std.specs.Rc.{rc_slice_items};
@@ -18,12 +18,12 @@ use std::alloc::{AllocError, Global};
 use std::marker::Model;
 use std::rc::RcSlice;
 
-/// A list of rules, some of which are left, which contracts see as those rules.
+/// A list of rules, some of which may be ruled out; contracts see the remaining rules.
 ///
-/// Copies share the rules. Whoever makes a list puts its rules in order of preference; no call asks for that.
+/// Copies share the rules. The caller puts the rules in order of preference; no function requires it.
 #[derive(Drop)]
 pub struct List {
-    set: Masked<ListRows>,
+    set: Masked<ListTable>,
 }
 
 impl Model for List {
@@ -40,10 +40,10 @@ impl Model for List {
 }
 
 impl List {
-    /// The most rules that a list holds.
+    /// The most rules that a list can hold.
     pub const MAX_RULES: usize = 63;
 
-    /// Whether a list can hold the rules.
+    /// Returns whether a list can hold the rules.
     pub fn can_hold(rules: &[Rule]) -> bool
         ensures { IsTrue result ↔ ((length rules.now ≤ 63) × IsTrue (list_all has_no_struct rules.now)) }
     {
@@ -53,27 +53,27 @@ impl List {
         have_no_struct(rules)
     }
 
-    /// All of the rules, in their order.
+    /// Returns the set of all of the rules, in their order.
     pub fn from_rules(_alloc: Global, rules: Vec<Rule>) -> Result<List, AllocError>
         requires count { length rules.items ≤ 63 }
         requires no_struct { IsTrue (list_all has_no_struct rules.items) }
         ensures { IfOk result (λ set. set ≡ rules.items) }
     {
-        let table = ListRows::new(rules)?;
+        let table = ListTable::new(rules)?;
         Ok(List {
             set: Masked::all(table),
         })
     }
 }
 
-/// Whether no argument of the rules is a free-standing struct.
+/// Returns whether no argument of the rules is a struct outside the arena.
 fn have_no_struct(rules: &[Rule]) -> bool
     ensures { result ≡ list_all has_no_struct rules.now }
 {
     rules.iter().all(|rule| has_no_struct(rule))
 }
 
-/// Whether no argument of the rule is a free-standing struct.
+/// Returns whether no argument of the rule is a struct outside the arena.
 fn has_no_struct(rule: &Rule) -> bool
     ensures { result ≡ has_no_struct rule.now }
 {
@@ -92,9 +92,9 @@ fn is_free_struct(argument: &TypeResolution) -> bool
     }
 }
 
-/// Whether rules fit an arena of types: each handle of their arguments is in range, and no argument is a struct.
+/// Returns whether rules fit an arena of types: each handle of their arguments is in range, and no argument is a struct outside the arena.
 ///
-/// Sets ask it before they read the arena. `MathOverloads::overloads` and [`crate::Regular::new`] promise it of their rules.
+/// Sets require this before they read the arena. `MathOverloads::overloads` and [`crate::Regular::new`] guarantee it for their rules.
 pub fn rules_fit(rules: &[Rule], types: &UniqueArena<Type, mark::Type>) -> bool
     ensures { IsTrue result ↔ RulesFit types.now rules.now }
 {
@@ -183,30 +183,30 @@ impl OverloadSet for List {
     }
 }
 
-/// The rules of a list, numbered by their places. Copies share them.
+/// The rules of a list, numbered by their positions. Copies share them.
 #[derive(Drop)]
-pub struct ListRows {
+pub struct ListTable {
     rules: RcSlice<Rule>,
     ghost few: { length (rc_slice_items rules) ≤ 63 },
     ghost no_struct: { IsTrue (list_all has_no_struct (rc_slice_items rules)) },
 }
 
-impl ListRows {
-    fn new(rules: Vec<Rule>) -> Result<ListRows, AllocError>
+impl ListTable {
+    fn new(rules: Vec<Rule>) -> Result<ListTable, AllocError>
         requires count { length rules.items ≤ 63 }
         requires no_struct { IsTrue (list_all has_no_struct rules.items) }
         ensures { IfOk result (λ table. rc_slice_items table.rules ≡ rules.items) }
     {
         let rules = RcSlice::from_vec(rules)?;
-        Ok(ListRows { rules })
+        Ok(ListTable { rules })
     }
 }
 
-impl Table for ListRows {
+impl Table for ListTable {
     ghost use Rattle.std.specs.Prelude.{true, false};
     ghost use Rattle.shader_overloads.specs.Remaining.{list_accepts};
 
-    ghost rows = { λ table. rc_slice_items table.rules };
+    ghost table_rules = { λ table. rc_slice_items table.rules };
 
     ghost accepting = { λ _. list_accepts };
 
@@ -214,35 +214,35 @@ impl Table for ListRows {
 
     ghost reads_types = { true };
 
-    fn copy(&self) -> Result<ListRows, AllocError> {
+    fn copy(&self) -> Result<ListTable, AllocError> {
         let rules = self.rules.clone()?;
-        Ok(ListRows { rules })
+        Ok(ListTable { rules })
     }
 
-    fn row_count(&self) -> usize {
+    fn rule_count(&self) -> usize {
         self.rules.len()
     }
 
-    fn rule(&self, alloc: Global, row: usize) -> Result<Rule, AllocError> {
-        rule_at(self.rules.as_slice(), row).copy(alloc)
+    fn rule(&self, alloc: Global, number: usize) -> Result<Rule, AllocError> {
+        rule_at(self.rules.as_slice(), number).copy(alloc)
     }
 
     fn accepts(
         &self,
-        row: usize,
+        number: usize,
         i: usize,
         ty: &TypeInner,
         types: &UniqueArena<Type, mark::Type>,
     ) -> bool {
-        accepts_argument(rule_at(self.rules.as_slice(), row), i, ty, types)
+        accepts_argument(rule_at(self.rules.as_slice(), number), i, ty, types)
     }
 
-    fn is_concrete(&self, row: usize, types: &UniqueArena<Type, mark::Type>) -> bool {
-        has_concrete_arguments(rule_at(self.rules.as_slice(), row), types)
+    fn is_concrete(&self, number: usize, types: &UniqueArena<Type, mark::Type>) -> bool {
+        has_concrete_arguments(rule_at(self.rules.as_slice(), number), types)
     }
 }
 
-/// The least number of arguments of a rule that is left.
+/// Returns the least number of arguments of a remaining rule.
 fn least_count(rules: &[Rule], mask: Mask) -> usize
     requires within { IsBelow mask (length rules.now) }
     requires some { rules_at mask rules.now ≢ [] }
@@ -250,13 +250,13 @@ fn least_count(rules: &[Rule], mask: Mask) -> usize
 {
     let mut least = first_member(rules, mask).arguments.len();
     let mut left = mask;
-    while let Some(row) = left.take_first() {
-        least = least.min(rule_at(rules, row).arguments.len());
+    while let Some(number) = left.take_first() {
+        least = least.min(rule_at(rules, number).arguments.len());
     }
     least
 }
 
-/// The greatest number of arguments of a rule that is left.
+/// Returns the greatest number of arguments of a remaining rule.
 fn greatest_count(rules: &[Rule], mask: Mask) -> usize
     requires within { IsBelow mask (length rules.now) }
     requires some { rules_at mask rules.now ≢ [] }
@@ -264,31 +264,31 @@ fn greatest_count(rules: &[Rule], mask: Mask) -> usize
 {
     let mut greatest = first_member(rules, mask).arguments.len();
     let mut left = mask;
-    while let Some(row) = left.take_first() {
-        greatest = greatest.max(rule_at(rules, row).arguments.len());
+    while let Some(number) = left.take_first() {
+        greatest = greatest.max(rule_at(rules, number).arguments.len());
     }
     greatest
 }
 
-/// The first rule that is left.
+/// Returns the first remaining rule.
 fn first_member(rules: &[Rule], mask: Mask) -> &Rule
     requires { rules_at mask rules.now ≢ [] }
     ensures { slice_get (rules_at mask rules.now) 0 ≡ Some result.now }
 {
     match mask.first() {
-        Some(row) => rule_at(rules, row),
+        Some(number) => rule_at(rules, number),
         None => unreachable!(),
     }
 }
 
-fn rule_at(rules: &[Rule], place: usize) -> &Rule
-    requires { place < length rules.now }
-    ensures { slice_get rules.now place ≡ Some result.now }
+fn rule_at(rules: &[Rule], position: usize) -> &Rule
+    requires { position < length rules.now }
+    ensures { slice_get rules.now position ≡ Some result.now }
 {
-    &rules[place]
+    &rules[position]
 }
 
-/// Whether the rule takes a value of the type as argument `i`.
+/// Returns whether the rule accepts a value of the type as argument `i`.
 fn accepts_argument(
     rule: &Rule,
     i: usize,
@@ -306,7 +306,7 @@ fn accepts_argument(
     }
 }
 
-/// Whether an argument takes a value of the type.
+/// Returns whether an argument accepts a value of the type.
 fn takes(argument: &TypeResolution, ty: &TypeInner, types: &UniqueArena<Type, mark::Type>) -> bool
     requires backward { IsBackward types.now }
     requires ty_in { PointsBelow (length types.now) ty.now }

@@ -1,4 +1,4 @@
-//! The rules of the builtins whose overload sets are lists.
+//! The rules of the built-in functions whose overload sets are lists.
 ghost use Rattle.std.specs.Prelude.{◌≡◌, ◌++◌, ◌∷◌, [], IfOk, OnOk};
 ghost use Rattle.std.specs.List.{flat_map};
 ghost use Rattle.shader_ir.specs.declared.proc.type_resolution.TypeResolution.TheVariants as resolutions;
@@ -11,29 +11,29 @@ use crate::{Conclusion, ConstructorSize, Rule};
 use shader_ir::{Items, Scalar, ScalarKind, TypeInner, TypeResolution};
 use std::alloc::{AllocError, Global};
 
-/// How many rules the longest list has.
+/// The number of rules of the longest list.
 const MOST_RULES: usize = 36;
 
-/// A builtin whose overload set is a list.
+/// A built-in function whose overload set is a list.
 #[derive(Clone, Copy)]
 pub enum ListForm {
-    /// A float and an exponent, or vectors of both.
+    /// `ldexp`: a float and an exponent, or vectors of both.
     Ldexp,
-    /// Two vectors, to the matrix of all products.
+    /// The outer product: two vectors, with the matrix of all products as the result.
     Outer,
-    /// Two vectors and a scalar.
+    /// `refract`: two vectors and a scalar.
     Refract,
-    /// A matrix, to the one with columns and rows exchanged.
+    /// `transpose`: a matrix, with rows and columns exchanged in the result.
     Transpose,
-    /// An integer or a vector of it, an offset and a count.
+    /// `extractBits`: an integer or a vector of integers, an offset and a count.
     ExtractBits,
-    /// Two of these, an offset and a count.
+    /// `insertBits`: two integers or vectors of integers, an offset and a count.
     InsertBits,
-    /// Two floats or vectors and a third, or a scalar to mix vectors by.
+    /// `mix`: two floats or vectors and a third, or a scalar to mix vectors by.
     Mix,
 }
 
-/// The rules of all combinations, those of one scalar together.
+/// Returns the rules of all combinations, grouped by scalar.
 pub fn by_scalar(
     alloc: Global,
     form: ListForm,
@@ -44,12 +44,12 @@ pub fn by_scalar(
 {
     let mut rules = Vec::with_capacity(alloc, MOST_RULES)?;
     for (scalar, size) in pairs(scalars, sizes) {
-        push_rows(alloc, &mut rules, form, size, scalar)?;
+        push_rules(alloc, &mut rules, form, size, scalar)?;
     }
     Ok(rules)
 }
 
-/// The rules of all combinations, those of one constructor together.
+/// Returns the rules of all combinations, grouped by constructor.
 pub fn by_size(
     alloc: Global,
     form: ListForm,
@@ -60,14 +60,14 @@ pub fn by_size(
 {
     let mut rules = Vec::with_capacity(alloc, MOST_RULES)?;
     for (size, scalar) in pairs(sizes, scalars) {
-        push_rows(alloc, &mut rules, form, size, scalar)?;
+        push_rules(alloc, &mut rules, form, size, scalar)?;
     }
     Ok(rules)
 }
 
 /// Appends the rules of one constructor and one scalar.
 #[inline(always)]
-fn push_rows(
+fn push_rules(
     alloc: Global,
     rules: &mut Vec<Rule>,
     form: ListForm,
@@ -99,7 +99,7 @@ fn push_rows(
     }
 }
 
-/// The scalar of the exponent of a float.
+/// Returns the scalar of the exponent of a float.
 fn exponent_of(scalar: Scalar) -> Scalar
     ensures { result ≡ exponent_of scalar }
 {
@@ -201,7 +201,7 @@ fn value(inner: TypeInner) -> TypeResolution
     TypeResolution::Value(inner)
 }
 
-/// Appends the rule of these arguments, which are moved into it.
+/// Appends the rule with these arguments, which are moved into it.
 #[inline(always)]
 fn push_rule<const N: usize>(
     alloc: Global,

@@ -1,11 +1,11 @@
-//! Sets of the numbers of rows.
+//! Sets of rule numbers.
 ghost use Rattle.std.specs.Prelude.{◌≡◌, ◌≤◌, ◌<◌, ◌==◌, ◌&&◌, ◌||◌, ◌/◌, ◌%◌, ◌^◌, nat_lt, ℕ, false, IfNone, IfSome};
 ghost use Rattle.shader_overloads.specs.Bits.{has_bit};
-ghost use Rattle.shader_overloads.specs.Masks.{IsBelow, IsLeastPlace, IsTaken, has_place};
+ghost use Rattle.shader_overloads.specs.Masks.{IsBelow, IsLeastPosition, IsTaken, has_position};
 
 use std::ops::BitAnd;
 
-/// A set of numbers below 192: a bit of three words for each.
+/// A set of numbers below 192, one bit of three words for each.
 #[derive(Clone, Copy)]
 pub struct Mask {
     low: u64,
@@ -13,7 +13,7 @@ pub struct Mask {
     high: u64,
 }
 
-#[tactic(auto, unfolding(crate::specs::Masks::has_place))]
+#[tactic(auto, unfolding(crate::specs::Masks::has_position))]
 impl Mask {
     pub const EMPTY: Mask = Mask {
         low: 0,
@@ -22,15 +22,15 @@ impl Mask {
     };
 
     pub fn empty() -> Mask
-        ensures { (k : ℕ) → has_place result k ≡ false }
+        ensures { (k : ℕ) → has_position result k ≡ false }
     {
         Self::EMPTY
     }
 
-    /// The numbers below a count.
+    /// Returns the set of the numbers below a count.
     pub fn below(count: usize) -> Mask
         requires { count ≤ 192 }
-        ensures { (k : ℕ) → has_place result k ≡ nat_lt k count }
+        ensures { (k : ℕ) → has_position result k ≡ nat_lt k count }
     {
         Mask {
             low: ones(count),
@@ -39,9 +39,10 @@ impl Mask {
         }
     }
 
-    /// The numbers `12 * i + j`, where `i` below 13 is the place of a set bit of the first number, and `j` below 12 one of the second.
+    /// Returns the set of the numbers `12 * i + j` for each set bit `i`, below 13, of `groups` and each set bit `j`, below 12, of
+    /// `members`.
     pub fn pairs(groups: u16, members: u16) -> Mask
-        ensures pairs { (k : ℕ) → k < 156 → has_place result k ≡ (has_bit groups (k / 12) && has_bit members (k % 12)) }
+        ensures pairs { (k : ℕ) → k < 156 → has_position result k ≡ (has_bit groups (k / 12) && has_bit members (k % 12)) }
         ensures within { IsBelow result 156 }
     {
         let groups = groups as u64 & 0x1fff;
@@ -56,14 +57,14 @@ impl Mask {
         }
     }
 
-    /// The numbers `12 * group + j`, where `j` below 12 is the place of a set bit of the members.
+    /// Returns the set of the numbers `12 * group + j` for each set bit `j`, below 12, of the members.
     #[inline(always)]
     pub fn group(group: usize, members: u16) -> Mask
         requires { group < 13 }
-        ensures { (k : ℕ) → k < 156 → has_place result k ≡ (k / 12 == group && has_bit members (k % 12)) }
+        ensures { (k : ℕ) → k < 156 → has_position result k ≡ (k / 12 == group && has_bit members (k % 12)) }
     {
         let members = members as u64 & 0xfff;
-        // The words end within the groups 5 and 10.
+        // The word boundaries are within groups 5 and 10.
         if group < 5 {
             Mask {
                 low: members << (12 * group),
@@ -94,60 +95,60 @@ impl Mask {
         }
     }
 
-    pub fn has(self, place: usize) -> bool
-        requires { place < 192 }
-        ensures { result ≡ has_place self place }
+    pub fn has(self, position: usize) -> bool
+        requires { position < 192 }
+        ensures { result ≡ has_position self position }
     {
-        if place < 64 {
-            self.low >> place & 1 == 1
-        } else if place < 128 {
-            self.middle >> (place - 64) & 1 == 1
+        if position < 64 {
+            self.low >> position & 1 == 1
+        } else if position < 128 {
+            self.middle >> (position - 64) & 1 == 1
         } else {
-            self.high >> (place - 128) & 1 == 1
+            self.high >> (position - 128) & 1 == 1
         }
     }
 
-    pub fn insert(&mut self, place: usize)
-        requires { place < 192 }
-        ensures { (k : ℕ) → has_place self.new k ≡ (k == place || has_place self.old k) }
+    pub fn insert(&mut self, position: usize)
+        requires { position < 192 }
+        ensures { (k : ℕ) → has_position self.new k ≡ (k == position || has_position self.old k) }
     {
-        if place < 64 {
-            self.low |= 1 << place;
-        } else if place < 128 {
-            self.middle |= 1 << (place - 64);
+        if position < 64 {
+            self.low |= 1 << position;
+        } else if position < 128 {
+            self.middle |= 1 << (position - 64);
         } else {
-            self.high |= 1 << (place - 128);
+            self.high |= 1 << (position - 128);
         }
     }
 
-    /// The least number.
+    /// Returns the least number of the set, if any.
     pub fn first(self) -> Option<usize>
-        ensures none { IfNone result ((k : ℕ) → has_place self k ≡ false) }
-        ensures first { IfSome result (IsLeastPlace self) }
+        ensures none { IfNone result ((k : ℕ) → has_position self k ≡ false) }
+        ensures first { IfSome result (IsLeastPosition self) }
     {
         let mut left = self;
         left.take_first()
     }
 
-    /// Takes the least number out.
+    /// Removes the least number and returns it.
     pub fn take_first(&mut self) -> Option<usize>
-        ensures none { IfNone result ((k : ℕ) → has_place self.old k ≡ false) }
-        ensures first { IfSome result (λ place. IsTaken self.old place self.new) }
+        ensures none { IfNone result ((k : ℕ) → has_position self.old k ≡ false) }
+        ensures first { IfSome result (λ position. IsTaken self.old position self.new) }
     {
         if self.low != 0 {
-            let place = self.low.trailing_zeros() as usize;
+            let position = self.low.trailing_zeros() as usize;
             self.low &= self.low - 1;
-            return Some(place);
+            return Some(position);
         }
         if self.middle != 0 {
-            let place = self.middle.trailing_zeros() as usize;
+            let position = self.middle.trailing_zeros() as usize;
             self.middle &= self.middle - 1;
-            return Some(64 + place);
+            return Some(64 + position);
         }
         if self.high != 0 {
-            let place = self.high.trailing_zeros() as usize;
+            let position = self.high.trailing_zeros() as usize;
             self.high &= self.high - 1;
-            return Some(128 + place);
+            return Some(128 + position);
         }
         None
     }
@@ -156,7 +157,7 @@ impl Mask {
 impl BitAnd for Mask {
     type Output = Mask;
 
-    ghost bitand_gives = { λ a b both. (k : ℕ) → has_place both k ≡ (has_place a k && has_place b k) };
+    ghost bitand_gives = { λ a b both. (k : ℕ) → has_position both k ≡ (has_position a k && has_position b k) };
 
     fn bitand(self, other: Mask) -> Mask {
         Mask {
@@ -167,7 +168,7 @@ impl BitAnd for Mask {
     }
 }
 
-/// A word whose lowest bits are set, all of them from a count of 64 on.
+/// Returns a word with its lowest `count` bits set, or all of them from a count of 64 on.
 fn ones(count: usize) -> u64
     ensures below { (k : ℕ) → k < 64 → has_bit result k ≡ nat_lt k count }
     ensures above { (k : ℕ) → 64 ≤ k → has_bit result k ≡ false }
@@ -179,14 +180,14 @@ fn ones(count: usize) -> u64
     }
 }
 
-/// The members in 12 bits for each set bit of the groups, and 12 zeros for each other.
+/// Returns a word with the members in 12 bits for each set bit of the groups, and 12 zeros for each other bit.
 fn five_groups(groups: u64, members: u64) -> u64
     requires groups { groups < 32 }
     requires members { members < 4096 }
     ensures pairs { (k : ℕ) → k < 60 → has_bit result k ≡ (has_bit groups (k / 12) && has_bit members (k % 12)) }
     ensures within { result < 2 ^ 60 }
 {
-    // Moves each bit from place i to place 12 i: the factor has the multiples of 11, and the mask those of 12.
+    // Moves each bit from position i to position 12 i: the factor has the multiples of 11, and the mask those of 12.
     let spread = groups * 0x1002_0040_0801 & 0x1_0010_0100_1001;
     spread * members
 }

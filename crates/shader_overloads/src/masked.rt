@@ -1,10 +1,10 @@
-//! Numbered rules, of which those in a mask are left.
+//! Tables of numbered rules, and the rules that a mask selects.
 ghost use Rattle.std.specs.Prelude.{◌≡◌, ◌≢◌, ◌↔◌, ◌≤◌, ◌<◌, ℕ, Bool, [], List, IsTrue, IsOk, IfOk, Some, filter, length, slice_get};
 ghost use Rattle.shader_ir.specs.declared.types.«Type».{«Type»};
 ghost use Rattle.shader_ir.specs.declared.types.TypeInner.{TypeInner};
 ghost use Rattle.shader_ir.specs.TypeTree.{IsBackward, PointsBelow};
 ghost use Rattle.shader_overloads.specs.declared.rule.Rule.{Rule};
-ghost use Rattle.shader_overloads.specs.Masks.{IsBelow, RowFits, rules_at};
+ghost use Rattle.shader_overloads.specs.Masks.{IsBelow, NumberFits, rules_at};
 ghost use Rattle.shader_overloads.specs.Remaining.{has_concrete_arguments, RulesFit};
 
 use crate::Rule;
@@ -13,57 +13,58 @@ use shader_arena::UniqueArena;
 use shader_ir::{Type, TypeInner, mark};
 use std::alloc::{AllocError, Global};
 
-/// Rules by their numbers.
+/// A table of rules by their numbers.
 pub trait Table: Sized + Drop {
     /// The rules, in the order of their numbers.
-    ghost rows: { Self → List Rule };
+    ghost table_rules: { Self → List Rule };
 
-    /// Whether a rule has an argument of a place that takes a value of a type.
+    /// Whether a rule has an argument at a position that accepts a value of a type.
     ghost accepting: { Self → List «Type» → ℕ → TypeInner → Rule → Bool };
 
-    /// Whether a table is copied without memory.
+    /// Whether a table is copied without allocation.
     ghost is_free: { Bool };
 
-    /// Whether types of the rules may point into an arena.
+    /// Whether the types of the rules may point into an arena.
     ghost reads_types: { Bool };
 
     fn copy(&self) -> Result<Self, AllocError>
-        ensures rows { IfOk result (λ table. rows table ≡ rows self.now) }
+        ensures table_rules { IfOk result (λ table. table_rules table ≡ table_rules self.now) }
         ensures kind { IfOk result (λ table. accepting table ≡ accepting self.now) }
         ensures found { IsTrue is_free → IsOk result };
 
-    /// How many rules there are.
-    fn row_count(&self) -> usize
-        ensures count { result ≡ length (rows self.now) }
+    /// Returns the number of rules.
+    fn rule_count(&self) -> usize
+        ensures count { result ≡ length (table_rules self.now) }
         ensures few { result ≤ 192 };
 
-    /// The rule of a number.
-    fn rule(&self, alloc: Global, row: usize) -> Result<Rule, AllocError>
-        requires { row < length (rows self.now) }
-        ensures { IfOk result (λ rule. slice_get (rows self.now) row ≡ Some rule) };
+    /// Returns the rule with a number.
+    fn rule(&self, alloc: Global, number: usize) -> Result<Rule, AllocError>
+        requires { number < length (table_rules self.now) }
+        ensures { IfOk result (λ rule. slice_get (table_rules self.now) number ≡ Some rule) };
 
-    /// Whether the rule of a number takes a value of the type as argument `i`.
+    /// Returns whether the rule with a number accepts a value of the type as argument `i`.
     fn accepts(
         &self,
-        row: usize,
+        number: usize,
         i: usize,
         ty: &TypeInner,
         types: &UniqueArena<Type, mark::Type>,
     ) -> bool
-        requires row_in { row < length (rows self.now) }
+        requires number_in { number < length (table_rules self.now) }
         requires backward { IsTrue reads_types → IsBackward types.now }
         requires ty_in { IsTrue reads_types → PointsBelow (length types.now) ty.now }
-        requires fits { IsTrue reads_types → RowFits types.now (rows self.now) row }
-        ensures { (rule : Rule) → slice_get (rows self.now) row ≡ Some rule → result ≡ accepting self.now types.now i ty.now rule };
+        requires fits { IsTrue reads_types → NumberFits types.now (table_rules self.now) number }
+        ensures { (rule : Rule) → slice_get (table_rules self.now) number ≡ Some rule →
+            result ≡ accepting self.now types.now i ty.now rule };
 
-    /// Whether the rule of a number has no abstract argument.
-    fn is_concrete(&self, row: usize, types: &UniqueArena<Type, mark::Type>) -> bool
-        requires row_in { row < length (rows self.now) }
+    /// Returns whether the rule with a number has no abstract argument.
+    fn is_concrete(&self, number: usize, types: &UniqueArena<Type, mark::Type>) -> bool
+        requires number_in { number < length (table_rules self.now) }
         requires backward { IsTrue reads_types → IsBackward types.now }
-        requires fits { IsTrue reads_types → RowFits types.now (rows self.now) row }
-        ensures { (rule : Rule) → slice_get (rows self.now) row ≡ Some rule → result ≡ has_concrete_arguments types.now rule };
+        requires fits { IsTrue reads_types → NumberFits types.now (table_rules self.now) number }
+        ensures { (rule : Rule) → slice_get (table_rules self.now) number ≡ Some rule → result ≡ has_concrete_arguments types.now rule };
 
-    /// Of these numbers, those of the rules that take a value of the type as argument `i`.
+    /// Returns those of the numbers whose rules accept a value of the type as argument `i`.
     fn accepted(
         &self,
         mask: Mask,
@@ -71,43 +72,45 @@ pub trait Table: Sized + Drop {
         ty: &TypeInner,
         types: &UniqueArena<Type, mark::Type>,
     ) -> Mask
-        requires within { IsBelow mask (length (rows self.now)) }
+        requires within { IsBelow mask (length (table_rules self.now)) }
         requires backward { IsTrue reads_types → IsBackward types.now }
         requires ty_in { IsTrue reads_types → PointsBelow (length types.now) ty.now }
-        requires fits { IsTrue reads_types → RulesFit types.now (rules_at mask (rows self.now)) }
-        ensures rules { rules_at result (rows self.now) ≡ filter (accepting self.now types.now i ty.now) (rules_at mask (rows self.now)) }
-        ensures within { IsBelow result (length (rows self.now)) }
+        requires fits { IsTrue reads_types → RulesFit types.now (rules_at mask (table_rules self.now)) }
+        ensures rules { rules_at result (table_rules self.now)
+            ≡ filter (accepting self.now types.now i ty.now) (rules_at mask (table_rules self.now)) }
+        ensures within { IsBelow result (length (table_rules self.now)) }
     {
-        let mut kept = Mask::empty();
+        let mut retained = Mask::empty();
         let mut left = mask;
-        while let Some(row) = left.take_first() {
-            if self.accepts(row, i, ty, types) {
-                kept.insert(row);
+        while let Some(number) = left.take_first() {
+            if self.accepts(number, i, ty, types) {
+                retained.insert(number);
             }
         }
-        kept
+        retained
     }
 
-    /// Of these numbers, those of the rules without abstract arguments.
+    /// Returns those of the numbers whose rules have no abstract arguments.
     fn concrete(&self, mask: Mask, types: &UniqueArena<Type, mark::Type>) -> Mask
-        requires within { IsBelow mask (length (rows self.now)) }
+        requires within { IsBelow mask (length (table_rules self.now)) }
         requires backward { IsTrue reads_types → IsBackward types.now }
-        requires fits { IsTrue reads_types → RulesFit types.now (rules_at mask (rows self.now)) }
-        ensures rules { rules_at result (rows self.now) ≡ filter (has_concrete_arguments types.now) (rules_at mask (rows self.now)) }
-        ensures within { IsBelow result (length (rows self.now)) }
+        requires fits { IsTrue reads_types → RulesFit types.now (rules_at mask (table_rules self.now)) }
+        ensures rules { rules_at result (table_rules self.now)
+            ≡ filter (has_concrete_arguments types.now) (rules_at mask (table_rules self.now)) }
+        ensures within { IsBelow result (length (table_rules self.now)) }
     {
-        let mut kept = Mask::empty();
+        let mut retained = Mask::empty();
         let mut left = mask;
-        while let Some(row) = left.take_first() {
-            if self.is_concrete(row, types) {
-                kept.insert(row);
+        while let Some(number) = left.take_first() {
+            if self.is_concrete(number, types) {
+                retained.insert(number);
             }
         }
-        kept
+        retained
     }
 }
 
-/// A table of rules, and the numbers of those that are left.
+/// A table of rules, and the numbers of the remaining ones.
 #[derive(Drop)]
 pub struct Masked<T> {
     pub mask: Mask,
@@ -115,18 +118,18 @@ pub struct Masked<T> {
 }
 
 impl<T: Table> Masked<T> {
-    /// All rules of the table.
+    /// Returns the set of all rules of the table.
     pub fn all(table: T) -> Masked<T>
-        ensures rules { rules_at result.mask (T.rows result.table) ≡ T.rows table }
-        ensures within { IsBelow result.mask (length (T.rows result.table)) }
+        ensures rules { rules_at result.mask (T.table_rules result.table) ≡ T.table_rules table }
+        ensures within { IsBelow result.mask (length (T.table_rules result.table)) }
     {
-        let mask = Mask::below(table.row_count());
+        let mask = Mask::below(table.rule_count());
         Masked { mask, table }
     }
 
     pub fn copy(&self) -> Result<Masked<T>, AllocError>
         ensures mask { IfOk result (λ set. set.mask ≡ self.now.mask) }
-        ensures rows { IfOk result (λ set. T.rows set.table ≡ T.rows self.now.table) }
+        ensures table_rules { IfOk result (λ set. T.table_rules set.table ≡ T.table_rules self.now.table) }
         ensures found { IsTrue T.is_free → IsOk result }
     {
         let table = self.table.copy()?;
@@ -137,26 +140,26 @@ impl<T: Table> Masked<T> {
     }
 
     pub fn is_empty(&self) -> bool
-        requires { IsBelow self.now.mask (length (T.rows self.now.table)) }
-        ensures { IsTrue result ↔ (rules_at self.now.mask (T.rows self.now.table) ≡ []) }
+        requires { IsBelow self.now.mask (length (T.table_rules self.now.table)) }
+        ensures { IsTrue result ↔ (rules_at self.now.mask (T.table_rules self.now.table) ≡ []) }
     {
         self.mask.first().is_none()
     }
 
-    /// The rules that take a value of the type as argument `i`.
+    /// Returns the rules that accept a value of the type as argument `i`.
     pub fn arg(
         &self,
         i: usize,
         ty: &TypeInner,
         types: &UniqueArena<Type, mark::Type>,
     ) -> Result<Masked<T>, AllocError>
-        requires within { IsBelow self.now.mask (length (T.rows self.now.table)) }
+        requires within { IsBelow self.now.mask (length (T.table_rules self.now.table)) }
         requires backward { IsTrue T.reads_types → IsBackward types.now }
         requires ty_in { IsTrue T.reads_types → PointsBelow (length types.now) ty.now }
-        requires fits { IsTrue T.reads_types → RulesFit types.now (rules_at self.now.mask (T.rows self.now.table)) }
-        ensures rules { IfOk result (λ set. rules_at set.mask (T.rows set.table)
-            ≡ filter (T.accepting self.now.table types.now i ty.now) (rules_at self.now.mask (T.rows self.now.table))) }
-        ensures within { IfOk result (λ set. IsBelow set.mask (length (T.rows set.table))) }
+        requires fits { IsTrue T.reads_types → RulesFit types.now (rules_at self.now.mask (T.table_rules self.now.table)) }
+        ensures rules { IfOk result (λ set. rules_at set.mask (T.table_rules set.table)
+            ≡ filter (T.accepting self.now.table types.now i ty.now) (rules_at self.now.mask (T.table_rules self.now.table))) }
+        ensures within { IfOk result (λ set. IsBelow set.mask (length (T.table_rules set.table))) }
         ensures found { IsTrue T.is_free → IsOk result }
     {
         let mask = self.table.accepted(self.mask, i, ty, types);
@@ -164,49 +167,50 @@ impl<T: Table> Masked<T> {
         Ok(Masked { mask, table })
     }
 
-    /// The rules without abstract arguments.
+    /// Returns the rules without abstract arguments.
     pub fn concrete_only(self, types: &UniqueArena<Type, mark::Type>) -> Masked<T>
-        requires within { IsBelow self.mask (length (T.rows self.table)) }
+        requires within { IsBelow self.mask (length (T.table_rules self.table)) }
         requires backward { IsTrue T.reads_types → IsBackward types.now }
-        requires fits { IsTrue T.reads_types → RulesFit types.now (rules_at self.mask (T.rows self.table)) }
-        ensures rules { rules_at result.mask (T.rows result.table)
-            ≡ filter (has_concrete_arguments types.now) (rules_at self.mask (T.rows self.table)) }
-        ensures within { IsBelow result.mask (length (T.rows result.table)) }
+        requires fits { IsTrue T.reads_types → RulesFit types.now (rules_at self.mask (T.table_rules self.table)) }
+        ensures rules { rules_at result.mask (T.table_rules result.table)
+            ≡ filter (has_concrete_arguments types.now) (rules_at self.mask (T.table_rules self.table)) }
+        ensures within { IsBelow result.mask (length (T.table_rules result.table)) }
     {
         let Masked { mask, table } = self;
         let mask = table.concrete(mask, types);
         Masked { mask, table }
     }
 
-    /// The number of the first rule.
-    pub fn first_row(&self) -> usize
-        requires { rules_at self.now.mask (T.rows self.now.table) ≢ [] }
-        ensures within { result < length (T.rows self.now.table) }
-        ensures first { slice_get (rules_at self.now.mask (T.rows self.now.table)) 0 ≡ slice_get (T.rows self.now.table) result }
+    /// Returns the number of the first rule.
+    pub fn first_number(&self) -> usize
+        requires { rules_at self.now.mask (T.table_rules self.now.table) ≢ [] }
+        ensures within { result < length (T.table_rules self.now.table) }
+        ensures first { slice_get (rules_at self.now.mask (T.table_rules self.now.table)) 0
+            ≡ slice_get (T.table_rules self.now.table) result }
     {
         match self.mask.first() {
-            Some(row) => row,
+            Some(number) => number,
             None => unreachable!(),
         }
     }
 
-    /// The first rule.
+    /// Returns the first rule.
     pub fn most_preferred(&self, alloc: Global) -> Result<Rule, AllocError>
-        requires { rules_at self.now.mask (T.rows self.now.table) ≢ [] }
-        ensures { IfOk result (λ rule. slice_get (rules_at self.now.mask (T.rows self.now.table)) 0 ≡ Some rule) }
+        requires { rules_at self.now.mask (T.table_rules self.now.table) ≢ [] }
+        ensures { IfOk result (λ rule. slice_get (rules_at self.now.mask (T.table_rules self.now.table)) 0 ≡ Some rule) }
     {
-        self.table.rule(alloc, self.first_row())
+        self.table.rule(alloc, self.first_number())
     }
 
-    /// All rules, in order.
+    /// Returns all rules, in order.
     pub fn overload_list(&self, alloc: Global) -> Result<Vec<Rule>, AllocError>
-        requires { IsBelow self.now.mask (length (T.rows self.now.table)) }
-        ensures { IfOk result (λ rules. rules.items ≡ rules_at self.now.mask (T.rows self.now.table)) }
+        requires { IsBelow self.now.mask (length (T.table_rules self.now.table)) }
+        ensures { IfOk result (λ rules. rules.items ≡ rules_at self.now.mask (T.table_rules self.now.table)) }
     {
         let mut rules = Vec::new(alloc);
         let mut left = self.mask;
-        while let Some(row) = left.take_first() {
-            let rule = self.table.rule(alloc, row)?;
+        while let Some(number) = left.take_first() {
+            let rule = self.table.rule(alloc, number)?;
             rules.push(rule)?;
         }
         Ok(rules)

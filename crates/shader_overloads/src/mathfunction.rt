@@ -1,4 +1,4 @@
-//! The overload sets of the builtin functions.
+//! The overload sets of the built-in functions.
 ghost use Rattle.std.specs.Prelude.{◌≡◌, ◌<◌, List, Bool, false, ℕ, IfOk, IsOk, not};
 ghost use Rattle.shader_ir.specs.declared.types.«Type».{«Type»};
 ghost use Rattle.shader_ir.specs.declared.types.TypeInner.{TypeInner};
@@ -17,7 +17,7 @@ use std::alloc::{AllocError, Global};
 
 mod lists;
 
-/// The rules of scalars and vectors that conclude the type of their arguments.
+/// Returns the rules on scalars and vectors whose conclusion is the type of their arguments.
 #[tactic(auto, unfolding(crate::specs::Constructors::all_constructors))]
 #[inline(always)]
 fn component_wise(arity: usize, scalars: ScalarSet) -> Regular
@@ -32,7 +32,7 @@ fn component_wise(arity: usize, scalars: ScalarSet) -> Regular
     )
 }
 
-/// The set of a builtin that works on floats component by component.
+/// Returns the set of a built-in function on floats, component by component.
 #[tactic(auto, unfolding(crate::specs::Constructors::all_constructors, shader_ir::specs::Scalars::named_scalars))]
 #[inline(always)]
 fn float_set(function: MathFunction) -> Option<Regular>
@@ -75,7 +75,7 @@ fn float_set(function: MathFunction) -> Option<Regular>
     }
 }
 
-/// The set of a builtin that works on numbers or on integers component by component.
+/// Returns the set of a built-in function on numbers or on integers, component by component.
 #[tactic(auto, unfolding(crate::specs::Constructors::all_constructors, shader_ir::specs::Scalars::named_scalars))]
 #[inline(always)]
 fn number_set(function: MathFunction) -> Option<Regular>
@@ -98,7 +98,7 @@ fn number_set(function: MathFunction) -> Option<Regular>
     }
 }
 
-/// The set of a builtin that packs numbers into a word, or takes a word of packed numbers.
+/// Returns the set of a built-in function that packs numbers into a word or unpacks them.
 #[tactic(auto, unfolding(crate::specs::Constructors::all_constructors, shader_ir::specs::Scalars::named_scalars))]
 #[inline(always)]
 fn packing_set(function: MathFunction) -> Option<Regular>
@@ -130,7 +130,7 @@ fn packing_set(function: MathFunction) -> Option<Regular>
     }
 }
 
-/// The set of a builtin of products, lengths and directions of vectors.
+/// Returns the set of a built-in function for products, lengths and directions of vectors.
 #[tactic(auto, unfolding(crate::specs::Constructors::all_constructors, shader_ir::specs::Scalars::named_scalars))]
 #[inline(always)]
 fn geometric_set(function: MathFunction) -> Option<Regular>
@@ -153,7 +153,7 @@ fn geometric_set(function: MathFunction) -> Option<Regular>
     }
 }
 
-/// The set of a builtin on square matrices.
+/// Returns the set of a built-in function on square matrices.
 #[tactic(auto, unfolding(crate::specs::Constructors::all_constructors, shader_ir::specs::Scalars::named_scalars))]
 #[inline(always)]
 fn matrix_set(function: MathFunction) -> Option<Regular>
@@ -171,7 +171,7 @@ fn matrix_set(function: MathFunction) -> Option<Regular>
     }
 }
 
-/// The set of a builtin that splits floats into two parts.
+/// Returns the set of a built-in function that splits floats in two.
 #[tactic(auto, unfolding(crate::specs::Constructors::all_constructors, shader_ir::specs::Scalars::named_scalars))]
 #[inline(always)]
 fn splitting_set(function: MathFunction) -> Option<Regular>
@@ -189,8 +189,9 @@ fn splitting_set(function: MathFunction) -> Option<Regular>
     }
 }
 
-/// The set of a builtin that takes all combinations of some constructors and some scalars.
-// By `match`, since closures of `or_else` are calls where several places make sets.
+/// Returns the set of a built-in function that has a rule for each combination of some constructors
+/// and some scalars.
+// Uses `match`, since closures of `or_else` are calls if several places build sets.
 #[inline(always)]
 fn regular_set(function: MathFunction) -> Option<Regular>
     ensures { result ≡ rules_if (not (is_listed function)) function }
@@ -213,9 +214,9 @@ fn regular_set(function: MathFunction) -> Option<Regular>
     }
 }
 
-/// The overload sets of builtin functions.
+/// The overload sets of built-in functions.
 pub trait MathOverloads: Sized {
-    /// The rules that a call of the builtin may mean. Takes memory for those of a list alone.
+    /// Returns the candidate rules of a call of the built-in function. Allocates only for lists.
     fn overloads(self, alloc: Global) -> Result<AnyOverloadSet, AllocError>;
 }
 

@@ -1,11 +1,11 @@
-//! The set bits of a number.
+//! Iteration over the set bits of a number.
 ghost use Rattle.std.specs.Prelude.{◌≡◌};
 ghost use Rattle.std.specs.Iterator.{YieldsFirst, item_count};
 ghost use Rattle.shader_overloads.specs.Bits.{one_bits};
 
 use std::marker::Model;
 
-/// The set bits of a number as masks, growing.
+/// An iterator over the set bits of a number as masks, ascending.
 ///
 /// The masks are distinct powers of two that add up to the number.
 #[derive(Drop)]
@@ -41,7 +41,7 @@ impl Iterator for OneBitsIter {
         if self.bits == 0 {
             return None;
         }
-        // One less has the lowest set bit cleared and all bits below it set.
+        // One less clears the lowest set bit and sets all bits below it.
         let below = self.bits - 1;
         let item = self.bits & !below;
         self.bits &= below;

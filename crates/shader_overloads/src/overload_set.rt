@@ -1,25 +1,25 @@
-//! Overload sets: the overload candidates of a call of a builtin function, and how a front end narrows them.
+//! Overload sets: the overload candidates of a call of a built-in function, and how a front end narrows them.
 //!
-//! A builtin function of WGSL has many overloads: `max` takes two values of one numeric type, a scalar or a vector, and gives that
-//! type. Each overload is a `Rule`. At a call, overload resolution picks the rule that is meant: the candidates that some feasible
-//! automatic conversion of each argument reaches are left, and among these the one of the least conversion rank at each argument is
-//! preferred. A literal is abstract (`AbstractInt`, `AbstractFloat`) and converts by itself to what the other arguments ask for; a
-//! concrete value converts to nothing but its own type.
+//! A built-in function of WGSL has many overloads: `max` takes two values of one numeric type, a scalar or a vector, and returns that type.
+//! Each overload is a `Rule`. At a call, overload resolution picks one rule: the candidates to which every argument has a feasible
+//! automatic conversion remain, and among these the one with the least conversion rank at each argument is preferred. A literal is abstract
+//! (`AbstractInt`, `AbstractFloat`) and converts automatically to the type that the other arguments require; a concrete value converts only
+//! to its own type.
 //!
-//! A front end begins with `MathFunction::overloads` and takes the arguments one by one, left to right:
+//! A front end begins with `MathFunction::overloads` and supplies the arguments one by one, left to right:
 //!
-//! 1. `arg` leaves the rules that take the argument's type, converted by itself where that is needed. In which order the arguments come
-//!    makes no difference, nor does one that comes twice. Where `is_empty` is true after an argument, that argument is the one to blame,
-//!    and `allowed_args` of the set before says what would have been taken there.
-//! 2. `concrete_only` leaves out rules with abstract arguments, where a value is needed at run time.
-//! 3. `most_preferred` is the rule that is left first, since the sets of builtin functions list their rules in order of preference: it
-//!    is the result of the resolution, and says to which types the arguments are converted and what the call gives.
+//! 1. `arg` keeps the rules that accept the argument's type, converted automatically if needed. The order of the arguments doesn't
+//!    matter, nor does supplying one twice. If `is_empty` is true after an argument, that argument is the cause, and `allowed_args`
+//!    of the set before lists the types that would have been accepted.
+//! 2. `concrete_only` removes the rules with abstract arguments, for a value that is needed at run time.
+//! 3. `most_preferred` returns the first remaining rule, as the sets of built-in functions list their rules in order of preference. It
+//!    is the result of the resolution: the types to which the arguments are converted and the type of the call.
 //!
-//! `narrow` does the first two steps for a list of calls. Against WGSL two things are simplified, as in naga: a set holds the rules of one
-//! function and no template parameters, so `vecN<T>` stands once for each size and scalar; and what is preferred is a fixed order of
-//! the rules, of which `shader_overloads_laws` proves that no rule that is left has a smaller rank than the first at any argument.
+//! `narrow` performs the first two steps for a list of calls. As in naga, two things are simpler than in WGSL. A set contains the rules of
+//! one function without template parameters, so `vecN<T>` is one rule for each size and scalar. And preference is a fixed order of the
+//! rules; `shader_overloads_laws` proves that no remaining rule has a smaller rank than the first at any argument.
 //!
-//! The contracts speak of a set by its list of rules alone.
+//! The contracts see a set only as its list of rules.
 ghost use Rattle.std.specs.Prelude.{◌≡◌, ◌≢◌, ◌↔◌, ◌++◌, ℕ, Bool, [], List, All, IsTrue, IsOk, IfOk, OnOk, Some, filter, length, slice_get};
 ghost use Rattle.std.specs.Option.{option_to_list};
 ghost use Rattle.shader_ir.specs.declared.types.«Type».{«Type»};
@@ -33,36 +33,36 @@ use shader_arena::UniqueArena;
 use shader_ir::{GlobalCtx, Type, TypeInner, TypeResolution, mark};
 use std::alloc::{AllocError, Global};
 
-/// The rules of a builtin function that a call may still mean, the preferred one first.
+/// The candidate rules for a call of a built-in function, the preferred one first.
 pub trait OverloadSet: Sized + Drop {
     ghost use Rattle.shader_overloads.specs.Remaining.{has_concrete_arguments, RulesFit};
 
     /// The rules, in order.
     ghost rules: { Self → List Rule };
 
-    /// Whether a rule has an argument of a place that takes a value of a type, as sets of this kind decide it.
+    /// Whether a rule has an argument at a position that accepts a value of a type, as sets of this kind decide it.
     ghost accepting: { Self → List «Type» → ℕ → TypeInner → Rule → Bool };
 
-    /// An equal set. No rule is copied.
+    /// Returns an equal set. No rules are copied.
     fn copy(&self, alloc: Global) -> Result<Self, AllocError>
         ensures rules { IfOk result (λ set. rules set ≡ rules self.now) }
         ensures kind { IfOk result (λ set. accepting set ≡ accepting self.now) };
 
-    /// Whether there is no rule.
+    /// Returns whether no rule remains.
     fn is_empty(&self) -> bool
         ensures { IsTrue result ↔ (rules self.now ≡ []) };
 
-    /// The least number of arguments of a rule.
+    /// Returns the least number of arguments of a rule.
     fn min_arguments(&self) -> usize
         requires { rules self.now ≢ [] }
         ensures { IsLeastCount result (rules self.now) };
 
-    /// The greatest number of arguments of a rule.
+    /// Returns the greatest number of arguments of a rule.
     fn max_arguments(&self) -> usize
         requires { rules self.now ≢ [] }
         ensures { IsGreatestCount result (rules self.now) };
 
-    /// The rules that take a value of the type as argument `i`, converted by itself where that is needed.
+    /// Returns the rules that accept a value of the type as argument `i`, converted automatically if needed.
     fn arg(
         &self,
         alloc: Global,
@@ -77,7 +77,7 @@ pub trait OverloadSet: Sized + Drop {
         ensures kind { IfOk result (λ set. accepting set ≡ accepting self.now) }
         ensures fits { IfOk result (λ set. RulesFit types.now (rules set)) };
 
-    /// The rules without abstract arguments.
+    /// Returns the rules without abstract arguments.
     fn concrete_only(self, types: &UniqueArena<Type, mark::Type>) -> Self
         requires backward { IsBackward types.now }
         requires fits { RulesFit types.now (rules self) }
@@ -85,16 +85,16 @@ pub trait OverloadSet: Sized + Drop {
         ensures kind { accepting result ≡ accepting self }
         ensures fits { RulesFit types.now (rules result) };
 
-    /// The first rule.
+    /// Returns the first rule.
     fn most_preferred(&self, alloc: Global) -> Result<Rule, AllocError>
         requires { rules self.now ≢ [] }
         ensures { IfOk result (λ rule. slice_get (rules self.now) 0 ≡ Some rule) };
 
-    /// All rules, in order.
+    /// Returns all rules, in order.
     fn overload_list(&self, alloc: Global, gctx: GlobalCtx<'_>) -> Result<Vec<Rule>, AllocError>
         ensures { IfOk result (λ list. list.items ≡ rules self.now) };
 
-    /// The types of argument `i`, of the rules that have one, in their order. Takes no memory where none has one.
+    /// Returns the types of argument `i` of the rules that have one, in their order. Allocates nothing if none has one.
     fn allowed_args(
         &self,
         alloc: Global,
@@ -115,7 +115,7 @@ pub trait OverloadSet: Sized + Drop {
     }
 }
 
-/// The arguments of a place, of the rules that have one.
+/// Returns the arguments at a position, of the rules that have one.
 fn copy_arguments_at(
     alloc: Global,
     rules: &[Rule],
@@ -130,7 +130,7 @@ fn copy_arguments_at(
     Ok(arguments)
 }
 
-/// Appends argument `i` of the rule, where it has one.
+/// Appends argument `i` of the rule, if it has one.
 fn push_argument(
     alloc: Global,
     arguments: &mut Vec<TypeResolution>,
@@ -148,18 +148,18 @@ fn push_argument(
     }
 }
 
-/// One step of narrowing a set.
+/// A step of narrowing a set.
 #[derive(Drop)]
 pub enum SetCall {
-    /// An argument of this place and type is supplied.
+    /// An argument with this position and type is supplied.
     Arg(usize, TypeInner),
-    /// The arguments are not all known before the program runs, so none is abstract.
+    /// Some argument is known only at run time, so none may be abstract.
     ConcreteOnly,
 }
 
 ghost use Rattle.shader_overloads.specs.Remaining.{CallFits, RulesFit, remaining};
 
-/// The set that is left after the calls, in their order.
+/// Returns the set that remains after the calls, in their order.
 pub fn narrow<S: OverloadSet>(
     alloc: Global,
     set: S,

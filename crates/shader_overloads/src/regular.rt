@@ -1,4 +1,4 @@
-//! Overload sets that hold a rule for each combination of some constructors and some scalars.
+//! Overload sets with a rule for each combination of some constructors and some scalars.
 ghost use Rattle.std.specs.Prelude.{◌≡◌, ◌⊎◌, ◌<◌, ◌/◌, ◌%◌, ◌&&◌, ℕ, [], IsOk, IsTrue, IfOk, Some, filter, replicate, slice_get};
 ghost use Rattle.std.specs.List.{list_all};
 ghost use Rattle.shader_ir.specs.declared.proc.type_resolution.TypeResolution.TheVariants as resolutions;
@@ -6,12 +6,12 @@ ghost use Rattle.shader_ir.specs.Scalars.{is_convertible, named_scalars};
 ghost use Rattle.shader_ir.specs.declared.scalar.Scalar.{Scalar};
 ghost use Rattle.shader_overloads.specs.declared.constructor_set.ConstructorSize.{ConstructorSize};
 ghost use Rattle.shader_overloads.specs.Constructors.{all_constructors, constructors_in, same_constructor, to_inner};
-ghost use Rattle.shader_overloads.specs.Masks.{has_place};
+ghost use Rattle.shader_overloads.specs.Masks.{has_position};
 ghost use Rattle.shader_overloads.specs.Regular.{all_rules};
 ghost use Rattle.shader_overloads.specs.Rules.{regular_rules, rule_for, conclusion_of, can_conclude};
 ghost use Rattle.shader_overloads.specs.ScalarSets.{scalars_in};
 
-use crate::constructor_set::{place_of, size_at};
+use crate::constructor_set::{position_of, size_at};
 use crate::mask::Mask;
 use crate::masked::{Masked, Table};
 use crate::rule::vector_size;
@@ -27,11 +27,11 @@ use std::marker::Model;
 
 /// An overload set of rules whose arguments all have one type, which contracts see as the list of its rules.
 ///
-/// There is a rule for each combination of one of the constructors and one of the scalars: constructor by
-/// constructor, and within each scalar by scalar, in the order of the bits.
+/// There is one rule for each combination of a constructor and a scalar, ordered by constructor and then by scalar, both in the order of
+/// their bits.
 #[derive(Drop)]
 pub struct Regular {
-    set: Masked<RegularRows>,
+    set: Masked<RegularTable>,
 }
 
 impl Model for Regular {
@@ -56,14 +56,14 @@ impl Regular {
     pub const EMPTY: Regular = Regular {
         set: Masked {
             mask: Mask::EMPTY,
-            table: RegularRows {
+            table: RegularTable {
                 arity: 0,
                 conclude: ConclusionRule::ArgumentType,
             },
         },
     };
 
-    /// The rules of `arity` arguments each.
+    /// Returns the set of the rules with `arity` arguments each.
     pub fn new(
         arity: usize,
         constructors: ConstructorSet,
@@ -76,7 +76,7 @@ impl Regular {
         ensures fits { (types : List «Type») → RulesFit types result }
     {
         let mask = Mask::pairs(constructors.bits(), scalars.bits());
-        let table = RegularRows { arity, conclude };
+        let table = RegularTable { arity, conclude };
         Regular {
             set: Masked { mask, table },
         }
@@ -94,7 +94,7 @@ impl OverloadSet for Regular {
 
     ghost accepting = { λ _. accepts };
 
-    /// Takes no memory.
+    /// Allocates nothing.
     fn copy(&self, _alloc: Global) -> Result<Regular, AllocError>
         ensures found { IsOk result }
         ensures rules { IfOk result (λ set. set ≡ self.now) }
@@ -116,7 +116,7 @@ impl OverloadSet for Regular {
         self.set.table.arity
     }
 
-    /// Takes no memory.
+    /// Allocates nothing.
     fn arg(
         &self,
         _alloc: Global,
@@ -152,32 +152,33 @@ impl OverloadSet for Regular {
     }
 }
 
-/// The rules of all constructors and scalars: that of the constructor of place `i` and the scalar of place `j` has the number `12 * i + j`.
+/// The rules of all constructors and scalars: that of the constructor at position `i` and the scalar at position `j` has the number `12 * i
+/// + j`.
 #[derive(Clone, Copy)]
-pub struct RegularRows {
-    // First, over the pointer of a list: so a set of either kind is moved by whole words.
+pub struct RegularTable {
+    // First, over the pointer of a list, so that a set of either kind is moved by whole words.
     conclude: ConclusionRule,
     arity: usize,
 }
 
-impl RegularRows {
+impl RegularTable {
     ghost use Rattle.std.specs.Prelude.{List, ℕ};
     ghost use Rattle.shader_ir.specs.declared.types.«Type».{«Type»};
     ghost use Rattle.shader_overloads.specs.declared.rule.Rule.{Rule};
     ghost use Rattle.shader_overloads.specs.Remaining.{accepts, has_concrete_arguments};
 
-    /// The numbers of the rules that take a value of the type as argument `i`.
-    fn accepted_rows(self, i: usize, ty: &TypeInner) -> Mask
-        ensures { (types : List «Type») (row : ℕ) (rule : Rule) → slice_get (all_rules self) row ≡ Some rule →
-            has_place result row ≡ accepts types i ty.now rule }
+    /// Returns the numbers of the rules that accept a value of the type as argument `i`.
+    fn accepted_numbers(self, i: usize, ty: &TypeInner) -> Mask
+        ensures { (types : List «Type») (number : ℕ) (rule : Rule) → slice_get (all_rules self) number ≡ Some rule →
+            has_position result number ≡ accepts types i ty.now rule }
     {
         if i >= self.arity {
             return Mask::empty();
         }
         match ty {
-            TypeInner::Scalar(scalar) => accepting_rows(ConstructorSize::Scalar, *scalar),
+            TypeInner::Scalar(scalar) => accepting_numbers(ConstructorSize::Scalar, *scalar),
             TypeInner::Vector { size, scalar } => {
-                accepting_rows(ConstructorSize::Vector(*size), *scalar)
+                accepting_numbers(ConstructorSize::Vector(*size), *scalar)
             }
             TypeInner::Matrix {
                 columns,
@@ -188,16 +189,16 @@ impl RegularRows {
                     columns: *columns,
                     rows: *rows,
                 };
-                accepting_rows(size, *scalar)
+                accepting_numbers(size, *scalar)
             }
             _ => Mask::empty(),
         }
     }
 
-    /// The numbers of the rules without abstract arguments.
-    fn concrete_rows(self) -> Mask
-        ensures { (types : List «Type») (row : ℕ) (rule : Rule) → slice_get (all_rules self) row ≡ Some rule →
-            has_place result row ≡ has_concrete_arguments types rule }
+    /// Returns the numbers of the rules without abstract arguments.
+    fn concrete_numbers(self) -> Mask
+        ensures { (types : List «Type») (number : ℕ) (rule : Rule) → slice_get (all_rules self) number ≡ Some rule →
+            has_position result number ≡ has_concrete_arguments types rule }
     {
         if self.arity == 0 {
             return Mask::pairs(u16::MAX, u16::MAX);
@@ -206,11 +207,11 @@ impl RegularRows {
     }
 }
 
-impl Table for RegularRows {
+impl Table for RegularTable {
     ghost use Rattle.std.specs.Prelude.{true, false};
     ghost use Rattle.shader_overloads.specs.Remaining.{accepts};
 
-    ghost rows = { all_rules };
+    ghost table_rules = { all_rules };
 
     ghost accepting = { λ _. accepts };
 
@@ -218,32 +219,32 @@ impl Table for RegularRows {
 
     ghost reads_types = { false };
 
-    fn copy(&self) -> Result<RegularRows, AllocError> {
+    fn copy(&self) -> Result<RegularTable, AllocError> {
         Ok(*self)
     }
 
-    fn row_count(&self) -> usize {
+    fn rule_count(&self) -> usize {
         156
     }
 
-    fn rule(&self, alloc: Global, row: usize) -> Result<Rule, AllocError> {
-        let size = size_at(row / 12);
-        let scalar = scalar_at(row % 12);
-        make_rule(alloc, self.arity, size, scalar, self.conclude)
+    fn rule(&self, alloc: Global, number: usize) -> Result<Rule, AllocError> {
+        let size = size_at(number / 12);
+        let scalar = scalar_at(number % 12);
+        build_rule(alloc, self.arity, size, scalar, self.conclude)
     }
 
     fn accepts(
         &self,
-        row: usize,
+        number: usize,
         i: usize,
         ty: &TypeInner,
         _types: &UniqueArena<Type, mark::Type>,
     ) -> bool {
-        self.accepted_rows(i, ty).has(row)
+        self.accepted_numbers(i, ty).has(number)
     }
 
-    fn is_concrete(&self, row: usize, _types: &UniqueArena<Type, mark::Type>) -> bool {
-        self.concrete_rows().has(row)
+    fn is_concrete(&self, number: usize, _types: &UniqueArena<Type, mark::Type>) -> bool {
+        self.concrete_numbers().has(number)
     }
 
     fn accepted(
@@ -253,26 +254,27 @@ impl Table for RegularRows {
         ty: &TypeInner,
         _types: &UniqueArena<Type, mark::Type>,
     ) -> Mask {
-        mask & self.accepted_rows(i, ty)
+        mask & self.accepted_numbers(i, ty)
     }
 
     fn concrete(&self, mask: Mask, _types: &UniqueArena<Type, mark::Type>) -> Mask {
-        mask & self.concrete_rows()
+        mask & self.concrete_numbers()
     }
 }
 
-/// The numbers of the rules of a constructor and the scalars that this one converts to.
+/// Returns the numbers of the rules with the constructor and a scalar to which this one converts.
 #[inline(always)]
-fn accepting_rows(size: ConstructorSize, scalar: Scalar) -> Mask
-    ensures { (row : ℕ) (other : ConstructorSize) (to : Scalar) → slice_get all_constructors (row / 12) ≡ Some other →
-        slice_get named_scalars (row % 12) ≡ Some to → has_place result row ≡ (same_constructor size other && is_convertible scalar to) }
+fn accepting_numbers(size: ConstructorSize, scalar: Scalar) -> Mask
+    ensures { (number : ℕ) (other : ConstructorSize) (to : Scalar) → slice_get all_constructors (number / 12) ≡ Some other →
+        slice_get named_scalars (number % 12) ≡ Some to →
+        has_position result number ≡ (same_constructor size other && is_convertible scalar to) }
 {
     let scalars = ScalarSet::convertible_from(scalar);
-    Mask::group(place_of(size), scalars.bits())
+    Mask::group(position_of(size), scalars.bits())
 }
 
-/// The rule of one constructor and one scalar.
-fn make_rule(
+/// Returns the rule of one constructor and one scalar.
+fn build_rule(
     alloc: Global,
     arity: usize,
     size: ConstructorSize,
@@ -288,7 +290,7 @@ fn make_rule(
     })
 }
 
-/// The type of the constructor and the scalar, `arity` times.
+/// Returns `arity` arguments, each of the type of the constructor and the scalar.
 fn repeat_argument(
     alloc: Global,
     arity: usize,
@@ -304,16 +306,16 @@ fn repeat_argument(
     Ok(Items::from(arguments))
 }
 
-/// How the rules of a regular set conclude from the type of their arguments.
+/// The result type of the rules of a regular set, as a function of the type of their arguments.
 #[derive(Clone, Copy, Debug)]
 pub enum ConclusionRule {
-    /// The argument's type.
+    /// The type of the argument.
     ArgumentType,
     /// The leaf scalar of the argument's type.
     Scalar,
-    /// The result type that the module declares for `frexp` of the argument.
+    /// The result type that the module declares for `frexp` of the argument's type.
     Frexp,
-    /// The result type that the module declares for `modf` of the argument.
+    /// The result type that the module declares for `modf` of the argument's type.
     Modf,
     /// `u32`.
     U32,
@@ -330,7 +332,8 @@ pub enum ConclusionRule {
 }
 
 impl ConclusionRule {
-    /// The conclusion from an argument of this constructor and scalar. No rule of a matrix that `Frexp` or `Modf` concludes is ever left.
+    /// Returns the conclusion for an argument of this constructor and scalar. No rule that concludes `Frexp` or `Modf` of a matrix ever
+    /// remains.
     fn conclude(self, size: ConstructorSize, scalar: Scalar) -> Conclusion
         ensures { result ≡ conclusion_of self size scalar }
     {
@@ -355,7 +358,7 @@ impl ConclusionRule {
     }
 }
 
-/// The conclusion of a vector type.
+/// Returns the conclusion that is a vector type.
 fn vector(size: VectorSize, scalar: Scalar) -> Conclusion
     ensures { result ≡ Conclusion.Value (TypeInner.Vector size scalar) }
 {

@@ -1,8 +1,8 @@
-//! Rules: the types that a builtin function takes, and what it gives for them.
+//! Rules: the argument types of a built-in function and the type of its result.
 //!
-//! A rule is one overload of WGSL's tables of builtin functions, without template parameters. Its arguments are what a call's arguments
-//! are converted to; its conclusion is the type of the call, either written out or, for `frexp` and `modf`, a struct that the module
-//! has to declare before (`SpecialTypes`), since the IR names structs by their handles alone.
+//! A rule is one overload of WGSL's tables of built-in functions, without template parameters. Its arguments are the types to which a
+//! call's arguments are converted. Its conclusion is the type of the call: either given in full or, for `frexp` and `modf`, a struct that
+//! the module must have declared (`SpecialTypes`), since the IR names structs only by handles.
 ghost use Rattle.std.specs.Prelude.{◌≡◌, ◌⊎◌, IfOk, IsOk, IsTrue, OnErr, None, Some};
 ghost use Rattle.shader_overloads.specs.Resolutions.{ConcludesNoMembers, resolution_of};
 ghost use Rattle.shader_overloads.specs.Rules.{is_scalar_or_vector, vector_size};
@@ -15,24 +15,24 @@ use shader_ir::{
 use std::alloc::{AllocError, Global};
 use thiserror::Error;
 
-/// A rule of a builtin function.
+/// A rule of a built-in function.
 #[derive(Debug, Drop)]
 pub struct Rule {
     pub arguments: Items<TypeResolution>,
     pub conclusion: Conclusion,
 }
 
-/// The type of a builtin's result.
+/// The result type of a built-in function.
 #[derive(Debug, Drop)]
 pub enum Conclusion {
-    /// A type that its shape says whole.
+    /// A type that is given in full.
     Value(TypeInner),
-    /// A type that the module declares for the builtin, among its special types.
+    /// A type that the module declares for the built-in function, among its special types.
     Predeclared(PredeclaredType),
 }
 
 impl Conclusion {
-    /// The result type that the module declares for `Frexp` or `Modf` of a scalar or a vector.
+    /// Returns the result type that the module declares for `Frexp` or `Modf` of a scalar or a vector.
     pub fn for_frexp_modf(
         function: MathFunction,
         size: ConstructorSize,
@@ -53,11 +53,11 @@ impl Conclusion {
         })
     }
 
-    /// The result's type in a module of these special types.
+    /// Returns the result's type in a module with these special types.
     ///
     /// # Errors
     ///
-    /// The module has not registered the type that the conclusion needs.
+    /// `MissingSpecialType` if the module has not registered the type that the conclusion needs.
     pub fn into_resolution(
         self,
         special_types: &SpecialTypes,
@@ -76,7 +76,7 @@ impl Conclusion {
         }
     }
 
-    /// Returns an equal copy. Takes memory for the members of a struct alone.
+    /// Returns an equal copy. Allocates only for the members of a struct.
     pub fn copy(&self, alloc: Global) -> Result<Conclusion, AllocError>
         ensures copy { IfOk result (λ conclusion. conclusion ≡ self.now) }
         ensures ok { ConcludesNoMembers self.now → IsOk result }
@@ -88,12 +88,12 @@ impl Conclusion {
     }
 }
 
-/// A conclusion needs a type that the module has not registered.
+/// The error for a conclusion whose type the module has not registered.
 #[derive(Debug, Drop, Error)]
 #[error("Special type is not registered within the module")]
 pub struct MissingSpecialType;
 
-/// The size of a vector.
+/// Returns the size of a vector, or `None` for a scalar.
 pub fn vector_size(size: ConstructorSize) -> Option<VectorSize>
     ensures { result ≡ vector_size size }
 {
@@ -117,7 +117,7 @@ impl Rule {
     }
 }
 
-/// Equal copies of the arguments.
+/// Returns equal copies of the arguments.
 fn copy_arguments(
     alloc: Global,
     arguments: &[TypeResolution],

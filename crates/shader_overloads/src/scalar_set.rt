@@ -9,10 +9,10 @@ use shader_ir::Scalar;
 use std::marker::Model;
 use std::ops::{BitAnd, BitOr};
 
-/// A set of the twelve named scalars.
+/// A set of named scalars.
 ///
-/// Its bits are ordered so that a scalar stands before those that it converts to, and among scalars of
-/// one kind that of 32 bits first.
+/// The bits are ordered so that a scalar comes before those that it converts to, and among scalars of one kind the one of 32 bits comes
+/// first.
 #[derive(Clone, Copy, Debug)]
 pub struct ScalarSet(u16);
 
@@ -61,14 +61,14 @@ impl ScalarSet {
 
     pub const ABSTRACT: ScalarSet = ScalarSet(Self::ABSTRACT_INT.0 | Self::ABSTRACT_FLOAT.0);
 
-    /// All but the abstract scalars, `BOOL` too.
+    /// All scalars that aren't abstract, including `BOOL`.
     pub const CONCRETE: ScalarSet = ScalarSet(ALL & !Self::ABSTRACT.0);
 
     pub const CONCRETE_INTEGER: ScalarSet = ScalarSet(Self::INTEGER.0 & Self::CONCRETE.0);
 
     pub const CONCRETE_FLOAT: ScalarSet = ScalarSet(Self::FLOAT.0 & Self::CONCRETE.0);
 
-    /// The concrete floating-point scalars: for a builtin without an abstract form, of which none is left.
+    /// The concrete floating-point scalars, for a built-in function whose abstract form isn't implemented. No such function is left.
     pub const FLOAT_ABSTRACT_UNIMPLEMENTED: ScalarSet = Self::CONCRETE_FLOAT;
 
     pub const EMPTY: ScalarSet = ScalarSet(0);
@@ -128,7 +128,7 @@ impl ScalarSet {
 /// The bits of all twelve scalars.
 const ALL: u16 = 0xfff;
 
-/// The scalars by the places of their bits.
+/// The scalars by the positions of their bits.
 static SCALARS_FOR_BITS: [Scalar; 12] = [
     Scalar::ABSTRACT_INT,
     Scalar::ABSTRACT_FLOAT,
@@ -144,13 +144,13 @@ static SCALARS_FOR_BITS: [Scalar; 12] = [
     Scalar::BOOL,
 ];
 
-/// The scalar of a place.
+/// Returns the scalar at a position.
 #[tactic(auto, unfolding(shader_ir::specs::Scalars::named_scalars))]
-pub fn scalar_at(place: usize) -> Scalar
-    requires { place < 12 }
-    ensures { slice_get named_scalars place ≡ Some result }
+pub fn scalar_at(position: usize) -> Scalar
+    requires { position < 12 }
+    ensures { slice_get named_scalars position ≡ Some result }
 {
-    SCALARS_FOR_BITS[place]
+    SCALARS_FOR_BITS[position]
 }
 
 #[tactic(auto, unfolding(shader_ir::specs::Scalars::named_scalars))]
@@ -161,7 +161,7 @@ impl ScalarSet {
         Self::EMPTY
     }
 
-    /// The set of one scalar, or the empty set where it is none of the twelve.
+    /// Returns the set of one scalar, or the empty set if it isn't a named one.
     pub fn singleton(scalar: Scalar) -> ScalarSet
         ensures { scalars_in result ≡ filter (same_scalar scalar) named_scalars }
     {
@@ -182,7 +182,7 @@ impl ScalarSet {
         }
     }
 
-    /// The scalars to which this one converts by itself.
+    /// Returns the scalars to which this one converts automatically.
     pub fn convertible_from(scalar: Scalar) -> ScalarSet
         ensures { scalars_in result ≡ filter (is_convertible scalar) named_scalars }
     {
@@ -193,7 +193,7 @@ impl ScalarSet {
         }
     }
 
-    /// The scalars that are not abstract.
+    /// Returns the scalars that aren't abstract.
     pub fn concrete() -> ScalarSet
         ensures { scalars_in result ≡ filter is_concrete_scalar named_scalars }
     {
@@ -206,7 +206,7 @@ impl ScalarSet {
         self.0 & ALL == 0
     }
 
-    /// The first scalar in the order of the bits.
+    /// Returns the first scalar in the order of the bits.
     pub fn most_general_scalar(self) -> Scalar
         requires { scalars_in self ≢ [] }
         ensures { slice_get (scalars_in self) 0 ≡ Some result }
@@ -214,7 +214,7 @@ impl ScalarSet {
         SCALARS_FOR_BITS[self.0.trailing_zeros() as usize]
     }
 
-    /// The sets of one scalar of this set each, in the order of the bits.
+    /// Returns an iterator over the one-scalar subsets of this set, in the order of the bits.
     pub fn members(self) -> ScalarMembers
         ensures { result ≡ scalars_in self }
     {
@@ -266,7 +266,7 @@ impl BitOr for ScalarSet {
     }
 }
 
-/// The members of a set of scalars, which contracts see as the list of those left.
+/// An iterator over the remaining members of a set of scalars, which contracts see as their list.
 #[derive(Drop)]
 pub struct ScalarMembers {
     left: ScalarSet,

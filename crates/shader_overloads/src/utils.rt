@@ -1,4 +1,4 @@
-//! What lists of rules are made with, here and by front ends.
+//! Helpers to build lists of rules, for this crate and for front ends.
 ghost use Rattle.std.specs.Prelude.{⊤, ◌≡◌, ◌≤◌, IfOk, IsTrue, length, map};
 ghost use Rattle.std.specs.List.{list_all};
 ghost use Rattle.std.specs.Iterator.{YieldsFirst, item_count};
@@ -13,13 +13,13 @@ use shader_ir::{Items, Scalar, TypeInner, TypeResolution, VectorSize};
 use std::alloc::{AllocError, Global};
 use std::marker::Model;
 
-/// The rule of arguments and a result of these types.
+/// Returns the rule with arguments and a result of these types.
 pub fn rule<const N: usize>(
     alloc: Global,
     args: &[TypeInner; N],
     ret: TypeInner,
 ) -> Result<Rule, AllocError>
-    ensures { IfOk result (λ made. made ≡ rule args.now ret) }
+    ensures { IfOk result (λ built. built ≡ rule args.now ret) }
 {
     let arguments = values(alloc, args)?;
     Ok(Rule {
@@ -28,7 +28,7 @@ pub fn rule<const N: usize>(
     })
 }
 
-/// The types as free-standing ones.
+/// Returns the types as resolutions outside the arena.
 #[tactic(auto, using(std::proofs::lemmas::List::map_more))]
 fn values(alloc: Global, inners: &[TypeInner]) -> Result<Items<TypeResolution>, AllocError>
     ensures { IfOk result (λ values. values ≡ map resolutions.Value inners.now) }
@@ -40,7 +40,7 @@ fn values(alloc: Global, inners: &[TypeInner]) -> Result<Items<TypeResolution>, 
     Ok(Items::from(arguments))
 }
 
-/// A list of these rules.
+/// Returns a list of these rules.
 pub fn list(alloc: Global, rules: Vec<Rule>) -> Result<List, AllocError>
     requires count { length rules.items ≤ 63 }
     requires no_struct { IsTrue (list_all has_no_struct rules.items) }
@@ -49,7 +49,7 @@ pub fn list(alloc: Global, rules: Vec<Rule>) -> Result<List, AllocError>
     List::from_rules(alloc, rules)
 }
 
-/// The floating-point scalars, in the order in which calls prefer them: the abstract one, then that of 32 bits.
+/// The floating-point scalars, in the order in which calls prefer them: the abstract one, then the one of 32 bits.
 pub static FLOAT_SCALARS: [Scalar; 4] = [
     Scalar::ABSTRACT_FLOAT,
     Scalar::F32,
@@ -57,10 +57,10 @@ pub static FLOAT_SCALARS: [Scalar; 4] = [
     Scalar::F64,
 ];
 
-/// Those of them that are concrete, in the same order.
+/// The concrete floating-point scalars, in the order in which calls prefer them.
 pub static CONCRETE_FLOAT_SCALARS: [Scalar; 3] = [Scalar::F32, Scalar::F16, Scalar::F64];
 
-/// A scalar itself, and vectors of it.
+/// The constructors of a scalar itself and of its vectors.
 pub static SCALAR_OR_VECN: [ConstructorSize; 4] = [
     ConstructorSize::Scalar,
     ConstructorSize::Vector(VectorSize::Bi),
@@ -68,7 +68,7 @@ pub static SCALAR_OR_VECN: [ConstructorSize; 4] = [
     ConstructorSize::Vector(VectorSize::Quad),
 ];
 
-/// The floating-point scalars, in the order in which calls prefer them.
+/// Returns an iterator over the floating-point scalars, in the order in which calls prefer them.
 pub fn float_scalars() -> FloatScalars
     ensures { result ≡ all_floats }
 {
@@ -77,8 +77,8 @@ pub fn float_scalars() -> FloatScalars
     }
 }
 
-/// The concrete floating-point scalars, in the order in which calls prefer them: for a builtin without an abstract form, of which none
-/// is left.
+/// Returns an iterator over the concrete floating-point scalars, in the order in which calls prefer them: for a built-in function whose
+/// abstract form isn't implemented. No such function is left.
 pub fn float_scalars_unimplemented_abstract() -> FloatScalars
     ensures { result ≡ floats }
 {
@@ -87,7 +87,7 @@ pub fn float_scalars_unimplemented_abstract() -> FloatScalars
     }
 }
 
-/// The type of the scalar, and those of its vectors by size.
+/// Returns an iterator over the types of the scalar and of its vectors by size.
 pub fn scalar_or_vecn(scalar: Scalar) -> ScalarOrVecn
     ensures { result ≡ shapes scalar }
 {
@@ -97,7 +97,7 @@ pub fn scalar_or_vecn(scalar: Scalar) -> ScalarOrVecn
     }
 }
 
-/// The floating-point scalars that are left to give.
+/// An iterator over the remaining floating-point scalars.
 #[derive(Drop)]
 pub struct FloatScalars {
     left: &'static [Scalar],
@@ -136,7 +136,7 @@ impl Iterator for FloatScalars {
     }
 }
 
-/// The types of a scalar and of its vectors that are left to give.
+/// An iterator over the remaining types of a scalar and its vectors.
 #[derive(Drop)]
 pub struct ScalarOrVecn {
     scalar: Scalar,

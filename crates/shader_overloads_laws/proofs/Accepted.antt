@@ -1,4 +1,4 @@
--- Which rules of the builtins remain, by the types of their arguments.
+-- The remaining rules of the built-in functions, by the types of their arguments.
 use Rattle.std.proofs.Common.{◌≡◌, ◌∙◌, ap, sym, refl, inl, inr, ℕ, zero, suc, Bool, true, false}
 use Rattle.std.proofs.Common.{cond, ◌&&◌, List, [], ◌∷◌, Option, Some, None, slice_get}
 use Rattle.std.specs.List.{filter, list_all}
@@ -25,7 +25,7 @@ use Rattle.shader_overloads.proofs.AgreementLemmas.{list_takes_plainly, takes_pl
 use Rattle.shader_overloads.proofs.BuiltinLemmas.{is_named_inner, is_named_rule, rules_named}
 use Rattle.shader_overloads_laws.specs.Optimality.{remaining_of}
 use Rattle.shader_overloads_laws.proofs.Arguments.{argument_is, concrete_is, inners, inners_named}
-use Rattle.shader_overloads_laws.proofs.Arguments.{made_rank, plain_takes_parts, same_made, leaf}
+use Rattle.shader_overloads_laws.proofs.Arguments.{built_rank, plain_takes_parts, same_built, leaf}
 use Rattle.shader_overloads_laws.proofs.Orders.{are_concrete, is_taken, some_taken, taken_rank}
 use Rattle.shader_overloads_laws.proofs.Scalars.{convertible_named}
 
@@ -54,11 +54,11 @@ unnamed_untaken ty inner odd = refl
 
 takes_is : (ty inner : TypeInner) → is_named_inner inner ≡ true → takes ty inner ≡ (is_named_or_none (leaf_scalar ty) && is_taken ty inner)
 takes_is ty inner named = elim (cases_Bool (is_named_or_none (leaf_scalar ty))) [
-  | inl told ↦ takes_plainly ty inner told named ∙ plain_takes_parts ty inner ∙ sym (ap (λ b. b && is_taken ty inner) told)
+  | inl reported ↦ takes_plainly ty inner reported named ∙ plain_takes_parts ty inner ∙ sym (ap (λ b. b && is_taken ty inner) reported)
   | inr odd ↦ unnamed_untaken ty inner odd ∙ sym (ap (λ b. b && is_taken ty inner) odd)
 ]
 
--- whether a set of the kind takes values of the type at all: a regular set knows the scalars with names alone
+-- whether a set of the kind accepts values of the type at all: a regular set knows only named scalars
 abbrev pub allows : Bool → TypeInner → Bool
 allows true ty = true
 allows false ty = is_named_or_none (leaf_scalar ty)
@@ -93,9 +93,9 @@ module _ (types : List «Type») (ty : TypeInner) where
   found_rank : (found : Option TypeInner) → some_taken ty found ≡ true →
       leaf_rank (leaf_scalar ty) (option_and_then leaf_scalar found) ≡ taken_rank ty found
   found_rank None e = cc
-  found_rank (Some inner) e = made_rank ty inner (and_parts (same_made ty inner) _ e).0
+  found_rank (Some inner) e = built_rank ty inner (and_parts (same_built ty inner) _ e).0
 
-  -- the rank of a rule at an argument that it takes
+  -- the rank of a rule at an argument that it accepts
   pub rank_is : (rule : Rule) (i : ℕ) → is_named_rule rule ≡ true → some_taken ty (slice_get (inners rule) i) ≡ true →
       rank_at types i ty rule ≡ taken_rank ty (slice_get (inners rule) i)
   rank_is rule i named taken =
@@ -136,7 +136,7 @@ acceptance_is : (function : MathFunction) → acceptance_of function ≡ accepti
 acceptance_is f.Ldexp = refl
 acceptance_is _ = refl
 
--- what remains of a builtin's rules
+-- the remaining rules of a built-in function
 pub remaining_is : (function : MathFunction) (types : List «Type») (calls : List SetCall) →
     remaining_of function types calls ≡ filter (stays (is_listed function) calls) (rules_of function)
 remaining_is function types calls =

@@ -1,4 +1,4 @@
--- The types of arguments of the rules of the builtins: scalars, vectors and matrices.
+-- The types of arguments of the rules of the built-in functions: scalars, vectors and matrices.
 use Rattle.std.proofs.Common.{◌≡◌, ◌∙◌, ap, sym, refl, ℕ, zero, suc, Bool, true, false, not}
 use Rattle.std.proofs.Common.{◌&&◌, List, [], ◌∷◌, map, Option, Some, None, slice_get}
 use Rattle.std.specs.List.{list_all}
@@ -40,45 +40,45 @@ same_found (Some a) (Some b) = same_constructor a b
 same_found _ _ = false
 
 -- both have the same constructor
-abbrev pub same_made : TypeInner → TypeInner → Bool
-same_made a b = same_found (constructor_of a) (constructor_of b)
+abbrev pub same_built : TypeInner → TypeInner → Bool
+same_built a b = same_found (constructor_of a) (constructor_of b)
 
--- the leaf scalar; that of a type without one is of no matter
+-- the leaf scalar; for a type without one the value doesn't matter
 abbrev pub leaf : TypeInner → s.Scalar
 leaf (Scalar a) = a
 leaf (Vector n a) = a
 leaf (Matrix m n a) = a
 leaf _ = scalar kinds.Bool 1
 
-pub same_size_told : (m n : VectorSize) → same_size m n ≡ true → m ≡ n
-same_size_told Bi Bi e = refl
-same_size_told Tri Tri e = refl
-same_size_told Quad Quad e = refl
-same_size_told _ _ e = cc
+pub same_size_reported : (m n : VectorSize) → same_size m n ≡ true → m ≡ n
+same_size_reported Bi Bi e = refl
+same_size_reported Tri Tri e = refl
+same_size_reported Quad Quad e = refl
+same_size_reported _ _ e = cc
 
-same_constructor_told : (a b : ConstructorSize) → same_constructor a b ≡ true → a ≡ b
-same_constructor_told sizes.Scalar sizes.Scalar e = refl
-same_constructor_told (sizes.Vector m) (sizes.Vector n) e = ap sizes.Vector (same_size_told m n e)
-same_constructor_told (sizes.Matrix c r) (sizes.Matrix m n) e =
+same_constructor_reported : (a b : ConstructorSize) → same_constructor a b ≡ true → a ≡ b
+same_constructor_reported sizes.Scalar sizes.Scalar e = refl
+same_constructor_reported (sizes.Vector m) (sizes.Vector n) e = ap sizes.Vector (same_size_reported m n e)
+same_constructor_reported (sizes.Matrix c r) (sizes.Matrix m n) e =
     let parts = and_parts (same_size c m) (same_size r n) e in
-    ap (λ x. sizes.Matrix x r) (same_size_told c m parts.0) ∙ ap (sizes.Matrix m) (same_size_told r n parts.1)
-same_constructor_told _ _ e = cc
+    ap (λ x. sizes.Matrix x r) (same_size_reported c m parts.0) ∙ ap (sizes.Matrix m) (same_size_reported r n parts.1)
+same_constructor_reported _ _ e = cc
 
 same_found_told : (a b : Option ConstructorSize) → same_found a b ≡ true → a ≡ b
-same_found_told (Some a) (Some b) e = ap Some (same_constructor_told a b e)
+same_found_told (Some a) (Some b) e = ap Some (same_constructor_reported a b e)
 same_found_told (Some a) None e = cc
 same_found_told None b e = cc
 
-pub same_made_told : (a b : TypeInner) → same_made a b ≡ true → constructor_of a ≡ constructor_of b
-same_made_told a b e = same_found_told (constructor_of a) (constructor_of b) e
+pub same_built_reported : (a b : TypeInner) → same_built a b ≡ true → constructor_of a ≡ constructor_of b
+same_built_reported a b e = same_found_told (constructor_of a) (constructor_of b) e
 
 -- two types that have the constructor of a third have one constructor
-pub made_alike : (ty a b : TypeInner) → same_made ty a ≡ true → same_made ty b ≡ true → same_made a b ≡ true
-made_alike ty a b p q = ap (λ o. same_found o (constructor_of b)) (sym (same_made_told ty a p)) ∙ q
+pub built_alike : (ty a b : TypeInner) → same_built ty a ≡ true → same_built ty b ≡ true → same_built a b ≡ true
+built_alike ty a b p q = ap (λ o. same_found o (constructor_of b)) (sym (same_built_reported ty a p)) ∙ q
 
--- a type has the constructor of what has the constructor of one that is made as it is
-pub made_through : (ty a b : TypeInner) → same_made ty a ≡ true → same_made a b ≡ true → same_made ty b ≡ true
-made_through ty a b p q = ap (λ o. same_found o (constructor_of b)) (same_made_told ty a p) ∙ q
+-- having the same constructor is transitive
+pub built_through : (ty a b : TypeInner) → same_built ty a ≡ true → same_built a b ≡ true → same_built ty b ≡ true
+built_through ty a b p q = ap (λ o. same_found o (constructor_of b)) (same_built_reported ty a p) ∙ q
 
 pub found_first : (a b : Option ConstructorSize) → same_found a b ≡ true → is_some a ≡ true
 found_first (Some a) (Some b) e = refl
@@ -90,21 +90,22 @@ found_second (Some a) (Some b) e = refl
 found_second (Some a) None e = cc
 found_second None b e = cc
 
-made_leaf : (a : TypeInner) → is_some (constructor_of a) ≡ true → leaf_scalar a ≡ Some (leaf a)
-made_leaf (Scalar a) e = refl
-made_leaf (Vector n a) e = refl
-made_leaf (Matrix m n a) e = refl
-made_leaf _ e = cc
+built_leaf : (a : TypeInner) → is_some (constructor_of a) ≡ true → leaf_scalar a ≡ Some (leaf a)
+built_leaf (Scalar a) e = refl
+built_leaf (Vector n a) e = refl
+built_leaf (Matrix m n a) e = refl
+built_leaf _ e = cc
 
--- a type that an argument takes has a leaf scalar
-pub supplied_leaf : (ty a : TypeInner) → same_made ty a ≡ true → leaf_scalar ty ≡ Some (leaf ty)
-supplied_leaf ty a e = made_leaf ty (found_first (constructor_of ty) (constructor_of a) e)
+-- a type that an argument accepts has a leaf scalar
+pub supplied_leaf : (ty a : TypeInner) → same_built ty a ≡ true → leaf_scalar ty ≡ Some (leaf ty)
+supplied_leaf ty a e = built_leaf ty (found_first (constructor_of ty) (constructor_of a) e)
 
 -- the rank of an argument that has the constructor of the type supplied
-pub made_rank : (ty a : TypeInner) → same_made ty a ≡ true → leaf_rank (leaf_scalar ty) (leaf_scalar a) ≡ conversion_rank (leaf ty) (leaf a)
-made_rank ty a e =
-    ap (λ o. leaf_rank o (leaf_scalar a)) (made_leaf ty (found_first (constructor_of ty) (constructor_of a) e))
-    ∙ ap (leaf_rank (Some (leaf ty))) (made_leaf a (found_second (constructor_of ty) (constructor_of a) e))
+pub built_rank : (ty a : TypeInner) → same_built ty a ≡ true →
+    leaf_rank (leaf_scalar ty) (leaf_scalar a) ≡ conversion_rank (leaf ty) (leaf a)
+built_rank ty a e =
+    ap (λ o. leaf_rank o (leaf_scalar a)) (built_leaf ty (found_first (constructor_of ty) (constructor_of a) e))
+    ∙ ap (leaf_rank (Some (leaf ty))) (built_leaf a (found_second (constructor_of ty) (constructor_of a) e))
 
 pub same_parts : (a b : TypeInner) → is_some (constructor_of a) ≡ true → constructor_of a ≡ constructor_of b → leaf a ≡ leaf b → a ≡ b
 same_parts (Scalar a) (Scalar b) some c l = ap Scalar l
@@ -115,17 +116,17 @@ same_parts (Matrix m n a) (Matrix p q b) some c l =
     ap (λ x. Matrix x n a) columns ∙ ap (λ x. Matrix p x a) rows ∙ ap (Matrix p q) l
 same_parts a b some c l = cc
 
--- a constructor and a leaf make one type
-pub made_same : (ty a b : TypeInner) → same_made ty a ≡ true → same_made ty b ≡ true → leaf a ≡ leaf b → a ≡ b
-made_same ty a b p q l =
-    same_parts a b (found_second (constructor_of ty) (constructor_of a) p) (sym (same_made_told ty a p) ∙ same_made_told ty b q) l
+-- a constructor and a leaf scalar determine the type
+pub built_same : (ty a b : TypeInner) → same_built ty a ≡ true → same_built ty b ≡ true → leaf a ≡ leaf b → a ≡ b
+built_same ty a b p q l =
+    same_parts a b (found_second (constructor_of ty) (constructor_of a) p) (sym (same_built_reported ty a p) ∙ same_built_reported ty b q) l
 
 and_assoc : (a b c : Bool) → (a && b && c) ≡ ((a && b) && c)
 and_assoc true b c = refl
 and_assoc false b c = refl
 
--- an argument takes what has its constructor and a scalar that converts
-pub plain_takes_parts : (ty a : TypeInner) → plain_takes ty a ≡ (same_made ty a && scalar_converts (leaf ty) (leaf a))
+-- an argument accepts types of its constructor whose scalar converts
+pub plain_takes_parts : (ty a : TypeInner) → plain_takes ty a ≡ (same_built ty a && scalar_converts (leaf ty) (leaf a))
 plain_takes_parts (Scalar a) (Scalar b) = refl
 plain_takes_parts (Vector m a) (Vector n b) = refl
 plain_takes_parts (Matrix c r a) (Matrix m n b) = and_assoc (same_size c m) (same_size r n) (scalar_converts a b)

@@ -1,4 +1,4 @@
--- No rule that remains of a builtin beats the first one.
+-- No remaining rule of a built-in function beats the first one.
 use Rattle.std.proofs.Common.{◌≡◌, ◌∙◌, ap, sym, refl, inl, inr, subst, ℕ, zero, suc, Bool, true, false, not}
 use Rattle.std.proofs.Common.{cond, ◌&&◌, ◌||◌, List, [], ◌∷◌, Option, Some, None, slice_get, nat_lt, arith}
 use Rattle.std.specs.List.{filter, list_all, list_any}
@@ -20,7 +20,7 @@ use Rattle.shader_overloads.proofs.AgreementLemmas.{all_at}
 use Rattle.shader_overloads.proofs.BuiltinLemmas.{is_named_rule, rules_named}
 use Rattle.shader_overloads_laws.specs.Optimality.{PreferredIsUnbeaten}
 use Rattle.shader_overloads_laws.proofs.Accepted.{allows, pass, rank_is, remaining_is, stays}
-use Rattle.shader_overloads_laws.proofs.Arguments.{inners, inners_named, is_leaf_named, leaf, leafs_named, same_made, supplied_leaf}
+use Rattle.shader_overloads_laws.proofs.Arguments.{inners, inners_named, is_leaf_named, leaf, leafs_named, same_built, supplied_leaf}
 use Rattle.shader_overloads_laws.proofs.Orders.{all_fine, are_concrete, are_ordered, cover, cover_at, covers, covered_unless, each_fine}
 use Rattle.shader_overloads_laws.proofs.Orders.{first_of_left, is_fine, is_smaller, ordered_at, some_taken, taken_rank, unless}
 use Rattle.shader_overloads_laws.proofs.Scalars.{ConvertsLike, like_itself, like_one, sources_of}
@@ -32,7 +32,7 @@ abbrev pub unbeaten_at : Rule → Rule → SetCall → Bool
 unbeaten_at f g (Arg i ty) = not (is_smaller (taken_rank ty (slice_get (inners g) i)) (taken_rank ty (slice_get (inners f) i)))
 unbeaten_at f g ConcreteOnly = true
 
--- whether the second rule has nowhere a smaller rank than the first
+-- whether the second rule nowhere has a smaller rank than the first
 abbrev pub unbeaten : List SetCall → Rule → Rule → Bool
 unbeaten calls f g = list_all (unbeaten_at f g) calls
 
@@ -51,7 +51,7 @@ leafs rule named = leafs_named (inners rule) (inners_named rule.arguments named)
 
 found_leaf : (ty : TypeInner) (found : Option TypeInner) → some_taken ty found ≡ true → leaf_scalar ty ≡ Some (leaf ty)
 found_leaf ty None e = cc
-found_leaf ty (Some a) e = supplied_leaf ty a (and_parts (same_made ty a) (scalar_converts (leaf ty) (leaf a)) e).0
+found_leaf ty (Some a) e = supplied_leaf ty a (and_parts (same_built ty a) (scalar_converts (leaf ty) (leaf a)) e).0
 
 like_of : (listed : Bool) (ty : TypeInner) (found : Option TypeInner) → allows listed ty ≡ true → some_taken ty found ≡ true →
     (like : Scalar) × ConvertsLike (sources_of listed) (leaf ty) like
@@ -149,7 +149,7 @@ module _ (listed : Bool) where
           and_from _ _ (with_names before f rules fines.0 nb names.0 names.1)
           (each (f ∷ before) rules fines.1 (and_from _ _ names.0 nb) names.1)
 
--- ---- the rules that remain
+-- ---- the remaining rules
 
 first_split : {X : Type 0} (xs : List X) (x : X) → slice_get xs 0 ≡ Some x → (later : List X) × (xs ≡ x ∷ later)
 first_split [] x e = cc
@@ -162,24 +162,24 @@ filter_passes p (x ∷ xs) = elim (cases_Bool (p x)) [
   | inr gone ↦ rw gone (filter_passes p xs)
 ]
 
-pub filter_keeps : {X : Type 0} (p q : X → Bool) (xs : List X) → list_all q xs ≡ true → list_all q (filter p xs) ≡ true
-filter_keeps p q [] all = refl
-filter_keeps p q (x ∷ xs) all =
+pub filter_preserves : {X : Type 0} (p q : X → Bool) (xs : List X) → list_all q xs ≡ true → list_all q (filter p xs) ≡ true
+filter_preserves p q [] all = refl
+filter_preserves p q (x ∷ xs) all =
     let both = and_parts (q x) (list_all q xs) all in
     elim (cases_Bool (p x)) [
-      | inl here ↦ rw here (and_from _ _ both.0 (filter_keeps p q xs both.1))
-      | inr gone ↦ rw gone (filter_keeps p q xs both.1)
+      | inl here ↦ rw here (and_from _ _ both.0 (filter_preserves p q xs both.1))
+      | inr gone ↦ rw gone (filter_preserves p q xs both.1)
     ]
 
--- a rule that remains takes the types that are supplied
+-- a remaining rule accepts the supplied types
 pub taken_at : (listed : Bool) (calls : List SetCall) (rule : Rule) (call i : ℕ) (ty : TypeInner) → stays listed calls rule ≡ true →
     slice_get calls call ≡ Some (Arg i ty) → some_taken ty (slice_get (inners rule) i) ≡ true
 taken_at listed calls rule call i ty stay at = (and_parts (allows listed ty) _ (all_at (pass listed rule) calls call (Arg i ty) stay at)).1
 
 smaller_said : (a b : Option ℕ) (m n : ℕ) → a ≡ Some m → b ≡ Some n → nat_lt m n ≡ true → not (is_smaller a b) ≡ true → ⊥
 smaller_said a b m n is_m is_n less h =
-    let told : is_smaller a b ≡ nat_lt m n = ap (λ o. is_smaller o b) is_m ∙ ap (is_smaller (Some m)) is_n in
-    both_ways (is_smaller a b) (not-true _ h) (told ∙ less)
+    let reported : is_smaller a b ≡ nat_lt m n = ap (λ o. is_smaller o b) is_m ∙ ap (is_smaller (Some m)) is_n in
+    both_ways (is_smaller a b) (not-true _ h) (reported ∙ less)
 
 not_beaten : (types : List «Type») (listed : Bool) (calls : List SetCall) (first rule : Rule) → is_named_rule first ≡ true →
     is_named_rule rule ≡ true → stays listed calls first ≡ true → stays listed calls rule ≡ true → unbeaten calls first rule ≡ true →
@@ -194,19 +194,19 @@ not_beaten types listed calls first rule nf nr stay_first stay_rule h beats =
     (all_at (unbeaten_at first rule) calls beats.call (Arg beats.i beats.ty) h beats.supplied)
 
 pub preferred_is_unbeaten : PreferredIsUnbeaten
-preferred_is_unbeaten function types calls first rule place at_first at_rule beats =
+preferred_is_unbeaten function types calls first rule position at_first at_rule beats =
     let listed = is_listed function in
-    let kept : List Rule = filter (stays listed calls) (rules_of function) in
+    let retained : List Rule = filter (stays listed calls) (rules_of function) in
     let is = remaining_is function types calls in
-    let here : slice_get kept 0 ≡ Some first = sym (ap (λ (rules : List Rule). slice_get rules 0) is) ∙ at_first in
-    let there : slice_get kept place ≡ Some rule = sym (ap (λ (rules : List Rule). slice_get rules place) is) ∙ at_rule in
-    let split = first_split kept first here in
-    let all : list_all (unbeaten calls first) kept ≡ true =
+    let here : slice_get retained 0 ≡ Some first = sym (ap (λ (rules : List Rule). slice_get rules 0) is) ∙ at_first in
+    let there : slice_get retained position ≡ Some rule = sym (ap (λ (rules : List Rule). slice_get rules position) is) ∙ at_rule in
+    let split = first_split retained first here in
+    let all : list_all (unbeaten calls first) retained ≡ true =
     ap (list_all (unbeaten calls first)) split.1 ∙ first_unbeaten listed calls (rules_of function) (rules_fine function)
     (rules_named function) first split.0 split.1 in
     let stay = filter_passes (stays listed calls) (rules_of function) in
-    let named = filter_keeps (stays listed calls) is_named_rule (rules_of function) (rules_named function) in
-    not_beaten types listed calls first rule (all_at is_named_rule kept 0 first named here)
-    (all_at is_named_rule kept place rule named there)
-    (all_at (stays listed calls) kept 0 first stay here) (all_at (stays listed calls) kept place rule stay there)
-    (all_at (unbeaten calls first) kept place rule all there) beats
+    let named = filter_preserves (stays listed calls) is_named_rule (rules_of function) (rules_named function) in
+    not_beaten types listed calls first rule (all_at is_named_rule retained 0 first named here)
+    (all_at is_named_rule retained position rule named there)
+    (all_at (stays listed calls) retained 0 first stay here) (all_at (stays listed calls) retained position rule stay there)
+    (all_at (unbeaten calls first) retained position rule all there) beats

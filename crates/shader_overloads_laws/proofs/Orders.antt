@@ -1,4 +1,4 @@
--- A test of a list of rules, which computes: that the first of those that remain is never beaten.
+-- A decision procedure on lists of rules: the first remaining rule is never beaten.
 use Rattle.std.proofs.Common.{◌≡◌, ◌∙◌, ap, sym, refl, subst, inl, inr, ℕ, zero, suc, Bool, true, false}
 use Rattle.std.proofs.Common.{not, ◌&&◌, ◌||◌, List, [], ◌∷◌, Option, Some, None, slice_get, nat_lt}
 use Rattle.std.specs.List.{filter, list_all, list_any}
@@ -11,7 +11,7 @@ use Rattle.shader_overloads.specs.declared.rule.Rule.{Rule}
 use Rattle.shader_overloads.specs.AcceptanceLaws.{is_named}
 use Rattle.shader_overloads.specs.Rank.{conversion_rank}
 use Rattle.shader_overloads.proofs.AgreementLemmas.{has_all}
-use Rattle.shader_overloads_laws.proofs.Arguments.{inners, is_leaf_named, is_plain_concrete, leaf, made_alike, made_through, same_made}
+use Rattle.shader_overloads_laws.proofs.Arguments.{inners, is_leaf_named, is_plain_concrete, leaf, built_alike, built_through, same_built}
 use Rattle.shader_overloads_laws.proofs.Scalars.{ConvertsLike, source_named}
 
 -- ---- the test
@@ -39,18 +39,18 @@ ordered_if false f g = true
 abbrev pub are_ordered : List TypeInner → List TypeInner → Bool
 are_ordered [] gs = true
 are_ordered (f ∷ fs) [] = true
-are_ordered (f ∷ fs) (g ∷ gs) = ordered_if (same_made f g) f g && are_ordered fs gs
+are_ordered (f ∷ fs) (g ∷ gs) = ordered_if (same_built f g) f g && are_ordered fs gs
 
 abbrev pub covers_if : List Scalar → Bool → TypeInner → TypeInner → TypeInner → Bool
-covers_if among true f g h = same_made f h && is_between among (leaf f) (leaf g) (leaf h)
+covers_if among true f g h = same_built f h && is_between among (leaf f) (leaf g) (leaf h)
 covers_if among false f g h = true
 
--- the third takes at each place what both others take there
+-- the third accepts at each position everything that both others accept there
 abbrev pub cover : List Scalar → List TypeInner → List TypeInner → List TypeInner → Bool
 cover among [] gs hs = true
 cover among (f ∷ fs) [] hs = true
 cover among (f ∷ fs) (g ∷ gs) [] = false
-cover among (f ∷ fs) (g ∷ gs) (h ∷ hs) = covers_if among (same_made f g) f g h && cover among fs gs hs
+cover among (f ∷ fs) (g ∷ gs) (h ∷ hs) = covers_if among (same_built f g) f g h && cover among fs gs hs
 
 abbrev pub are_concrete : List TypeInner → Bool
 are_concrete fs = list_all is_plain_concrete fs
@@ -72,21 +72,21 @@ abbrev pub all_fine : List Scalar → List Rule → List Rule → Bool
 all_fine among before [] = true
 all_fine among before (f ∷ rules) = list_all (is_fine among before f) rules && all_fine among (f ∷ before) rules
 
--- ---- what it says of one argument
+-- ---- consequences for one argument
 
 pub unless : (a b : Bool) → (not a || b) ≡ true → a ≡ true → b ≡ true
 unless true b h p = h
 unless false b h p = cc
 
--- whether an argument takes a value of the type
+-- whether an argument accepts a value of the type
 abbrev pub is_taken : TypeInner → TypeInner → Bool
-is_taken ty f = same_made ty f && scalar_converts (leaf ty) (leaf f)
+is_taken ty f = same_built ty f && scalar_converts (leaf ty) (leaf f)
 
 abbrev pub some_taken : TypeInner → Option TypeInner → Bool
 some_taken ty None = false
 some_taken ty (Some f) = is_taken ty f
 
--- what holds of the sources holds of each scalar that converts as one of them does
+-- a property of the sources holds of each scalar that converts like one of them
 pub between_all : (among : List Scalar) (s f g h : Scalar) → (like : Scalar) × ConvertsLike among s like → is_named f ≡ true →
     is_named g ≡ true → is_named h ≡ true → is_between among f g h ≡ true → scalar_converts s f ≡ true → scalar_converts s g ≡ true →
     scalar_converts s h ≡ true
@@ -114,14 +114,14 @@ ordered_all s f g ordered p q = elim (cases_Bool (is_named s)) [
   | inr odd ↦ smaller_named s f g (conversion_rank s g) refl odd
 ]
 
-ordered_made : (made : Bool) (f g : TypeInner) → ordered_if made f g ≡ true → made ≡ true → is_ordered (leaf f) (leaf g) ≡ true
-ordered_made true f g e h = e
-ordered_made false f g e h = cc
+ordered_built : (built : Bool) (f g : TypeInner) → ordered_if built f g ≡ true → built ≡ true → is_ordered (leaf f) (leaf g) ≡ true
+ordered_built true f g e h = e
+ordered_built false f g e h = cc
 
-covers_made : (among : List Scalar) (made : Bool) (f g h : TypeInner) → covers_if among made f g h ≡ true → made ≡ true →
-    (same_made f h && is_between among (leaf f) (leaf g) (leaf h)) ≡ true
-covers_made among true f g h e d = e
-covers_made among false f g h e d = cc
+covers_built : (among : List Scalar) (built : Bool) (f g h : TypeInner) → covers_if among built f g h ≡ true → built ≡ true →
+    (same_built f h && is_between among (leaf f) (leaf g) (leaf h)) ≡ true
+covers_built among true f g h e d = e
+covers_built among false f g h e d = cc
 
 -- the rank of the type at an argument
 abbrev pub taken_rank : TypeInner → Option TypeInner → Option ℕ
@@ -133,13 +133,13 @@ pub ordered_at : (fs gs : List TypeInner) (i : ℕ) (ty : TypeInner) → are_ord
 ordered_at [] gs i ty o p q = cc
 ordered_at (f ∷ fs) [] i ty o p q = cc
 ordered_at (f ∷ fs) (g ∷ gs) zero ty o p q =
-    let ps = and_parts (same_made ty f) (scalar_converts (leaf ty) (leaf f)) p in
-    let qs = and_parts (same_made ty g) (scalar_converts (leaf ty) (leaf g)) q in
+    let ps = and_parts (same_built ty f) (scalar_converts (leaf ty) (leaf f)) p in
+    let qs = and_parts (same_built ty g) (scalar_converts (leaf ty) (leaf g)) q in
     ordered_all (leaf ty) (leaf f) (leaf g)
-    (ordered_made (same_made f g) f g (and_parts (ordered_if (same_made f g) f g) (are_ordered fs gs) o).0
-    (made_alike ty f g ps.0 qs.0)) ps.1 qs.1
+    (ordered_built (same_built f g) f g (and_parts (ordered_if (same_built f g) f g) (are_ordered fs gs) o).0
+    (built_alike ty f g ps.0 qs.0)) ps.1 qs.1
 ordered_at (f ∷ fs) (g ∷ gs) (suc i) ty o p q = ordered_at fs gs i ty
-    (and_parts (ordered_if (same_made f g) f g) (are_ordered fs gs) o).1 p q
+    (and_parts (ordered_if (same_built f g) f g) (are_ordered fs gs) o).1 p q
 
 pub cover_at : (among : List Scalar) (fs gs hs : List TypeInner) (i : ℕ) (ty : TypeInner) → list_all is_leaf_named fs ≡ true →
     list_all is_leaf_named gs ≡ true → list_all is_leaf_named hs ≡ true
@@ -149,12 +149,12 @@ cover_at among [] gs hs i ty nf ng nh like o p q = cc
 cover_at among (f ∷ fs) [] hs i ty nf ng nh like o p q = cc
 cover_at among (f ∷ fs) (g ∷ gs) [] i ty nf ng nh like o p q = cc
 cover_at among (f ∷ fs) (g ∷ gs) (h ∷ hs) zero ty nf ng nh like o p q =
-    let ps = and_parts (same_made ty f) (scalar_converts (leaf ty) (leaf f)) p in
-    let qs = and_parts (same_made ty g) (scalar_converts (leaf ty) (leaf g)) q in
-    let both = and_parts (same_made f h) (is_between among (leaf f) (leaf g) (leaf h))
-    (covers_made among (same_made f g) f g h (and_parts (covers_if among (same_made f g) f g h) (cover among fs gs hs) o).0
-    (made_alike ty f g ps.0 qs.0)) in
-    and_from _ _ (made_through ty f h ps.0 both.0)
+    let ps = and_parts (same_built ty f) (scalar_converts (leaf ty) (leaf f)) p in
+    let qs = and_parts (same_built ty g) (scalar_converts (leaf ty) (leaf g)) q in
+    let both = and_parts (same_built f h) (is_between among (leaf f) (leaf g) (leaf h))
+    (covers_built among (same_built f g) f g h (and_parts (covers_if among (same_built f g) f g h) (cover among fs gs hs) o).0
+    (built_alike ty f g ps.0 qs.0)) in
+    and_from _ _ (built_through ty f h ps.0 both.0)
     (between_all among (leaf ty) (leaf f) (leaf g) (leaf h) like (and_parts (is_leaf_named f) (list_all is_leaf_named fs) nf).0
     (and_parts (is_leaf_named g) (list_all is_leaf_named gs) ng).0
     (and_parts (is_leaf_named h) (list_all is_leaf_named hs) nh).0 both.1 ps.1 qs.1)
@@ -162,9 +162,9 @@ cover_at among (f ∷ fs) (g ∷ gs) (h ∷ hs) (suc i) ty nf ng nh like o p q =
     cover_at among fs gs hs i ty (and_parts (is_leaf_named f) (list_all is_leaf_named fs) nf).1
     (and_parts (is_leaf_named g) (list_all is_leaf_named gs) ng).1
     (and_parts (is_leaf_named h) (list_all is_leaf_named hs) nh).1 like
-    (and_parts (covers_if among (same_made f g) f g h) (cover among fs gs hs) o).1 p q
+    (and_parts (covers_if among (same_built f g) f g h) (cover among fs gs hs) o).1 p q
 
--- ---- the first that remains of any list, where each pair is fine
+-- ---- the first remaining rule of any list in which each pair is fine
 
 module _ {X : Type 0} (left : X → Bool) (unbeaten : X → X → Bool) (fine : List X → X → X → Bool) (self : (f : X) → unbeaten f f ≡ true)
     (good : (before : List X) (f g : X) → fine before f g ≡ true → left f ≡ true → left g ≡ true → list_any left before ≡ false →

@@ -1,4 +1,4 @@
--- Scalars, and those that stand for all of them in tests.
+-- Scalars, and the representatives that stand for all of them in tests.
 use Rattle.std.proofs.Common.{◌≡◌, ◌==◌, ◌∙◌, ap, sym, refl, inl, inr, ℕ, Bool, true, false}
 use Rattle.std.proofs.Common.{not, ◌&&◌, ◌||◌, List, [], ◌∷◌, map, Option, Some, None}
 use Rattle.std.specs.Prelude.{IsSome}
@@ -11,11 +11,11 @@ use Rattle.shader_ir.specs.declared.scalar.ScalarKind.TheVariants as kinds
 use Rattle.shader_ir.specs.Conversion.{kind_converts, scalar_converts}
 use Rattle.shader_ir.specs.Scalars.{conversions, is_convertible, named_scalars, same_scalar, scalar}
 use Rattle.shader_overloads.specs.AcceptanceLaws.{is_named}
-use Rattle.shader_overloads.specs.Rank.{RankRow, conversion_rank, conversion_ranks, rank_among}
+use Rattle.shader_overloads.specs.Rank.{RankEntry, conversion_rank, conversion_ranks, rank_among}
 use Rattle.shader_overloads_laws.specs.Optimality.{ConversionsHaveRanks}
-use Rattle.shader_overloads.proofs.AgreementLemmas.{has_all, same_scalar_told}
+use Rattle.shader_overloads.proofs.AgreementLemmas.{has_all, same_scalar_reported}
 
--- ---- scalars with names, and three without
+-- ---- named scalars, and three without names
 
 abbrev pub odd_int : Scalar
 odd_int = scalar kinds.AbstractInt 4
@@ -26,27 +26,27 @@ odd_float = scalar kinds.AbstractFloat 4
 abbrev pub odd_bool : Scalar
 odd_bool = scalar kinds.Bool 4
 
--- each scalar converts to scalars with names as one of these does
+-- each scalar converts to named scalars as one of these does
 abbrev pub sources : List Scalar
 sources = odd_int ∷ odd_float ∷ odd_bool ∷ named_scalars
 
--- those that stand for the scalars that a set of the kind knows: a regular set knows the scalars with names alone
+-- the representatives of the scalars that a set of the kind knows: a regular set knows only named scalars
 abbrev pub sources_of : Bool → List Scalar
 sources_of true = sources
 sources_of false = named_scalars
 
--- the second scalar is one of these, and converts as the first does to all scalars with names
+-- the second scalar is one of these, and converts as the first does to all named scalars
 pub record ConvertsLike (among : List Scalar) (s like : Scalar) : Type 0 where
   pub converts : (t : Scalar) → is_named t ≡ true → scalar_converts s t ≡ scalar_converts like t
   pub listed : list_any (same_scalar like) among ≡ true
 
 unnamed_apart : (s t : Scalar) → is_named s ≡ false → is_named t ≡ true → same_scalar s t ≡ false
 unnamed_apart s t odd named = elim (cases_Bool (same_scalar s t)) [
-  | inl same ↦ absurd (both_ways (is_named t) (sym (ap is_named (same_scalar_told s t same)) ∙ odd) named)
+  | inl same ↦ absurd (both_ways (is_named t) (sym (ap is_named (same_scalar_reported s t same)) ∙ odd) named)
   | inr other ↦ other
 ]
 
--- a scalar without a name converts by its kind alone
+-- the conversions of a scalar without a name depend only on its kind
 by_kind : (s t : Scalar) → is_named s ≡ false → is_named t ≡ true → scalar_converts s t ≡ kind_converts s.kind t.kind
 by_kind s t odd named = ap (λ v. v || kind_converts s.kind t.kind) (unnamed_apart s t odd named)
 
@@ -89,21 +89,21 @@ like_itself s named = (s, record { converts = λ t n. refl; listed = named })
 
 -- ---- ranks
 
-abbrev pub is_source : Scalar → List RankRow → Bool
+abbrev pub is_source : Scalar → List RankEntry → Bool
 is_source s rows = list_any (same_scalar s) (map (λ row. row.0) rows)
 
--- a scalar that a table of ranks converts is the first of a row
-ranked_source : (rows : List RankRow) (from to : Scalar) (rank : ℕ) → rank_among rows from to ≡ Some rank → is_source from rows ≡ true
+-- a scalar that a table of ranks converts is the source of an entry
+ranked_source : (rows : List RankEntry) (from to : Scalar) (rank : ℕ) → rank_among rows from to ≡ Some rank → is_source from rows ≡ true
 ranked_source [] from to rank e = cc
 ranked_source (row ∷ rows) from to rank e = elim (cases_Bool (same_scalar from row.0 && same_scalar to row.1)) [
   | inl here ↦ or_left (same_scalar from row.0) (is_source from rows) (and_parts (same_scalar from row.0) (same_scalar to row.1) here).0
   | inr later ↦ or_right (same_scalar from row.0) (is_source from rows) (ranked_source rows from to rank (rw later at e))
 ]
 
-abbrev pub is_target : Scalar → List RankRow → Bool
+abbrev pub is_target : Scalar → List RankEntry → Bool
 is_target s rows = list_any (same_scalar s) (map (λ row. row.1) rows)
 
-ranked_target : (rows : List RankRow) (from to : Scalar) (rank : ℕ) → rank_among rows from to ≡ Some rank → is_target to rows ≡ true
+ranked_target : (rows : List RankEntry) (from to : Scalar) (rank : ℕ) → rank_among rows from to ≡ Some rank → is_target to rows ≡ true
 ranked_target [] from to rank e = cc
 ranked_target (row ∷ rows) from to rank e = elim (cases_Bool (same_scalar from row.0 && same_scalar to row.1)) [
   | inl here ↦ or_left (same_scalar to row.1) (is_target to rows) (and_parts (same_scalar from row.0) (same_scalar to row.1) here).1
@@ -126,7 +126,7 @@ pub target_named : (from to : Scalar) (rank : ℕ) → conversion_rank from to �
 target_named from to rank e = has_all is_named to (map (λ row. row.1) conversion_ranks)
     (ranked_target conversion_ranks from to rank e) targets_named
 
--- ---- what converts has a rank
+-- ---- automatic conversions have ranks
 
 pair_source : (pairs : List (Scalar × Scalar)) (from to : Scalar) →
     list_any (λ pair. same_scalar from pair.0 && same_scalar to pair.1) pairs ≡ true →
@@ -158,7 +158,7 @@ pairs_to_named : list_all is_named (map (λ pair. pair.1) conversions) ≡ true
 unfolding named_scalars
 pairs_to_named = refl
 
--- a scalar that converts in a regular set has a name
+-- a scalar that converts in a regular set is a named one
 pub convertible_named : (from to : Scalar) → is_convertible from to ≡ true → is_named from ≡ true
 convertible_named from to e = has_all is_named from (map (λ pair. pair.0) conversions) (pair_source conversions from to e) pairs_from_named
 
@@ -169,11 +169,11 @@ abbrev pub same_bool : Bool → Bool → Bool
 same_bool true b = b
 same_bool false b = not b
 
-same_bool_told : (a b : Bool) → same_bool a b ≡ true → a ≡ b
-same_bool_told true true e = refl
-same_bool_told true false e = cc
-same_bool_told false true e = cc
-same_bool_told false false e = refl
+same_bool_reported : (a b : Bool) → same_bool a b ≡ true → a ≡ b
+same_bool_reported true true e = refl
+same_bool_reported true false e = cc
+same_bool_reported false true e = cc
+same_bool_reported false false e = refl
 
 named_have_ranks : list_all (λ from. list_all (λ to. same_bool (is_convertible from to) (is_some (conversion_rank from to))) named_scalars)
     named_scalars ≡ true
@@ -185,9 +185,9 @@ pub ranked_where_convertible : (from to : Scalar) → is_named from ≡ true →
 ranked_where_convertible from to m n =
     let row = has_all (λ f. list_all (λ t. same_bool (is_convertible f t) (is_some (conversion_rank f t))) named_scalars) from named_scalars
     m named_have_ranks in
-    same_bool_told _ _ (has_all (λ t. same_bool (is_convertible from t) (is_some (conversion_rank from t))) to named_scalars n row)
+    same_bool_reported _ _ (has_all (λ t. same_bool (is_convertible from t) (is_some (conversion_rank from t))) to named_scalars n row)
 
--- ---- ranks tell targets apart
+-- ---- ranks determine the targets
 
 abbrev pub is_same_rank : Option ℕ → Option ℕ → Bool
 is_same_rank (Some m) (Some n) = m == n
@@ -203,10 +203,10 @@ unfolding named_scalars
 ranks_differ = refl
 
 unless_apart : (same : Bool) (f g : Scalar) → same_unless_apart same f g ≡ true → same ≡ true → f ≡ g
-unless_apart true f g e h = same_scalar_told f g e
+unless_apart true f g e h = same_scalar_reported f g e
 unless_apart false f g e h = cc
 
--- two scalars to which one converts at one rank are the same
+-- two scalars to which one converts at the same rank are equal
 pub one_rank_one_target : (s f g : Scalar) (rank : ℕ) → conversion_rank s f ≡ Some rank → conversion_rank s g ≡ Some rank → f ≡ g
 one_rank_one_target s f g rank at_f at_g =
     let from = has_all (λ a. list_all (λ b. list_all (λ c. same_unless_apart (is_same_rank (conversion_rank a b) (conversion_rank a c)) b c)

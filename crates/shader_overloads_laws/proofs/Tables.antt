@@ -1,4 +1,4 @@
--- What the written rules of all builtins pass, by computing.
+-- Checks of the rules of all built-in functions, by computation.
 use Rattle.std.proofs.Common.{◌≡◌, ◌∙◌, ◌==◌, ap, refl, Bool, true, false, ◌&&◌, List, [], ◌∷◌, length, Option, Some, None}
 use Rattle.std.specs.List.{list_all}
 use Rattle.std.proofs.lemmas.Bool.{and_from, and_parts}
@@ -18,11 +18,11 @@ use Rattle.shader_overloads.specs.Builtins.{extract_bits_rules, insert_bits_rule
 use Rattle.shader_overloads.specs.Builtins.{outer_rules, refract_rules, rules_of, transpose_rules}
 use Rattle.shader_overloads.specs.BuiltinGroups.{is_listed}
 use Rattle.shader_overloads.specs.Rules.{regular_rules}
-use Rattle.shader_overloads.proofs.AgreementLemmas.{same_scalar_told}
+use Rattle.shader_overloads.proofs.AgreementLemmas.{same_scalar_reported}
 use Rattle.shader_overloads.proofs.BuiltinLemmas.{is_named_inner}
 use Rattle.shader_overloads.proofs.SetLemmas.{same_scalar_self, same_size_self}
-use Rattle.shader_overloads_laws.proofs.Arguments.{constructor_of, found_first, inners, leaf, same_made}
-use Rattle.shader_overloads_laws.proofs.Arguments.{same_made_told, same_parts, same_size_told}
+use Rattle.shader_overloads_laws.proofs.Arguments.{constructor_of, found_first, inners, leaf, same_built}
+use Rattle.shader_overloads_laws.proofs.Arguments.{same_built_reported, same_parts, same_size_reported}
 use Rattle.shader_overloads_laws.proofs.Orders.{all_fine}
 use Rattle.shader_overloads_laws.proofs.Scalars.{sources_of}
 
@@ -36,7 +36,7 @@ rules_fine _ = refl
 -- ---- equal arguments, equal conclusions
 
 abbrev pub same_inner : TypeInner → TypeInner → Bool
-same_inner a b = same_made a b && same_scalar (leaf a) (leaf b)
+same_inner a b = same_built a b && same_scalar (leaf a) (leaf b)
 
 abbrev pub same_inners : List TypeInner → List TypeInner → Bool
 same_inners [] [] = true
@@ -62,7 +62,7 @@ abbrev pub concludes_if : Bool → Rule → Rule → Bool
 concludes_if true rule other = same_conclusion rule.conclusion other.conclusion
 concludes_if false rule other = true
 
--- the rules have equally many arguments, and equal conclusions where the arguments are equal
+-- the rules have equally many arguments, and equal conclusions if the arguments are equal
 abbrev pub agree : Rule → Rule → Bool
 agree rule other = (length rule.arguments == length other.arguments) && concludes_if (same_inners (inners rule) (inners other)) rule other
 
@@ -71,32 +71,32 @@ unfolding regular_rules named_scalars ldexp_rules outer_rules refract_rules tran
 rules_agree f.Ldexp = refl
 rules_agree _ = refl
 
-same_option_told : (m n : Option VectorSize) → same_option m n ≡ true → m ≡ n
-same_option_told None None e = refl
-same_option_told (Some m) (Some n) e = ap Some (same_size_told m n e)
-same_option_told None (Some n) e = cc
-same_option_told (Some m) None e = cc
+same_option_reported : (m n : Option VectorSize) → same_option m n ≡ true → m ≡ n
+same_option_reported None None e = refl
+same_option_reported (Some m) (Some n) e = ap Some (same_size_reported m n e)
+same_option_reported None (Some n) e = cc
+same_option_reported (Some m) None e = cc
 
-same_result_told : (a b : PredeclaredType) → same_result a b ≡ true → a ≡ b
-same_result_told (FrexpResult m a) (FrexpResult n b) e =
+same_result_reported : (a b : PredeclaredType) → same_result a b ≡ true → a ≡ b
+same_result_reported (FrexpResult m a) (FrexpResult n b) e =
     let parts = and_parts (same_option m n) (same_scalar a b) e in
-    ap (λ x. FrexpResult x a) (same_option_told m n parts.0) ∙ ap (FrexpResult n) (same_scalar_told a b parts.1)
-same_result_told (ModfResult m a) (ModfResult n b) e =
+    ap (λ x. FrexpResult x a) (same_option_reported m n parts.0) ∙ ap (FrexpResult n) (same_scalar_reported a b parts.1)
+same_result_reported (ModfResult m a) (ModfResult n b) e =
     let parts = and_parts (same_option m n) (same_scalar a b) e in
-    ap (λ x. ModfResult x a) (same_option_told m n parts.0) ∙ ap (ModfResult n) (same_scalar_told a b parts.1)
-same_result_told _ _ e = cc
+    ap (λ x. ModfResult x a) (same_option_reported m n parts.0) ∙ ap (ModfResult n) (same_scalar_reported a b parts.1)
+same_result_reported _ _ e = cc
 
-same_inner_told : (a b : TypeInner) → same_inner a b ≡ true → a ≡ b
-same_inner_told a b e =
-    let parts = and_parts (same_made a b) (same_scalar (leaf a) (leaf b)) e in
-    same_parts a b (found_first (constructor_of a) (constructor_of b) parts.0) (same_made_told a b parts.0)
-    (same_scalar_told (leaf a) (leaf b) parts.1)
+same_inner_reported : (a b : TypeInner) → same_inner a b ≡ true → a ≡ b
+same_inner_reported a b e =
+    let parts = and_parts (same_built a b) (same_scalar (leaf a) (leaf b)) e in
+    same_parts a b (found_first (constructor_of a) (constructor_of b) parts.0) (same_built_reported a b parts.0)
+    (same_scalar_reported (leaf a) (leaf b) parts.1)
 
-pub same_conclusion_told : (a b : Conclusion) → same_conclusion a b ≡ true → a ≡ b
-same_conclusion_told (Value a) (Value b) e = ap Value (same_inner_told a b e)
-same_conclusion_told (Predeclared a) (Predeclared b) e = ap Predeclared (same_result_told a b e)
-same_conclusion_told (Value a) (Predeclared b) e = cc
-same_conclusion_told (Predeclared a) (Value b) e = cc
+pub same_conclusion_reported : (a b : Conclusion) → same_conclusion a b ≡ true → a ≡ b
+same_conclusion_reported (Value a) (Value b) e = ap Value (same_inner_reported a b e)
+same_conclusion_reported (Predeclared a) (Predeclared b) e = ap Predeclared (same_result_reported a b e)
+same_conclusion_reported (Value a) (Predeclared b) e = cc
+same_conclusion_reported (Predeclared a) (Value b) e = cc
 
 same_inner_self : (a : TypeInner) → is_named_inner a ≡ true → same_inner a a ≡ true
 same_inner_self (Scalar s) named = same_scalar_self s
@@ -112,5 +112,5 @@ same_inners_self (a ∷ all) named =
 
 pub concludes_so : (same : Bool) (rule other : Rule) → concludes_if same rule other ≡ true → same ≡ true →
     rule.conclusion ≡ other.conclusion
-concludes_so true rule other e h = same_conclusion_told rule.conclusion other.conclusion e
+concludes_so true rule other e h = same_conclusion_reported rule.conclusion other.conclusion e
 concludes_so false rule other e h = cc

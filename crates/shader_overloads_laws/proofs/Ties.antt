@@ -1,4 +1,4 @@
--- Rules of equal ranks are equal, once all arguments are supplied.
+-- Rules of equal ranks are equal once all arguments are supplied.
 use Rattle.std.proofs.Common.{◌≡◌, ◌∙◌, ◌<◌, ◌==◌, ap, sym, refl, ℕ, zero, suc, Bool, true}
 use Rattle.std.proofs.Common.{List, [], ◌∷◌, length, map, Option, Some, slice_get, arith}
 use Rattle.std.specs.List.{filter, list_all}
@@ -17,8 +17,8 @@ use Rattle.shader_overloads.proofs.AgreementLemmas.{all_at}
 use Rattle.shader_overloads.proofs.BuiltinLemmas.{is_named_rule, rules_named}
 use Rattle.shader_overloads_laws.specs.Optimality.{EquallyRankedRulesAreEqual}
 use Rattle.shader_overloads_laws.proofs.Accepted.{rank_is, remaining_is, stays}
-use Rattle.shader_overloads_laws.proofs.Arguments.{inners, inners_named, leaf, made_same, plain, same_made, values_of}
-use Rattle.shader_overloads_laws.proofs.Optimal.{filter_keeps, filter_passes, taken_at}
+use Rattle.shader_overloads_laws.proofs.Arguments.{inners, inners_named, leaf, built_same, plain, same_built, values_of}
+use Rattle.shader_overloads_laws.proofs.Optimal.{filter_preserves, filter_passes, taken_at}
 use Rattle.shader_overloads_laws.proofs.Orders.{some_taken, taken_rank}
 use Rattle.shader_overloads_laws.proofs.Scalars.{one_rank_one_target}
 use Rattle.shader_overloads_laws.proofs.Tables.{agree, concludes_so, rules_agree, same_inners, same_inners_self}
@@ -40,12 +40,12 @@ found_within (y ∷ xs) (suc i) x e = let later = found_within xs i x e in omega
 
 -- ---- one argument
 
--- two arguments that take a type at one rank are the same
+-- two arguments that accept a type at the same rank are equal
 same_taken : (ty a b : TypeInner) (rank : ℕ) → some_taken ty (Some a) ≡ true → some_taken ty (Some b) ≡ true →
     taken_rank ty (Some a) ≡ Some rank → taken_rank ty (Some b) ≡ Some rank → a ≡ b
 same_taken ty a b rank p q at_a at_b =
-    made_same ty a b (and_parts (same_made ty a) (scalar_converts (leaf ty) (leaf a)) p).0
-    (and_parts (same_made ty b) (scalar_converts (leaf ty) (leaf b)) q).0
+    built_same ty a b (and_parts (same_built ty a) (scalar_converts (leaf ty) (leaf a)) p).0
+    (and_parts (same_built ty b) (scalar_converts (leaf ty) (leaf b)) q).0
     (one_rank_one_target (leaf ty) (leaf a) (leaf b) rank at_a at_b)
 
 same_found_taken : (ty : TypeInner) (found other : Option TypeInner) (a b : TypeInner) (rank : ℕ) → found ≡ Some a → other ≡ Some b →
@@ -54,7 +54,7 @@ same_found_taken ty found other a b rank is_a is_b p q at_a at_b =
     same_taken ty a b rank (sym (ap (some_taken ty) is_a) ∙ p) (sym (ap (some_taken ty) is_b) ∙ q) (sym (ap (taken_rank ty) is_a)
     ∙ at_a) (sym (ap (taken_rank ty) is_b) ∙ at_b)
 
--- ---- two rules that remain
+-- ---- two remaining rules
 
 module _ (types : List «Type») (listed : Bool) (calls : List SetCall) (first rule : Rule) (nf : is_named_rule first ≡ true)
     (nr : is_named_rule rule ≡ true)
@@ -78,23 +78,23 @@ module _ (types : List «Type») (listed : Bool) (calls : List SetCall) (first r
       let long : length (inners rule) ≡ length (inners first) =
       length-map rule.arguments plain ∙ count ∙ sym (length-map first.arguments plain) in
       let same : inners rule ≡ inners first = lists_same (inners rule) (inners first) long same_at in
-      let told : same_inners (inners rule) (inners first) ≡ true =
+      let reported : same_inners (inners rule) (inners first) ≡ true =
       sym (ap (same_inners (inners rule)) same) ∙ same_inners_self (inners rule) (inners_named rule.arguments nr) in
-      (values_of rule.arguments nr ∙ ap (map Value) same ∙ sym (values_of first.arguments nf), concludes_so _ rule first parts.1 told)
+      (values_of rule.arguments nr ∙ ap (map Value) same ∙ sym (values_of first.arguments nf), concludes_so _ rule first parts.1 reported)
 
 pub equally_ranked_rules_are_equal : EquallyRankedRulesAreEqual
-equally_ranked_rules_are_equal function types calls first rule place at_first at_rule supplied ranks =
+equally_ranked_rules_are_equal function types calls first rule position at_first at_rule supplied ranks =
     let listed = is_listed function in
-    let kept : List Rule = filter (stays listed calls) (rules_of function) in
+    let retained : List Rule = filter (stays listed calls) (rules_of function) in
     let is = remaining_is function types calls in
-    let here : slice_get kept 0 ≡ Some first = sym (ap (λ (rules : List Rule). slice_get rules 0) is) ∙ at_first in
-    let there : slice_get kept place ≡ Some rule = sym (ap (λ (rules : List Rule). slice_get rules place) is) ∙ at_rule in
+    let here : slice_get retained 0 ≡ Some first = sym (ap (λ (rules : List Rule). slice_get rules 0) is) ∙ at_first in
+    let there : slice_get retained position ≡ Some rule = sym (ap (λ (rules : List Rule). slice_get rules position) is) ∙ at_rule in
     let stay = filter_passes (stays listed calls) (rules_of function) in
-    let named = filter_keeps (stays listed calls) is_named_rule (rules_of function) (rules_named function) in
-    let agreeing = all_at (λ f. list_all (agree f) (rules_of function)) kept place rule
-    (filter_keeps (stays listed calls) (λ f. list_all (agree f) (rules_of function)) (rules_of function)
+    let named = filter_preserves (stays listed calls) is_named_rule (rules_of function) (rules_named function) in
+    let agreeing = all_at (λ f. list_all (agree f) (rules_of function)) retained position rule
+    (filter_preserves (stays listed calls) (λ f. list_all (agree f) (rules_of function)) (rules_of function)
     (rules_agree function)) there in
-    same_rule types listed calls first rule (all_at is_named_rule kept 0 first named here)
-    (all_at is_named_rule kept place rule named there)
-    (all_at (stays listed calls) kept 0 first stay here) (all_at (stays listed calls) kept place rule stay there) supplied ranks
-    (all_at (agree rule) kept 0 first (filter_keeps (stays listed calls) (agree rule) (rules_of function) agreeing) here)
+    same_rule types listed calls first rule (all_at is_named_rule retained 0 first named here)
+    (all_at is_named_rule retained position rule named there)
+    (all_at (stays listed calls) retained 0 first stay here) (all_at (stays listed calls) retained position rule stay there) supplied ranks
+    (all_at (agree rule) retained 0 first (filter_preserves (stays listed calls) (agree rule) (rules_of function) agreeing) here)

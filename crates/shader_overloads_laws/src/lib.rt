@@ -1,5 +1,5 @@
-//! Laws of preference among the overloads of built-in functions, each the contract of a function that does nothing, and the
-//! conversion ranks that they speak of.
+//! Laws of preference among the overloads of built-in functions, and the conversion ranks that they refer to. Each law is the contract of a
+//! function that does nothing.
 #![tactic(auto)]
 
 mod ranks;
@@ -11,20 +11,22 @@ ghost use Rattle.shader_overloads_laws.specs.Optimality.{ConversionsHaveRanks, E
 
 pub use ranks::conversion_rank;
 
-/// Whatever calls narrow the rules of a built-in function, no rule that remains beats the first one.
+/// States that the preferred rule is optimal: whatever calls narrow the rules of a built-in function, no remaining rule beats the first
+/// one.
 ///
-/// `narrow` leaves these rules and `most_preferred` gives the first of them, so a call of a built-in function has the overload
-/// that WGSL prefers (section "Overload resolution").
+/// `narrow` returns these rules and `most_preferred` the first of them, so a call of a built-in function has the overload that WGSL prefers
+/// (section "Overload resolution").
 pub fn preferred_is_unbeaten()
     ensures { PreferredIsUnbeaten }
 {}
 
-/// Once all arguments are supplied, a rule that remains and has the first one's rank at each has its arguments and its conclusion.
+/// States that ties are harmless: once all arguments are supplied, a remaining rule with the same rank as the first one at each argument
+/// has the same arguments and the same conclusion.
 pub fn equally_ranked_rules_are_equal()
     ensures { EquallyRankedRulesAreEqual }
 {}
 
-/// The conversions that have a rank are those that are automatic, and the ranks are these, in the order of the named scalars.
+/// States that exactly the automatic conversions have a rank, and that the ranks are these, in the order of the named scalars.
 #[tactic(auto, unfolding(shader_ir::specs::Scalars::named_scalars))]
 pub fn ranks_are_of_conversions()
     ensures conversions { ConversionsHaveRanks }

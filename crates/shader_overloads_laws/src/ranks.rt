@@ -6,11 +6,11 @@ ghost use Rattle.shader_overloads.specs.Rank.{conversion_rank, rank_among};
 
 use shader_ir::Scalar;
 
-/// A scalar, one that it converts to by itself, and the rank of that conversion.
-type RankRow = (Scalar, Scalar, u32);
+/// A scalar, a scalar to which it converts automatically, and the rank of that conversion.
+type RankEntry = (Scalar, Scalar, u32);
 
-/// The conversions that are automatic.
-const RANKS: [RankRow; 25] = [
+/// All automatic conversions with their ranks.
+const RANKS: [RankEntry; 25] = [
     (Scalar::ABSTRACT_INT, Scalar::ABSTRACT_INT, 0),
     (Scalar::ABSTRACT_FLOAT, Scalar::ABSTRACT_FLOAT, 0),
     (Scalar::I32, Scalar::I32, 0),
@@ -38,15 +38,15 @@ const RANKS: [RankRow; 25] = [
     (Scalar::ABSTRACT_INT, Scalar::F64, 13),
 ];
 
-/// Whether the row is that of the conversion.
-fn is_of(row: &RankRow, from: Scalar, to: Scalar) -> bool
+/// Returns whether the entry is that of the conversion.
+fn is_of(row: &RankEntry, from: Scalar, to: Scalar) -> bool
     ensures { result ≡ (same_scalar from row.now.0 && same_scalar to row.now.1) }
 {
     from == row.0 && to == row.1
 }
 
-/// The rank of the first row from the one scalar to the other.
-fn rank_in(rows: &[RankRow], from: Scalar, to: Scalar) -> Option<u32>
+/// Returns the rank of the first entry from the one scalar to the other.
+fn rank_in(rows: &[RankEntry], from: Scalar, to: Scalar) -> Option<u32>
     ensures { result ≡ rank_among rows.now from to }
 {
     for row in rows {
@@ -57,8 +57,8 @@ fn rank_in(rows: &[RankRow], from: Scalar, to: Scalar) -> Option<u32>
     None
 }
 
-/// How far the automatic conversion goes, where less is better and 0 is none at all. `None` where the first scalar doesn't
-/// convert to the second by itself, or isn't one of the twelve that have a name.
+/// Returns the rank of an automatic conversion: smaller is better, and 0 stands for no conversion at all. `None` if the first scalar
+/// doesn't convert automatically to the second, or isn't a named one.
 #[tactic(auto, unfolding(shader_ir::specs::Scalars::named_scalars))]
 pub fn conversion_rank(from: Scalar, to: Scalar) -> Option<u32>
     ensures { result ≡ conversion_rank from to }

@@ -1,7 +1,8 @@
-//! Tests of `shader_overloads` by its public items alone: clauses by values from outside, refused memory, and what no clause says.
+//! Tests of `shader_overloads` through its public items alone: clauses with concrete values, allocation failures, and behaviour that no
+//! clause covers.
 #![tactic(auto)]
 
 #[cfg(test)]
-mod made;
+mod builders;
 #[cfg(test)]
 mod tests;

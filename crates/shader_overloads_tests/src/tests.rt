@@ -1,11 +1,12 @@
-//! A file for each kind of test, and what they share. How sets narrow is asked line by line (tests/samples/call.in, narrow.in and rules.in).
+//! One module for each kind of test, and their helpers. The narrowing of sets is tested line by line (tests/samples/call.in, narrow.in and
+//! rules.in).
 mod conclusions;
 mod lists;
 mod refusals;
 mod regular;
 mod sets;
 
-pub use crate::made::{Made, inner};
+pub use crate::builders::{Built, inner};
 use shader_arena::{Arena, UniqueArena};
 use shader_ir::{
     Constant, Expression, GlobalCtx, Override, Scalar, Type, TypeResolution, VectorSize, mark,
@@ -14,8 +15,8 @@ use shader_overloads::{Conclusion, ConstructorSize, OverloadSet, Rule};
 use std::alloc::{AllocError, Global};
 use std::process::Abort;
 
-/// What a test says that fails for want of memory alone.
-pub const WANT: &str = "want of memory";
+/// The message of a test that fails only when out of memory.
+pub const OUT_OF_MEMORY: &str = "want of memory";
 
 pub const SCALAR: ConstructorSize = ConstructorSize::Scalar;
 
@@ -33,15 +34,15 @@ pub const MAT4X4: ConstructorSize = ConstructorSize::Matrix {
     rows: VectorSize::Quad,
 };
 
-pub fn is_type(resolution: &TypeResolution, wanted: Made) -> bool {
+pub fn is_type(resolution: &TypeResolution, wanted: Built) -> bool {
     match resolution {
         TypeResolution::Handle(_) => false,
         TypeResolution::Value(found) => *found == inner(wanted),
     }
 }
 
-/// Whether the rule takes arguments of these types and gives the type.
-pub fn is_rule(rule: &Rule, arguments: &[Made], gives: Made) -> bool {
+/// Returns whether the rule takes arguments of these types and has this result type.
+pub fn is_rule(rule: &Rule, arguments: &[Built], gives: Built) -> bool {
     let is_each = rule
         .arguments
         .iter()
@@ -84,10 +85,10 @@ impl Arenas {
     }
 }
 
-// The tests hold little: where a branch leaves a function, all that it holds has to be proved let go. So what is asked of a set has
-// helpers, and want of memory ends a test at once.
+// The tests own few values: where a branch leaves a function, the drop of every value that it owns has to be proved. Hence the queries of a
+// set are in helpers, and out of memory ends a test at once.
 
-/// The rules of a set, in a module without types.
+/// Returns the rules of a set, in a module without types.
 pub fn list_rules<S: OverloadSet>(alloc: Global, set: &S) -> Result<Vec<Rule>, AllocError> {
     let arenas = Arenas::new(alloc);
     let rules = set.overload_list(alloc, arenas.ctx());
@@ -95,37 +96,37 @@ pub fn list_rules<S: OverloadSet>(alloc: Global, set: &S) -> Result<Vec<Rule>, A
     rules
 }
 
-/// The types that a set allows as the argument of a place, in a module without types.
+/// Returns the types that a set allows for the argument at a position, in a module without types.
 pub fn list_allowed<S: OverloadSet>(
     alloc: Global,
     set: &S,
-    place: usize,
+    position: usize,
 ) -> Result<Vec<TypeResolution>, AllocError> {
     let arenas = Arenas::new(alloc);
-    let types = set.allowed_args(alloc, place, arenas.ctx());
+    let types = set.allowed_args(alloc, position, arenas.ctx());
     drop(arenas);
     types
 }
 
-/// How many items there are, which are let go.
+/// Returns the number of items, which are dropped.
 pub fn counted<T: Drop>(items: Vec<T>) -> usize {
     let count = items.len();
     drop(items);
     count
 }
 
-/// Whether a rule is left, of which the preferred one takes arguments of these types and gives the type.
+/// Returns whether a rule remains, and the preferred one takes arguments of these types and has this result type.
 pub fn prefers<S: OverloadSet>(
     rt: &impl Abort,
     alloc: Global,
     set: &S,
-    arguments: &[Made],
-    gives: Made,
+    arguments: &[Built],
+    gives: Built,
 ) -> bool {
     if set.is_empty() {
         return false;
     }
-    let rule = set.most_preferred(alloc).expect(rt, WANT);
+    let rule = set.most_preferred(alloc).expect(rt, OUT_OF_MEMORY);
     let is_wanted = is_rule(&rule, arguments, gives);
     drop(rule);
     is_wanted

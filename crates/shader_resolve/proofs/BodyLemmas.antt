@@ -1,4 +1,4 @@
--- The first fault of a body is that of the list of its statements.
+-- The first violation of a body is that of the list of its statements.
 use Rattle.std.proofs.Common.{◌≡◌, ◌∙◌, refl, sym, ap, List, [], ◌∷◌, ◌++◌, Ok, Err}
 use Rattle.shader_ir.specs.Body.{Body, End, Then, Step, Leaf, Nested, If, Switch, Loop, Cases, NoCase, Case}
 use Rattle.shader_ir.specs.Occurs.{statements, statements_within, case_statements}

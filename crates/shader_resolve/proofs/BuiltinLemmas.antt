@@ -1,4 +1,4 @@
--- Which rules of a builtin remain, what they read of types, and what they conclude.
+-- The remaining rules of a built-in function, what they read of types, and their conclusions.
 use Rattle.std.proofs.Common.{◌≡◌, ◌∙◌, ap, sym, refl, ℕ, ◌<◌, Bool, true, false, ◌&&◌, List}
 use Rattle.std.proofs.Common.{[], ◌∷◌, map, Option, Some, None, IfSome, All, length}
 use Rattle.std.specs.List.{filter, flat_map, list_all}
@@ -33,7 +33,7 @@ use Rattle.shader_overloads.proofs.NarrowLemmas.{filter-filter}
 use Rattle.shader_resolve.specs.Builtins.{concluded, first_conclusion, rules_after_one, rules_after_two}
 use Rattle.shader_resolve.specs.Outcome.{Outcome, Given, Refused}
 
--- ---- the rules that remain
+-- ---- remaining rules
 
 and-true : (b : Bool) → b ≡ (b && true)
 and-true true = refl
@@ -55,7 +55,7 @@ module _ (accepting : List «Type» → ℕ → TypeInner → Rule → Bool) (ty
 
 -- ---- canonical forms
 
--- a type and its canonical form are accepted by the same rules of a builtin
+-- a type and its canonical form are accepted by the same rules of a built-in function
 acceptance-canonical : (fun : MathFunction) (types : List «Type») (i : ℕ) (ty : TypeInner) (rule : Rule) →
     acceptance_of fun types i (canonical types ty) rule ≡ acceptance_of fun types i ty rule
 acceptance-canonical f.Ldexp types i ty rule = list_accepts-canonical types i ty rule
@@ -174,7 +174,7 @@ module _ (types : List «Type») where
   plain-fits (type.Matrix columns rows scalar) e = (All-nil (λ handle. handle < length types), tt)
   plain-fits inner e = absurd (cc)
 
-  module _ (special : SpecialTypes) (held : All (λ (entry : PredeclaredType × ℕ). entry.1 < length types) special.predeclared_types) where
+  module _ (special : SpecialTypes) (stored : All (λ (entry : PredeclaredType × ℕ). entry.1 < length types) special.predeclared_types) where
     registered-fits : (predeclared : PredeclaredType) (found : Option ℕ) → IfSome found (λ ty. ty < length types) →
         registered special predeclared ≡ found → AnswerFits (concluded (resolution_of special (Predeclared predeclared)))
     registered-fits predeclared (Some handle) lt e = rw e lt
@@ -184,9 +184,9 @@ module _ (types : List «Type») where
     concluded-fits (Value inner) e = plain-fits inner e
     concluded-fits (Predeclared predeclared) e =
         registered-fits predeclared (registered special predeclared)
-        (All-lookup (λ ty. ty < length types) (same_predeclared predeclared) special.predeclared_types held) refl
+        (All-lookup (λ ty. ty < length types) (same_predeclared predeclared) special.predeclared_types stored) refl
 
-    -- the first of such rules concludes what is in the arena
+    -- the first of such rules concludes a type in the arena
     pub first-fits : (p : Rule → Bool) (fun : MathFunction) → AnswerFits (first_conclusion special (filter p (rules_of fun)))
     first-fits p fun = at_first (filter p (rules_of fun)) (All-filter p (λ rule. concludes_plainly rule ≡ true) (rules_of fun)
         (rules-plain fun))

@@ -1,4 +1,4 @@
--- What each row of the table answers is in the arena.
+-- The outcome of each typing rule is in the arena.
 use Rattle.std.proofs.Common.{◌≡◌, sym, refl, subst, ℕ, ◌<◌, Bool, true, false, List, [], ◌∷◌, Option, Some, None}
 use Rattle.std.proofs.Common.{Result, Ok, Err, IfOk, IfSome, All, length, slice_get, is_some, nat_lt, if◌then◌else◌}
 use Rattle.std.proofs.lemmas.List.Elements.{All-nil, All-cons, All-head}
@@ -41,35 +41,35 @@ use Rattle.shader_ir.specs.Alignments.{vector_count}
 use Rattle.shader_ir.specs.Key.{found_inner, inner_of, FitsTypes}
 use Rattle.shader_ir.specs.TypeTree.{IsBackward, PointsBelow}
 use Rattle.shader_resolve.specs.declared.error.ResolveError.{ResolveError}
-use Rattle.shader_resolve.specs.declared.resolve.access.Part.{Part}
-use Rattle.shader_resolve.specs.declared.resolve.access.Part.TheVariants as part_kind
-use Rattle.shader_resolve.specs.declared.resolve.access.NoPart.{NoPart}
-use Rattle.shader_resolve.specs.declared.resolve.access.NoPart.TheVariants.{PastEnd, NotIndexable}
+use Rattle.shader_resolve.specs.declared.resolve.access.Component.{Component}
+use Rattle.shader_resolve.specs.declared.resolve.access.Component.TheVariants as component_kind
+use Rattle.shader_resolve.specs.declared.resolve.access.BadIndex.{BadIndex}
+use Rattle.shader_resolve.specs.declared.resolve.access.BadIndex.TheVariants.{PastEnd, NotIndexable}
 use Rattle.shader_resolve.specs.Context.{Context, IsInRange, IsResultType, IsType, TypesInRange}
-use Rattle.shader_resolve.specs.Follows.{Told, Follows, EachAsked, FitsTold}
+use Rattle.shader_resolve.specs.DerivesByRule.{OperandAnswer, DerivesByRule, EachQueried, AnswerFits}
 use Rattle.shader_resolve.specs.Images.{bool_scalar, texel, extent, gather_type, sample_type, extent_type}
 use Rattle.shader_resolve.specs.Operations.{test_type, logical_type}
 use Rattle.shader_resolve.specs.declared.resolve.operations.Product.{Product}
-use Rattle.shader_resolve.specs.declared.resolve.operations.Product.TheVariants.{AsLeft, AsRight, Made, NoProduct}
+use Rattle.shader_resolve.specs.declared.resolve.operations.Product.TheVariants.{AsLeft, AsRight, Built, NoProduct}
 use Rattle.shader_resolve.specs.Operations.{product_of, product_type, cast_type, product, left_type}
 use Rattle.shader_resolve.specs.Outcome.{Refusal, IncompatibleOperands, InvalidAccess, InvalidSubAccess}
 use Rattle.shader_resolve.specs.Outcome.{Given, Meets, Memory, Outcome, Refused, at_inner}
-use Rattle.shader_resolve.specs.Part.{checked, member_part, indexed_member, part, part_value}
-use Rattle.shader_resolve.specs.Part.{part_pointer, part_outcome, pointed_outcome, lifted}
-use Rattle.shader_resolve.specs.Rows.{Row, Plain, One, Two, constant_type, override_type, argument_type, variable_type}
-use Rattle.shader_resolve.specs.Rows.{global_type, local_type, result_type, call_type, special_type, splat_type, swizzle_type}
-use Rattle.shader_resolve.specs.Rows.{pointed_type, load_type, matrix_type, tile_type, pointed_scalar, on_shape, binary_row}
-use Rattle.shader_resolve.specs.Rows.{relational_row, sample_row, query_row, math_row, row}
+use Rattle.shader_resolve.specs.Component.{checked, member_component, indexed_member, component, component_value}
+use Rattle.shader_resolve.specs.Component.{component_pointer, component_outcome, pointed_outcome, lifted}
+use Rattle.shader_resolve.specs.TypingRules.{TypingRule, Plain, One, Two, constant_type, override_type, argument_type, variable_type}
+use Rattle.shader_resolve.specs.TypingRules.{global_type, local_type, result_type, call_type, special_type, splat_type, swizzle_type}
+use Rattle.shader_resolve.specs.TypingRules.{pointed_type, load_type, matrix_type, tile_type, pointed_scalar, on_shape, binary_rule}
+use Rattle.shader_resolve.specs.TypingRules.{relational_rule, sample_rule, query_rule, math_rule, typing_rule}
 use Rattle.shader_resolve.proofs.BuiltinLemmas.{first-fits}
 use Rattle.shader_ir.proofs.KeyLemmas.{inner_fits}
-use Rattle.shader_resolve.proofs.KeyLemmas.{at_place, found_below, member_below}
+use Rattle.shader_resolve.proofs.KeyLemmas.{at_position, found_below, member_below}
 
--- what holds of each item holds of the one at a place, where there is one
+-- a property of each item holds of the one at a position, if any
 listed : {T : Type 0} (P : T → Type 0) (xs : List T) (i : ℕ) → All P xs → IfSome (slice_get xs i) P
 listed {T} P xs i all = by (slice_get xs i) refl
   where
     by : (found : Option T) → slice_get xs i ≡ found → IfSome found P
-    by (Some x) is = at_place P xs i x all is
+    by (Some x) is = at_position P xs i x all is
     by None is = tt
 
 module _ (types : List «Type») where
@@ -77,11 +77,11 @@ module _ (types : List «Type») where
   OutcomeFits (Given resolution) = FitsTypes types resolution
   OutcomeFits (Refused refusal) = Unit {0}
 
-  -- the row answers what is in the arena, where its operands are
-  abbrev pub RowFits : Row → Type 0
-  RowFits (Plain outcome) = OutcomeFits outcome
-  RowFits (One operand answer) = (told : TypeResolution) → FitsTypes types told → OutcomeFits (answer told)
-  RowFits (Two left right answer) = (first second : TypeResolution) → FitsTypes types first → FitsTypes types second →
+  -- the rule's outcome is in the arena if its operands are
+  abbrev pub NumberFits : TypingRule → Type 0
+  NumberFits (Plain outcome) = OutcomeFits outcome
+  NumberFits (One operand answer) = (reported : TypeResolution) → FitsTypes types reported → OutcomeFits (answer reported)
+  NumberFits (Two left right answer) = (first second : TypeResolution) → FitsTypes types first → FitsTypes types second →
       OutcomeFits (answer first second)
 
   bare : All (λ handle. handle < length types) []
@@ -98,13 +98,13 @@ module _ (types : List «Type») where
   at_inner-fits (Some inner) answer fits = fits inner
   at_inner-fits None answer fits = tt
 
-  -- an answer that reads the shape, whose handles are in range
+  -- an outcome that reads a shape whose handles are in range
   shape-fits : IsBackward types → (operand : ℕ) (answer : TypeInner → Outcome) →
-      ((inner : TypeInner) → PointsBelow (length types) inner → OutcomeFits (answer inner)) → RowFits (on_shape types operand answer)
-  shape-fits backward operand answer fits told told_fits = by (inner_of types told) refl
+      ((inner : TypeInner) → PointsBelow (length types) inner → OutcomeFits (answer inner)) → NumberFits (on_shape types operand answer)
+  shape-fits backward operand answer fits reported reported_fits = by (inner_of types reported) refl
     where
-      by : (found : Option TypeInner) → inner_of types told ≡ found → OutcomeFits (at_inner found answer)
-      by (Some inner) is = fits inner (inner_fits types backward told inner is told_fits)
+      by : (found : Option TypeInner) → inner_of types reported ≡ found → OutcomeFits (at_inner found answer)
+      by (Some inner) is = fits inner (inner_fits types backward reported inner is reported_fits)
       by None is = tt
 
   texel-fits : (class : ImageClass) → FitsTypes types (Value (texel class))
@@ -159,7 +159,7 @@ module _ (types : List «Type») where
   swizzle-fits operand size inner = tt
 
   abbrev ProductFits : Product → Type 0
-  ProductFits (Made inner) = FitsTypes types (Value inner)
+  ProductFits (Built inner) = FitsTypes types (Value inner)
   ProductFits _ = Unit {0}
 
   product_of-fits : (left right : TypeInner) → ProductFits (product_of left right)
@@ -173,14 +173,14 @@ module _ (types : List «Type») where
       (type.CooperativeMatrix right_columns right_rows right_scalar right_role) = (bare, tt)
   product_of-fits left right = tt
 
-  product_type-fits : (made : Product) → ProductFits made → (left right : TypeResolution) → FitsTypes types left → FitsTypes types right →
-      OutcomeFits (product_type made left right)
+  product_type-fits : (built : Product) → ProductFits built → (left right : TypeResolution) → FitsTypes types left → FitsTypes types right →
+      OutcomeFits (product_type built left right)
   product_type-fits AsLeft fits left right left_fits right_fits = left_fits
   product_type-fits AsRight fits left right left_fits right_fits = right_fits
-  product_type-fits (Made inner) fits left right left_fits right_fits = fits
+  product_type-fits (Built inner) fits left right left_fits right_fits = fits
   product_type-fits NoProduct fits left right left_fits right_fits = tt
 
-  product-fits : (left right : ℕ) → RowFits (Two left right (product types))
+  product-fits : (left right : ℕ) → NumberFits (Two left right (product types))
   product-fits left right first second first_fits second_fits =
       at_inner-fits (inner_of types first) _ (λ left_inner.
       at_inner-fits (inner_of types second) _ (λ right_inner.
@@ -197,38 +197,38 @@ module _ (types : List «Type») where
   left-fits operator.LogicalOr left fits = at_inner-fits (inner_of types left) logical_type logical-fits
   left-fits op left fits = fits
 
-  binary-fits : (op : BinaryOperator) (left right : ℕ) → RowFits (binary_row types op left right)
+  binary-fits : (op : BinaryOperator) (left right : ℕ) → NumberFits (binary_rule types op left right)
   binary-fits operator.Multiply left right = product-fits left right
   binary-fits op left right = left-fits op
 
-  relational-fits : IsBackward types → (fun : RelationalFunction) (argument : ℕ) → RowFits (relational_row types fun argument)
+  relational-fits : IsBackward types → (fun : RelationalFunction) (argument : ℕ) → NumberFits (relational_rule types fun argument)
   relational-fits backward relational.All argument = (bare, tt)
   relational-fits backward relational.Any argument = (bare, tt)
   relational-fits backward relational.IsNan argument = shape-fits backward argument test_type (λ inner h. test-fits inner)
   relational-fits backward relational.IsInf argument = shape-fits backward argument test_type (λ inner h. test-fits inner)
 
-  sampled-fits : IsBackward types → (image : ℕ) (gather : Option SwizzleComponent) → RowFits (sample_row types image gather)
+  sampled-fits : IsBackward types → (image : ℕ) (gather : Option SwizzleComponent) → NumberFits (sample_rule types image gather)
   sampled-fits backward image (Some component) = shape-fits backward image (gather_type image) (λ inner h. gather-fits image inner)
   sampled-fits backward image None = shape-fits backward image (sample_type image) (λ inner h. sample-fits image inner)
 
-  query-fits : IsBackward types → (image : ℕ) (asked : ImageQuery) → RowFits (query_row types image asked)
+  query-fits : IsBackward types → (image : ℕ) (queried : ImageQuery) → NumberFits (query_rule types image queried)
   query-fits backward image (query.Size level) = shape-fits backward image (extent_type image) (λ inner h. extent-fits image inner)
-  query-fits backward image asked = (bare, tt)
+  query-fits backward image queried = (bare, tt)
 
-  abbrev PartFits : Part → Type 0
-  PartFits (part_kind.Type handle) = handle < length types
-  PartFits _ = Unit {0}
+  abbrev ComponentFits : Component → Type 0
+  ComponentFits (component_kind.Type handle) = handle < length types
+  ComponentFits _ = Unit {0}
 
-  abbrev ReachedFits : Result Part NoPart → Type 0
-  ReachedFits (Ok reached) = PartFits reached
+  abbrev ReachedFits : Result Component BadIndex → Type 0
+  ReachedFits (Ok reached) = ComponentFits reached
   ReachedFits (Err failure) = Unit {0}
 
-  tested-fits : (test : Bool) (reached : Part) (failure : NoPart) → PartFits reached →
+  tested-fits : (test : Bool) (reached : Component) (failure : BadIndex) → ComponentFits reached →
       ReachedFits (if test then Ok reached else Err failure)
   tested-fits true reached failure fits = fits
   tested-fits false reached failure fits = tt
 
-  checked-fits : (index : Option ℕ) (count : ℕ) (reached : Part) → PartFits reached → ReachedFits (checked index count reached)
+  checked-fits : (index : Option ℕ) (count : ℕ) (reached : Component) → ComponentFits reached → ReachedFits (checked index count reached)
   checked-fits None count reached fits = fits
   checked-fits (Some index) count reached fits = tested-fits (nat_lt index count) reached (PastEnd index) fits
 
@@ -237,31 +237,33 @@ module _ (types : List «Type») where
   member-fits None members span h = tt
   member-fits (Some index) members span h = by (slice_get members index) refl
     where
-      by : (found : Option StructMember) → slice_get members index ≡ found → ReachedFits (member_part index found)
+      by : (found : Option StructMember) → slice_get members index ≡ found → ReachedFits (member_component index found)
       by (Some member) is = member_below (length types) members span index member h is
       by None is = tt
 
-  part-fits : (index : Option ℕ) (inner : TypeInner) → PointsBelow (length types) inner → ReachedFits (part index inner)
-  part-fits index (type.Vector size scalar) h = checked-fits index (vector_count size) (part_kind.Scalar scalar) tt
-  part-fits index (type.Matrix columns rows scalar) h = checked-fits index (vector_count columns) (part_kind.Vector rows scalar) tt
-  part-fits index (type.Array base size stride) h = head base h
-  part-fits index (type.BindingArray base size) h = head base h
-  part-fits index (type.Struct span members) h = member-fits index members span h
-  part-fits index inner h = tt
+  component-fits : (index : Option ℕ) (inner : TypeInner) → PointsBelow (length types) inner → ReachedFits (component index inner)
+  component-fits index (type.Vector size scalar) h = checked-fits index (vector_count size) (component_kind.Scalar scalar) tt
+  component-fits index (type.Matrix columns rows scalar) h =
+      checked-fits index (vector_count columns) (component_kind.Vector rows scalar) tt
+  component-fits index (type.Array base size stride) h = head base h
+  component-fits index (type.BindingArray base size) h = head base h
+  component-fits index (type.Struct span members) h = member-fits index members span h
+  component-fits index inner h = tt
 
-  value-fits : (reached : Part) → PartFits reached → FitsTypes types (part_value reached)
-  value-fits (part_kind.Scalar scalar) fits = (bare, tt)
-  value-fits (part_kind.Vector size scalar) fits = (bare, tt)
-  value-fits (part_kind.Type handle) fits = fits
+  value-fits : (reached : Component) → ComponentFits reached → FitsTypes types (component_value reached)
+  value-fits (component_kind.Scalar scalar) fits = (bare, tt)
+  value-fits (component_kind.Vector size scalar) fits = (bare, tt)
+  value-fits (component_kind.Type handle) fits = fits
 
-  pointer-fits : (space : AddressSpace) (reached : Part) → PartFits reached → FitsTypes types (Value (part_pointer space reached))
-  pointer-fits space (part_kind.Scalar scalar) fits = (bare, tt)
-  pointer-fits space (part_kind.Vector size scalar) fits = (bare, tt)
-  pointer-fits space (part_kind.Type handle) fits = (one handle fits, tt)
+  pointer-fits : (space : AddressSpace) (reached : Component) → ComponentFits reached →
+      FitsTypes types (Value (component_pointer space reached))
+  pointer-fits space (component_kind.Scalar scalar) fits = (bare, tt)
+  pointer-fits space (component_kind.Vector size scalar) fits = (bare, tt)
+  pointer-fits space (component_kind.Type handle) fits = (one handle fits, tt)
 
-  outcome-fits : (base : ℕ) (refusal : Refusal) (answer : Part → TypeResolution) →
-      ((reached : Part) → PartFits reached → FitsTypes types (answer reached))
-      → (reached : Result Part NoPart) → ReachedFits reached → OutcomeFits (part_outcome base refusal answer reached)
+  outcome-fits : (base : ℕ) (refusal : Refusal) (answer : Component → TypeResolution) →
+      ((reached : Component) → ComponentFits reached → FitsTypes types (answer reached))
+      → (reached : Result Component BadIndex) → ReachedFits reached → OutcomeFits (component_outcome base refusal answer reached)
   outcome-fits base refusal answer fits (Ok reached) h = fits reached h
   outcome-fits base refusal answer fits (Err (PastEnd index)) h = tt
   outcome-fits base refusal answer fits (Err NotIndexable) h = tt
@@ -272,14 +274,16 @@ module _ (types : List «Type») where
     where
       by : (found : Option «Type») → slice_get types pointed ≡ found →
           OutcomeFits (pointed_outcome base index pointed space (found_inner found))
-      by (Some found) is = outcome-fits base (InvalidSubAccess pointed (is_some index)) (λ reached. Value (part_pointer space reached))
-          (pointer-fits space) (part index found.inner) (part-fits index found.inner (found_below types backward pointed found is))
+      by (Some found) is = outcome-fits base (InvalidSubAccess pointed (is_some index)) (λ reached. Value (component_pointer space reached))
+          (pointer-fits space) (component index found.inner)
+          (component-fits index found.inner (found_below types backward pointed found is))
       by None is = tt
   lifted-fits backward base index (type.ValuePointer (Some size) scalar space) h =
-      outcome-fits base (InvalidAccess base (is_some index)) (λ reached. Value (part_pointer space reached)) (pointer-fits space)
-      (part index (type.Vector size scalar)) (checked-fits index (vector_count size) (part_kind.Scalar scalar) tt)
-  lifted-fits backward base index inner h = outcome-fits base (InvalidAccess base (is_some index)) part_value value-fits (part index inner)
-      (part-fits index inner h)
+      outcome-fits base (InvalidAccess base (is_some index)) (λ reached. Value (component_pointer space reached)) (pointer-fits space)
+      (component index (type.Vector size scalar)) (checked-fits index (vector_count size) (component_kind.Scalar scalar) tt)
+  lifted-fits backward base index inner h =
+      outcome-fits base (InvalidAccess base (is_some index)) component_value value-fits (component index inner)
+      (component-fits index inner h)
 
   pointed-fits : (pointer base : ℕ) → base < length types → (found : Option TypeInner) → OutcomeFits (pointed_type pointer base found)
   pointed-fits pointer base lt (Some (type.Atomic scalar)) = (bare, tt)
@@ -337,7 +341,7 @@ module _ (types : List «Type») where
 
   meets-fits : (memory : Memory) (result : Result TypeResolution ResolveError) (outcome : Outcome) → OutcomeFits outcome →
       Meets memory result outcome → IfOk result (λ resolution. FitsTypes types resolution)
-  meets-fits memory (Ok resolution) (Given given) fits meets = subst (λ told. FitsTypes types told) (sym meets) fits
+  meets-fits memory (Ok resolution) (Given given) fits meets = subst (λ reported. FitsTypes types reported) (sym meets) fits
   meets-fits memory (Ok resolution) (Refused refusal) fits meets = absurd meets
   meets-fits memory (Err failure) outcome fits meets = tt
 
@@ -345,88 +349,90 @@ module _ (types : List «Type») where
       IfOk result (λ resolution. FitsTypes types resolution)
   failed result failure is = subst (λ answer. IfOk answer (λ resolution. FitsTypes types resolution)) (sym is) tt
 
-  -- a result that follows such a row is in the arena
-  pub follows-fits : (memory : Memory) (Post : ℕ → Told → Type 0) (result : Result TypeResolution ResolveError)
-      → (asked : Row) → EachAsked (λ operand. (told : Told) → Post operand told → FitsTold types told) asked → RowFits asked →
-      Follows memory Post result asked → IfOk result (λ resolution. FitsTypes types resolution)
-  follows-fits memory Post result (Plain outcome) told_fits fits follows = meets-fits memory result outcome fits follows
-  follows-fits memory Post result (One operand answer) told_fits fits (Ok told, posted, meets) =
-      meets-fits memory result (answer told.now) (fits told.now (told_fits (Ok told) posted)) meets
-  follows-fits memory Post result (One operand answer) told_fits fits (Err failure, posted, is) = failed result failure is
-  follows-fits memory Post result (Two left right answer) told_fits fits (Err failure, posted, is) = failed result failure is
-  follows-fits memory Post result (Two left right answer) told_fits fits (Ok first, posted, (Err failure, more, is)) =
+  -- a result that derives by such a rule is in the arena
+  pub follows-fits : (memory : Memory) (Post : ℕ → OperandAnswer → Type 0) (result : Result TypeResolution ResolveError)
+      → (queried : TypingRule) → EachQueried (λ operand. (reported : OperandAnswer) → Post operand reported →
+      AnswerFits types reported) queried → NumberFits queried →
+      DerivesByRule memory Post result queried → IfOk result (λ resolution. FitsTypes types resolution)
+  follows-fits memory Post result (Plain outcome) reported_fits fits follows = meets-fits memory result outcome fits follows
+  follows-fits memory Post result (One operand answer) reported_fits fits (Ok reported, posted, meets) =
+      meets-fits memory result (answer reported.now) (fits reported.now (reported_fits (Ok reported) posted)) meets
+  follows-fits memory Post result (One operand answer) reported_fits fits (Err failure, posted, is) = failed result failure is
+  follows-fits memory Post result (Two left right answer) reported_fits fits (Err failure, posted, is) = failed result failure is
+  follows-fits memory Post result (Two left right answer) reported_fits fits (Ok first, posted, (Err failure, more, is)) =
       failed result failure is
-  follows-fits memory Post result (Two left right answer) told_fits fits (Ok first, posted, (Ok second, more, meets)) =
+  follows-fits memory Post result (Two left right answer) reported_fits fits (Ok first, posted, (Ok second, more, meets)) =
       meets-fits memory result (answer first.now second.now)
-      (fits first.now second.now (told_fits.0 (Ok first) posted) (told_fits.1 (Ok second) more)) meets
+      (fits first.now second.now (reported_fits.0 (Ok first) posted) (reported_fits.1 (Ok second) more)) meets
 
 call-fits : (context : Context) → All (λ (entry : PredeclaredType × ℕ). IsType context entry.1) context.special_types.predeclared_types →
-    (fun : MathFunction) (arg : ℕ) (arg1 : Option ℕ) → RowFits context.types (math_row context fun arg arg1)
-call-fits context held fun arg None = λ told fits. at_inner-fits context.types (inner_of context.types told) _
-    (λ inner. first-fits context.types context.special_types held _ fun)
-call-fits context held fun arg (Some arg1) = λ first second first_fits second_fits.
+    (fun : MathFunction) (arg : ℕ) (arg1 : Option ℕ) → NumberFits context.types (math_rule context fun arg arg1)
+call-fits context stored fun arg None = λ reported fits. at_inner-fits context.types (inner_of context.types reported) _
+    (λ inner. first-fits context.types context.special_types stored _ fun)
+call-fits context stored fun arg (Some arg1) = λ first second first_fits second_fits.
     at_inner-fits context.types (inner_of context.types first) _ (λ first_inner.
     at_inner-fits context.types (inner_of context.types second) _ (λ second_inner.
-    first-fits context.types context.special_types held _ fun))
+    first-fits context.types context.special_types stored _ fun))
 
--- each row answers what is in the arena
-pub row-fits : (context : Context) → IsBackward context.types → TypesInRange context → (expression : Expression) →
-    IsInRange context expression → RowFits context.types (row context expression)
-row-fits context backward held (form.Literal literal) h = (bare context.types, tt)
-row-fits context backward held (form.Constant constant) h =
+-- the outcome of each typing rule is in the arena
+pub typing_rule-fits : (context : Context) → IsBackward context.types → TypesInRange context → (expression : Expression) →
+    IsInRange context expression → NumberFits context.types (typing_rule context expression)
+typing_rule-fits context backward stored (form.Literal literal) h = (bare context.types, tt)
+typing_rule-fits context backward stored (form.Constant constant) h =
     constant-fits context.types (slice_get context.constants constant)
-    (listed (λ (constant : Constant). IsType context constant.ty) context.constants constant held.constants)
-row-fits context backward held (form.Override override) h =
+    (listed (λ (constant : Constant). IsType context constant.ty) context.constants constant stored.constants)
+typing_rule-fits context backward stored (form.Override override) h =
     override-fits context.types (slice_get context.overrides override)
-    (listed (λ (override : Override). IsType context override.ty) context.overrides override held.overrides)
-row-fits context backward held (form.ZeroValue ty) h = h
-row-fits context backward held (form.Compose ty components) h = h
-row-fits context backward held (form.Access base index) h =
+    (listed (λ (override : Override). IsType context override.ty) context.overrides override stored.overrides)
+typing_rule-fits context backward stored (form.ZeroValue ty) h = h
+typing_rule-fits context backward stored (form.Compose ty components) h = h
+typing_rule-fits context backward stored (form.Access base index) h =
     shape-fits context.types backward base (lifted context.types base None) (lifted-fits context.types backward base None)
-row-fits context backward held (form.AccessIndex base index) h =
+typing_rule-fits context backward stored (form.AccessIndex base index) h =
     shape-fits context.types backward base (lifted context.types base (Some index)) (lifted-fits context.types backward base (Some index))
-row-fits context backward held (form.Splat size value) h =
+typing_rule-fits context backward stored (form.Splat size value) h =
     shape-fits context.types backward value (splat_type value size) (λ inner h. splat-fits context.types value size inner)
-row-fits context backward held (form.Swizzle size vector pattern) h =
+typing_rule-fits context backward stored (form.Swizzle size vector pattern) h =
     shape-fits context.types backward vector (swizzle_type vector size) (λ inner h. swizzle-fits context.types vector size inner)
-row-fits context backward held (form.FunctionArgument index) h =
+typing_rule-fits context backward stored (form.FunctionArgument index) h =
     argument-fits context.types index (slice_get context.arguments index)
-    (listed (λ (argument : FunctionArgument). IsType context argument.ty) context.arguments index held.arguments)
-row-fits context backward held (form.GlobalVariable variable) h =
+    (listed (λ (argument : FunctionArgument). IsType context argument.ty) context.arguments index stored.arguments)
+typing_rule-fits context backward stored (form.GlobalVariable variable) h =
     global-fits context.types (slice_get context.globals variable)
-    (listed (λ (variable : GlobalVariable). IsType context variable.ty) context.globals variable held.globals)
-row-fits context backward held (form.LocalVariable variable) h =
+    (listed (λ (variable : GlobalVariable). IsType context variable.ty) context.globals variable stored.globals)
+typing_rule-fits context backward stored (form.LocalVariable variable) h =
     local-fits context.types (slice_get context.locals variable)
-    (listed (λ (variable : LocalVariable). IsType context variable.ty) context.locals variable held.locals)
-row-fits context backward held (form.Load pointer) h = shape-fits context.types backward pointer (load_type pointer context.types)
+    (listed (λ (variable : LocalVariable). IsType context variable.ty) context.locals variable stored.locals)
+typing_rule-fits context backward stored (form.Load pointer) h = shape-fits context.types backward pointer (load_type pointer context.types)
     (load-fits context.types pointer)
-row-fits context backward held (form.ImageSample image sampler gather clamp_to_edge coordinate array_index offset level depth_ref) h =
+typing_rule-fits context backward stored (form.ImageSample image sampler gather clamp_to_edge coordinate array_index offset level depth_ref)
+    h =
     sampled-fits context.types backward image gather
-row-fits context backward held (form.ImageLoad image coordinate array_index sample level) h =
+typing_rule-fits context backward stored (form.ImageLoad image coordinate array_index sample level) h =
     shape-fits context.types backward image (sample_type image) (λ inner h. sample-fits context.types image inner)
-row-fits context backward held (form.ImageQuery image asked) h = query-fits context.types backward image asked
-row-fits context backward held (form.Unary op expr) h = λ told fits. fits
-row-fits context backward held (form.Binary op left right) h = binary-fits context.types op left right
-row-fits context backward held (form.Select condition accept reject) h = λ told fits. fits
-row-fits context backward held (form.Derivative axis ctrl expr) h = λ told fits. fits
-row-fits context backward held (form.Relational fun argument) h = relational-fits context.types backward fun argument
-row-fits context backward held (form.Math fun arg arg1 arg2 arg3) h = call-fits context held.predeclared fun arg arg1
-row-fits context backward held (form.As expr kind convert) h =
+typing_rule-fits context backward stored (form.ImageQuery image queried) h = query-fits context.types backward image queried
+typing_rule-fits context backward stored (form.Unary op expr) h = λ reported fits. fits
+typing_rule-fits context backward stored (form.Binary op left right) h = binary-fits context.types op left right
+typing_rule-fits context backward stored (form.Select condition accept reject) h = λ reported fits. fits
+typing_rule-fits context backward stored (form.Derivative axis ctrl expr) h = λ reported fits. fits
+typing_rule-fits context backward stored (form.Relational fun argument) h = relational-fits context.types backward fun argument
+typing_rule-fits context backward stored (form.Math fun arg arg1 arg2 arg3) h = call-fits context stored.predeclared fun arg arg1
+typing_rule-fits context backward stored (form.As expr kind convert) h =
     shape-fits context.types backward expr (cast_type kind convert) (λ inner h. cast-fits context.types kind convert inner)
-row-fits context backward held (form.CallResult function) h =
+typing_rule-fits context backward stored (form.CallResult function) h =
     result_of-fits context.types (slice_get context.functions function)
-    (listed (λ (function : Function). IsResultType context function.result) context.functions function held.results)
-row-fits context backward held (form.AtomicResult ty comparison) h = h
-row-fits context backward held (form.WorkGroupUniformLoadResult ty) h = h
-row-fits context backward held (form.ArrayLength array) h = (bare context.types, tt)
-row-fits context backward held (form.RayQueryVertexPositions query committed) h =
-    special-fits context.types context.special_types.ray_vertex_return held.ray_vertex_return
-row-fits context backward held form.RayQueryProceedResult h = (bare context.types, tt)
-row-fits context backward held (form.RayQueryGetIntersection query committed) h =
-    special-fits context.types context.special_types.ray_intersection held.ray_intersection
-row-fits context backward held form.SubgroupBallotResult h = (bare context.types, tt)
-row-fits context backward held (form.SubgroupOperationResult ty) h = h
-row-fits context backward held (form.CooperativeLoad columns rows role tile) h =
+    (listed (λ (function : Function). IsResultType context function.result) context.functions function stored.results)
+typing_rule-fits context backward stored (form.AtomicResult ty comparison) h = h
+typing_rule-fits context backward stored (form.WorkGroupUniformLoadResult ty) h = h
+typing_rule-fits context backward stored (form.ArrayLength array) h = (bare context.types, tt)
+typing_rule-fits context backward stored (form.RayQueryVertexPositions query committed) h =
+    special-fits context.types context.special_types.ray_vertex_return stored.ray_vertex_return
+typing_rule-fits context backward stored form.RayQueryProceedResult h = (bare context.types, tt)
+typing_rule-fits context backward stored (form.RayQueryGetIntersection query committed) h =
+    special-fits context.types context.special_types.ray_intersection stored.ray_intersection
+typing_rule-fits context backward stored form.SubgroupBallotResult h = (bare context.types, tt)
+typing_rule-fits context backward stored (form.SubgroupOperationResult ty) h = h
+typing_rule-fits context backward stored (form.CooperativeLoad columns rows role tile) h =
     shape-fits context.types backward tile.pointer (tile_type tile.pointer context.types columns rows role)
     (λ inner h. tile-fits context.types tile.pointer columns rows role (pointed_scalar context.types inner))
-row-fits context backward held (form.CooperativeMultiplyAdd a b c) h = λ told fits. fits
+typing_rule-fits context backward stored (form.CooperativeMultiplyAdd a b c) h = λ reported fits. fits

@@ -1,16 +1,16 @@
--- Want of memory is one error, whatever memory is taken for.
+-- Out of memory is one error, whatever the purpose of the allocation.
 use Rattle.std.proofs.Common.{◌≡◌}
 use Rattle.shader_resolve.specs.declared.error.ResolveError.{ResolveError}
 use Rattle.shader_resolve.specs.declared.error.ResolveError.TheVariants.{OutOfMemory}
-use Rattle.shader_resolve.specs.Outcome.{ForNothing, ForRules, ForWords, Memory, WantsForType, WantsMemory}
+use Rattle.shader_resolve.specs.Outcome.{ForNothing, ForRules, ForWords, Memory, IsOutOfMemoryForType, IsOutOfMemory}
 
--- what is taken for a type is taken
-pub for_type : (memory : Memory) (failure : ResolveError) → WantsForType memory failure → WantsMemory memory failure
-for_type ForNothing failure wants = absurd wants
-for_type ForWords failure wants = absurd wants
-for_type ForRules failure wants = wants
+-- an allocation for a type is an allocation
+pub for_type : (memory : Memory) (failure : ResolveError) → IsOutOfMemoryForType memory failure → IsOutOfMemory memory failure
+for_type ForNothing failure out_of_memory = absurd out_of_memory
+for_type ForWords failure out_of_memory = absurd out_of_memory
+for_type ForRules failure out_of_memory = out_of_memory
 
-pub wanted : (memory : Memory) (failure : ResolveError) → WantsMemory memory failure → failure ≡ OutOfMemory
-wanted ForNothing failure wants = absurd wants
-wanted ForWords failure wants = wants
-wanted ForRules failure wants = wants
+pub wanted : (memory : Memory) (failure : ResolveError) → IsOutOfMemory memory failure → failure ≡ OutOfMemory
+wanted ForNothing failure out_of_memory = absurd out_of_memory
+wanted ForWords failure out_of_memory = out_of_memory
+wanted ForRules failure out_of_memory = out_of_memory

@@ -1,4 +1,4 @@
--- What check_module answers decides which faults stand.
+-- check_module is sound and complete: its result decides which violations the module has.
 use Rattle.std.proofs.Common.{◌≡◌, ◌↔◌, sym, subst, refl, ℕ, zero, suc, ◌+◌, ◌<◌, Bool, true, false}
 use Rattle.std.proofs.Common.{List, [], ◌∷◌, IfSome, IsOk, IfErr, Ok, Err, All, length, arith}
 use Rattle.std.specs.List.{enumerate_from}
@@ -19,26 +19,26 @@ use Rattle.shader_ir.specs.declared.module.DiagnosticFilterNode.{DiagnosticFilte
 use Rattle.shader_ir.specs.declared.module.Module.{Module}
 use Rattle.shader_ir.specs.declared.types.«Type».{«Type»}
 use Rattle.shader_resolve.specs.Context.{context_of, IsInRange}
-use Rattle.shader_resolve.specs.FaultyPlaces.{ExpressionLacks, FilterLacks, StatementLacks, TypeLacks}
+use Rattle.shader_resolve.specs.FaultyLocations.{ExpressionLacks, FilterLacks, StatementLacks, TypeLacks}
 use Rattle.shader_resolve.specs.ModuleTests.{Checked, bounds_of, check_argument, check_data, check_entry_point, check_expression}
 use Rattle.shader_resolve.specs.ModuleTests.{check_filter, check_function, check_module, check_statement, check_type, global_bounds}
-use Rattle.shader_resolve.specs.ModuleTests.{guard, in_arena, in_body, in_entries, in_list, passed, then}
+use Rattle.shader_resolve.specs.ModuleTests.{guard, in_arena, in_body, in_entries, in_list, no_fault, then}
 use Rattle.shader_resolve.specs.Statements.{statement_callee}
 use Rattle.shader_resolve.specs.WellFormed.{AtEach, CalleesBelow, CountMatches, EmitsBelow, ExpressionInRange, FunctionInRange}
-use Rattle.shader_resolve.specs.WellFormed.{IsEarlier, IsNoValuePointerArgument, IsType, IsWellFormed, Lacks, OperandsBelow}
-use Rattle.shader_resolve.specs.WellFormed.{Stands, StatementInRange, TypeInRange, expression_callee}
+use Rattle.shader_resolve.specs.WellFormed.{IsEarlier, IsNoValuePointerArgument, IsModuleType, IsWellFormed, Lacks, OperandsBelow}
+use Rattle.shader_resolve.specs.WellFormed.{ModuleHasFault, StatementInRange, TypeInRange, expression_callee}
 use Rattle.shader_resolve.specs.declared.well_formed.ModuleFault.{ModuleFault}
 use Rattle.shader_resolve.specs.declared.well_formed.ModuleFault.TheVariants.{HandleOutOfRange, TypeNotEarlier, OperandNotEarlier}
 use Rattle.shader_resolve.specs.declared.well_formed.ModuleFault.TheVariants.{CalleeNotEarlier, ArgumentCount, FilterNotEarlier}
 use Rattle.shader_resolve.specs.declared.well_formed.ModuleFault.TheVariants.{ValuePointerArgument, EmitRange}
 use Rattle.shader_resolve.proofs.BodyLemmas.{body-list}
-use Rattle.shader_resolve.proofs.PlaceLemmas.{all-places, each-place}
+use Rattle.shader_resolve.proofs.PositionLemmas.{all-positions, each-position}
 use Rattle.shader_resolve.proofs.TestLemmas.{VariablesInRange, OthersInRange, argument-decides, callee-decides, counts-decide}
 use Rattle.shader_resolve.proofs.TestLemmas.{emits-decide, expression-decides, function-decides, handles-decide, operands-decide}
 use Rattle.shader_resolve.proofs.TestLemmas.{optional-decides, statement-decides, type-decides, variables-decide}
 use Rattle.std.proofs.lemmas.Bool.Decides.{Decides-ltb}
 
--- where no fault is answered each fact holds, and that of an answered fault doesn't
+-- if there is no violation each fact holds, and the fact of a returned violation doesn't
 abbrev pub Sound : Checked → (ModuleFault → Type 0) → Type 0
 Sound (Ok nothing) Fact = (fault : ModuleFault) → Fact fault
 Sound (Err fault) Fact = ¬ Fact fault
@@ -71,55 +71,55 @@ in_list-sound {T} check F each (item ∷ items) =
     (then-sound (check item) (in_list check items) (F item) (λ fault. All (λ (item : T). F item fault) items) (each item)
     (in_list-sound check F each items))
 
-module _ {T : Type 0} (check : ℕ → T → Checked) (F : ℕ → T → ModuleFault → Type 0) (each : (place : ℕ) (item : T) →
-    Sound (check place item) (F place item)) where
+module _ {T : Type 0} (check : ℕ → T → Checked) (F : ℕ → T → ModuleFault → Type 0) (each : (position : ℕ) (item : T) →
+    Sound (check position item) (F position item)) where
   AtEach-cons : (fault : ModuleFault) (first : ℕ) (item : T) (items : List T)
-      → F first item fault × AtEach (λ place item. F (first + 1 + place) item fault) items →
-      AtEach (λ place item. F (first + place) item fault) (item ∷ items)
+      → F first item fault × AtEach (λ position item. F (first + 1 + position) item fault) items →
+      AtEach (λ position item. F (first + position) item fault) (item ∷ items)
   AtEach-cons fault first item items both zero found is =
       let same : first ≡ first + 0 = omega arith in
       let there : item ≡ found = cc in
-      subst (λ place. F place found fault) same (subst (λ item. F first item fault) there both.0)
-  AtEach-cons fault first item items both (suc place) found is =
-      let same : first + 1 + place ≡ first + suc place = omega arith in
-      subst (λ place. F place found fault) same (both.1 place found is)
+      subst (λ position. F position found fault) same (subst (λ item. F first item fault) there both.0)
+  AtEach-cons fault first item items both (suc position) found is =
+      let same : first + 1 + position ≡ first + suc position = omega arith in
+      subst (λ position. F position found fault) same (both.1 position found is)
 
   AtEach-parts : (fault : ModuleFault) (first : ℕ) (item : T) (items : List T)
-      → AtEach (λ place item. F (first + place) item fault) (item ∷ items) →
-      F first item fault × AtEach (λ place item. F (first + 1 + place) item fault) items
+      → AtEach (λ position item. F (first + position) item fault) (item ∷ items) →
+      F first item fault × AtEach (λ position item. F (first + 1 + position) item fault) items
   AtEach-parts fault first item items all =
       let same : first + 0 ≡ first = omega arith in (
-        subst (λ place. F place item fault) same (all 0 item refl),
-        λ place found is.
-            let next : first + suc place ≡ first + 1 + place = omega arith in
-            subst (λ place. F place found fault) next (all (suc place) found is),
+        subst (λ position. F position item fault) same (all 0 item refl),
+        λ position found is.
+            let next : first + suc position ≡ first + 1 + position = omega arith in
+            subst (λ position. F position found fault) next (all (suc position) found is),
       )
 
   entries-sound : (first : ℕ) (items : List T) → Sound (in_entries check (enumerate_from first items))
-      (λ fault. AtEach (λ place item. F (first + place) item fault) items)
-  entries-sound first [] = λ fault place item is. absurd (cc)
+      (λ fault. AtEach (λ position item. F (first + position) item fault) items)
+  entries-sound first [] = λ fault position item is. absurd (cc)
   entries-sound first (item ∷ items) =
       along (then (check first item) (in_entries check (enumerate_from (first + 1) items)))
-      (λ fault. F first item fault × AtEach (λ place item. F (first + 1 + place) item fault) items)
-      (λ fault. AtEach (λ place item. F (first + place) item fault) (item ∷ items))
+      (λ fault. F first item fault × AtEach (λ position item. F (first + 1 + position) item fault) items)
+      (λ fault. AtEach (λ position item. F (first + position) item fault) (item ∷ items))
       (λ fault. AtEach-cons fault first item items)
       (λ fault. AtEach-parts fault first item items)
       (then-sound (check first item) (in_entries check (enumerate_from (first + 1) items)) (F first item) _ (each first item)
       (entries-sound (first + 1) items))
 
-  in_arena-sound : (items : List T) → Sound (in_arena check items) (λ fault. AtEach (λ place item. F place item fault) items)
+  in_arena-sound : (items : List T) → Sound (in_arena check items) (λ fault. AtEach (λ position item. F position item fault) items)
   in_arena-sound items =
-      along (in_arena check items) (λ fault. AtEach (λ place item. F (0 + place) item fault) items)
-      (λ fault. AtEach (λ place item. F place item fault) items)
-      (λ fault all place item is. let same : 0 + place ≡ place = omega arith in
-      subst (λ place. F place item fault) same (all place item is))
-      (λ fault all place item is. let same : place ≡ 0 + place = omega arith in
-      subst (λ place. F place item fault) same (all place item is))
+      along (in_arena check items) (λ fault. AtEach (λ position item. F (0 + position) item fault) items)
+      (λ fault. AtEach (λ position item. F position item fault) items)
+      (λ fault all position item is. let same : 0 + position ≡ position = omega arith in
+      subst (λ position. F position item fault) same (all position item is))
+      (λ fault all position item is. let same : position ≡ 0 + position = omega arith in
+      subst (λ position. F position item fault) same (all position item is))
       (entries-sound 0 items)
 
--- nothing is asked of some
-any-place : {T : Type 0} (items : List T) → AtEach (λ place item. Unit {0}) items
-any-place items place item is = tt
+-- a trivial fact holds at each position
+any-position : {T : Type 0} (items : List T) → AtEach (λ position item. Unit {0}) items
+any-position items position item is = tt
 
 pub any-item : {T : Type 0} (items : List T) → All (λ (item : T). Unit {0}) items
 any-item items k d lt = tt
@@ -128,39 +128,39 @@ module _ (checked : Module) where
   abbrev pub TypeFacts : ℕ → «Type» → ModuleFault → Type 0
   TypeFacts = TypeLacks checked
 
-  type-facts : (place : ℕ) (type : «Type») → TypeInRange checked type.inner → PointsBelow place type.inner → (fault : ModuleFault) →
-      TypeFacts place type fault
-  type-facts place type range earlier HandleOutOfRange = range
-  type-facts place type range earlier TypeNotEarlier = earlier
-  type-facts place type range earlier fault = tt
+  type-facts : (position : ℕ) (type : «Type») → TypeInRange checked type.inner → PointsBelow position type.inner → (fault : ModuleFault) →
+      TypeFacts position type fault
+  type-facts position type range earlier HandleOutOfRange = range
+  type-facts position type range earlier TypeNotEarlier = earlier
+  type-facts position type range earlier fault = tt
 
-  pub type-sound : (place : ℕ) (type : «Type») → Sound (check_type checked place type.inner) (TypeFacts place type)
-  type-sound place type =
-      guarded _ HandleOutOfRange _ (TypeFacts place type)
+  pub type-sound : (position : ℕ) (type : «Type») → Sound (check_type checked position type.inner) (TypeFacts position type)
+  type-sound position type =
+      guarded _ HandleOutOfRange _ (TypeFacts position type)
       (λ range.
-      guarded _ TypeNotEarlier passed (TypeFacts place type)
-      (λ earlier. type-facts place type ((type-decides checked type.inner).0 range)
-      ((handles-decide place (type_handles type.inner)).0 earlier))
-      (λ fails. not_from_Decides _ (handles-decide place (type_handles type.inner)) fails))
+      guarded _ TypeNotEarlier no_fault (TypeFacts position type)
+      (λ earlier. type-facts position type ((type-decides checked type.inner).0 range)
+      ((handles-decide position (type_handles type.inner)).0 earlier))
+      (λ fails. not_from_Decides _ (handles-decide position (type_handles type.inner)) fails))
       (λ fails. not_from_Decides _ (type-decides checked type.inner) fails)
 
   abbrev pub FilterFacts : ℕ → DiagnosticFilterNode → ModuleFault → Type 0
   FilterFacts = FilterLacks checked
 
-  filter-facts : (place : ℕ) (node : DiagnosticFilterNode) → IfSome node.parent (λ parent. parent < length checked.diagnostic_filters)
-      → IfSome node.parent (λ parent. parent < place) → (fault : ModuleFault) → FilterFacts place node fault
-  filter-facts place node range earlier HandleOutOfRange = range
-  filter-facts place node range earlier FilterNotEarlier = earlier
-  filter-facts place node range earlier fault = tt
+  filter-facts : (position : ℕ) (node : DiagnosticFilterNode) → IfSome node.parent (λ parent. parent < length checked.diagnostic_filters)
+      → IfSome node.parent (λ parent. parent < position) → (fault : ModuleFault) → FilterFacts position node fault
+  filter-facts position node range earlier HandleOutOfRange = range
+  filter-facts position node range earlier FilterNotEarlier = earlier
+  filter-facts position node range earlier fault = tt
 
-  pub filter-sound : (place : ℕ) (node : DiagnosticFilterNode) → Sound (check_filter checked place node) (FilterFacts place node)
-  filter-sound place node =
-      guarded _ HandleOutOfRange _ (FilterFacts place node)
+  pub filter-sound : (position : ℕ) (node : DiagnosticFilterNode) → Sound (check_filter checked position node) (FilterFacts position node)
+  filter-sound position node =
+      guarded _ HandleOutOfRange _ (FilterFacts position node)
       (λ range.
-      guarded _ FilterNotEarlier passed (FilterFacts place node)
-      (λ earlier. filter-facts place node ((optional-decides (length checked.diagnostic_filters) node.parent).0 range)
-      ((optional-decides place node.parent).0 earlier))
-      (λ fails. not_from_Decides _ (optional-decides place node.parent) fails))
+      guarded _ FilterNotEarlier no_fault (FilterFacts position node)
+      (λ earlier. filter-facts position node ((optional-decides (length checked.diagnostic_filters) node.parent).0 range)
+      ((optional-decides position node.parent).0 earlier))
+      (λ fails. not_from_Decides _ (optional-decides position node.parent) fails))
       (λ fails. not_from_Decides _ (optional-decides (length checked.diagnostic_filters) node.parent) fails)
 
   callee-there : (locals : List LocalVariable) (arguments : List FunctionArgument) (expression : Expression) →
@@ -173,38 +173,39 @@ module _ (checked : Module) where
     abbrev pub ExpressionFacts : ℕ → Expression → ModuleFault → Type 0
     ExpressionFacts = ExpressionLacks checked earlier locals arguments expressions
 
-    expression-facts : (place : ℕ) (expression : Expression) →
-        ExpressionInRange checked (context_of checked locals arguments) expressions expression → OperandsBelow place expression
-        → IfSome (expression_callee expression) (IsEarlier checked earlier) → (fault : ModuleFault) → ExpressionFacts place expression fault
-    expression-facts place expression range operands callee HandleOutOfRange = range
-    expression-facts place expression range operands callee OperandNotEarlier = operands
-    expression-facts place expression range operands callee CalleeNotEarlier = callee
-    expression-facts place expression range operands callee fault = tt
+    expression-facts : (position : ℕ) (expression : Expression) →
+        ExpressionInRange checked (context_of checked locals arguments) expressions expression → OperandsBelow position expression
+        → IfSome (expression_callee expression) (IsEarlier checked earlier) → (fault : ModuleFault) →
+        ExpressionFacts position expression fault
+    expression-facts position expression range operands callee HandleOutOfRange = range
+    expression-facts position expression range operands callee OperandNotEarlier = operands
+    expression-facts position expression range operands callee CalleeNotEarlier = callee
+    expression-facts position expression range operands callee fault = tt
 
-    pub expression-sound : (place : ℕ) (expression : Expression)
-        → Sound (check_expression checked (record { earlier = earlier; locals = length locals; expressions = length expressions }) place
-        expression) (ExpressionFacts place expression)
-    expression-sound place expression =
-        guarded _ HandleOutOfRange _ (ExpressionFacts place expression)
+    pub expression-sound : (position : ℕ) (expression : Expression)
+        → Sound (check_expression checked (record { earlier = earlier; locals = length locals; expressions = length expressions }) position
+        expression) (ExpressionFacts position expression)
+    expression-sound position expression =
+        guarded _ HandleOutOfRange _ (ExpressionFacts position expression)
         (λ range.
         let in_range = (expression-decides checked locals arguments expressions expression).0 range in
         let decides = callee-decides checked earlier (expression_callee expression)
         (callee-there locals arguments expression in_range.names) in
-        guarded _ OperandNotEarlier _ (ExpressionFacts place expression)
+        guarded _ OperandNotEarlier _ (ExpressionFacts position expression)
         (λ operands.
-        guarded _ CalleeNotEarlier passed (ExpressionFacts place expression)
-        (λ callee. expression-facts place expression in_range ((operands-decide place (expression_operands expression)).0 operands)
+        guarded _ CalleeNotEarlier no_fault (ExpressionFacts position expression)
+        (λ callee. expression-facts position expression in_range ((operands-decide position (expression_operands expression)).0 operands)
         (decides.0 callee))
         (λ fails. not_from_Decides _ decides fails))
-        (λ fails. not_from_Decides _ (operands-decide place (expression_operands expression)) fails))
+        (λ fails. not_from_Decides _ (operands-decide position (expression_operands expression)) fails))
         (λ fails. not_from_Decides _ (expression-decides checked locals arguments expressions expression) fails)
 
   abbrev pub ArgumentFacts : FunctionArgument → ModuleFault → Type 0
-  ArgumentFacts argument HandleOutOfRange = IsType checked argument.ty
+  ArgumentFacts argument HandleOutOfRange = IsModuleType checked argument.ty
   ArgumentFacts argument ValuePointerArgument = IsNoValuePointerArgument checked argument
   ArgumentFacts argument _ = Unit {0}
 
-  argument-facts : (argument : FunctionArgument) → IsType checked argument.ty → IsNoValuePointerArgument checked argument →
+  argument-facts : (argument : FunctionArgument) → IsModuleType checked argument.ty → IsNoValuePointerArgument checked argument →
       (fault : ModuleFault) → ArgumentFacts argument fault
   argument-facts argument range pointer HandleOutOfRange = range
   argument-facts argument range pointer ValuePointerArgument = pointer
@@ -214,7 +215,7 @@ module _ (checked : Module) where
   argument-sound argument =
       guarded _ HandleOutOfRange _ (ArgumentFacts argument)
       (λ range.
-      guarded _ ValuePointerArgument passed (ArgumentFacts argument)
+      guarded _ ValuePointerArgument no_fault (ArgumentFacts argument)
       (λ pointer. argument-facts argument ((Decides-ltb argument.ty (length checked.types)).0 range)
       ((argument-decides checked argument).0 pointer))
       (λ fails. not_from_Decides _ (argument-decides checked argument) fails))
@@ -243,7 +244,7 @@ module _ (checked : Module) where
         (λ callee.
         guarded _ ArgumentCount _ (StatementFacts step)
         (λ count.
-        guarded _ EmitRange passed (StatementFacts step)
+        guarded _ EmitRange no_fault (StatementFacts step)
         (λ emits. statement-facts step in_range (decides.0 callee) ((counts-decide checked step).0 count)
         ((emits-decide (length function.expressions) step).0 emits))
         (λ fails. not_from_Decides _ (emits-decide (length function.expressions) step) fails))
@@ -260,11 +261,11 @@ module _ (checked : Module) where
     FunctionFacts EmitRange = All (EmitsBelow (length function.expressions)) (statements function.body)
     FunctionFacts _ = Unit {0}
 
-    -- the facts of what is checked after the other handles
+    -- the facts of the checks after those of the other handles
     abbrev PartFacts : ModuleFault → Type 0
     PartFacts fault =
         All (λ (argument : FunctionArgument). ArgumentFacts argument fault) function.arguments
-        × (AtEach (λ place expression. ExpressionFacts earlier function.local_variables function.arguments function.expressions place
+        × (AtEach (λ position expression. ExpressionFacts earlier function.local_variables function.arguments function.expressions position
         expression fault) function.expressions
         × All (λ (step : Step). StatementFacts step fault) (statements function.body))
 
@@ -273,7 +274,7 @@ module _ (checked : Module) where
       arguments = parts.0;
       result = others.result;
       locals = others.locals;
-      expressions = all-places (ExpressionInRange checked (context_of checked function.local_variables function.arguments)
+      expressions = all-positions (ExpressionInRange checked (context_of checked function.local_variables function.arguments)
           function.expressions) function.expressions parts.1.0;
       named = others.named;
       filter = others.filter;
@@ -281,7 +282,8 @@ module _ (checked : Module) where
     }
     function-facts others OperandNotEarlier parts = parts.1.0
     function-facts others CalleeNotEarlier parts = record {
-      results = all-places (λ expression. IfSome (expression_callee expression) (IsEarlier checked earlier)) function.expressions parts.1.0;
+      results = all-positions (λ expression. IfSome (expression_callee expression) (IsEarlier checked earlier)) function.expressions
+          parts.1.0;
       calls = parts.1.1;
     }
     function-facts others ArgumentCount parts = parts.1.1
@@ -293,25 +295,25 @@ module _ (checked : Module) where
     part-facts HandleOutOfRange is = (
       is.arguments,
       (
-        each-place (ExpressionInRange checked (context_of checked function.local_variables function.arguments) function.expressions)
+        each-position (ExpressionInRange checked (context_of checked function.local_variables function.arguments) function.expressions)
             function.expressions is.expressions,
         is.statements,
       ),
     )
-    part-facts TypeNotEarlier is = (any-item function.arguments, (any-place function.expressions, any-item (statements function.body)))
+    part-facts TypeNotEarlier is = (any-item function.arguments, (any-position function.expressions, any-item (statements function.body)))
     part-facts OperandNotEarlier is = (any-item function.arguments, (is, any-item (statements function.body)))
     part-facts CalleeNotEarlier is = (
       any-item function.arguments,
       (
-        each-place (λ expression. IfSome (expression_callee expression) (IsEarlier checked earlier)) function.expressions
+        each-position (λ expression. IfSome (expression_callee expression) (IsEarlier checked earlier)) function.expressions
             is.results,
         is.calls,
       ),
     )
-    part-facts ArgumentCount is = (any-item function.arguments, (any-place function.expressions, is))
-    part-facts FilterNotEarlier is = (any-item function.arguments, (any-place function.expressions, any-item (statements function.body)))
-    part-facts ValuePointerArgument is = (is, (any-place function.expressions, any-item (statements function.body)))
-    part-facts EmitRange is = (any-item function.arguments, (any-place function.expressions, is))
+    part-facts ArgumentCount is = (any-item function.arguments, (any-position function.expressions, is))
+    part-facts FilterNotEarlier is = (any-item function.arguments, (any-position function.expressions, any-item (statements function.body)))
+    part-facts ValuePointerArgument is = (is, (any-position function.expressions, any-item (statements function.body)))
+    part-facts EmitRange is = (any-item function.arguments, (any-position function.expressions, is))
 
     pub body-sound : Sound (in_body (check_statement checked (bounds_of earlier function)) function.body)
         (λ fault. All (λ (step : Step). StatementFacts step fault) (statements function.body))
@@ -343,11 +345,11 @@ module _ (checked : Module) where
         (λ fails is. not_from_Decides _ (function-decides checked function) fails
         (record { result = is.result; locals = is.locals; named = is.named; filter = is.filter }))
 
-  -- the facts of what is checked after the handles of variables
+  -- the facts of the checks after those of the variables' handles
   abbrev RestFacts : ModuleFault → Type 0
   RestFacts fault =
-      AtEach (λ place type. TypeFacts place type fault) checked.types
-      × (AtEach (λ place node. FilterFacts place node fault) checked.diagnostic_filters)
+      AtEach (λ position type. TypeFacts position type fault) checked.types
+      × (AtEach (λ position node. FilterFacts position node fault) checked.diagnostic_filters)
 
   abbrev DataFacts : ModuleFault → Type 0
   DataFacts HandleOutOfRange = VariablesInRange checked × RestFacts HandleOutOfRange
@@ -366,16 +368,17 @@ module _ (checked : Module) where
       guarded _ HandleOutOfRange _ DataFacts
       (λ range.
       along _ RestFacts DataFacts (data-facts ((variables-decide checked).0 range)) rest-facts
-      (then-sound (in_arena (λ place type. check_type checked place type.inner) checked.types)
+      (then-sound (in_arena (λ position type. check_type checked position type.inner) checked.types)
       (in_arena (check_filter checked) checked.diagnostic_filters) _ _
-      (in_arena-sound (λ place type. check_type checked place type.inner) TypeFacts type-sound checked.types)
+      (in_arena-sound (λ position type. check_type checked position type.inner) TypeFacts type-sound checked.types)
       (in_arena-sound (check_filter checked) FilterFacts filter-sound checked.diagnostic_filters)))
       (λ fails both. not_from_Decides _ (variables-decide checked) fails both.0)
 
   abbrev AllFacts : ModuleFault → Type 0
   AllFacts fault =
       DataFacts fault
-      × (AtEach (λ place expression. ExpressionFacts 0 [] [] checked.global_expressions place expression fault) checked.global_expressions
+      × (AtEach (λ position expression. ExpressionFacts 0 [] [] checked.global_expressions position expression fault)
+      checked.global_expressions
       × (AtEach (λ earlier function. FunctionFacts earlier function fault) checked.functions
       × (All (λ (entry : EntryPoint). FunctionFacts (length checked.functions) entry.function fault) checked.entry_points)))
 
@@ -390,25 +393,25 @@ module _ (checked : Module) where
       (in_list-sound (check_entry_point checked) (λ entry. FunctionFacts (length checked.functions) entry.function)
       (λ entry. function-sound (length checked.functions) entry.function) checked.entry_points)))
 
-  backward : AtEach (λ place (type : «Type»). PointsBelow place type.inner) checked.types → IsBackward checked.types
+  backward : AtEach (λ position (type : «Type»). PointsBelow position type.inner) checked.types → IsBackward checked.types
   backward earlier = record {
-    in_range = λ place type at.
-        let lt = slice_get_within checked.types place type at in
-        All-weaker (λ handle. handle < place) (λ handle. handle < length checked.types) (λ handle below. omega arith)
-        (type_handles type.inner) (earlier place type at);
+    in_range = λ position type at.
+        let lt = slice_get_within checked.types position type at in
+        All-weaker (λ handle. handle < position) (λ handle. handle < length checked.types) (λ handle below. omega arith)
+        (type_handles type.inner) (earlier position type at);
     earlier = earlier;
   }
 
   lacks : (fault : ModuleFault) → AllFacts fault → Lacks checked fault
   lacks HandleOutOfRange all = record {
-    types = all-places (λ (type : «Type»). TypeInRange checked type.inner) checked.types all.0.1.0;
+    types = all-positions (λ (type : «Type»). TypeInRange checked type.inner) checked.types all.0.1.0;
     special_types = all.0.0.special_types;
     constants = all.0.0.constants;
     overrides = all.0.0.overrides;
     global_variables = all.0.0.global_variables;
-    global_expressions = all-places (ExpressionInRange checked (context_of checked [] []) checked.global_expressions)
+    global_expressions = all-positions (ExpressionInRange checked (context_of checked [] []) checked.global_expressions)
         checked.global_expressions all.1.0;
-    filters = all-places (λ (node : DiagnosticFilterNode). IfSome node.parent (λ parent. parent < length checked.diagnostic_filters))
+    filters = all-positions (λ (node : DiagnosticFilterNode). IfSome node.parent (λ parent. parent < length checked.diagnostic_filters))
         checked.diagnostic_filters all.0.1.1;
     functions = record { functions = all.1.1.0; entry_points = all.1.1.1 };
   }
@@ -419,7 +422,7 @@ module _ (checked : Module) where
         record { functions = all.1.1.0; entry_points = all.1.1.1 };
   }
   lacks CalleeNotEarlier all = record {
-    global_expressions = all-places (λ expression. IfSome (expression_callee expression) (IsEarlier checked 0))
+    global_expressions = all-positions (λ expression. IfSome (expression_callee expression) (IsEarlier checked 0))
         checked.global_expressions all.1.0;
     functions = record { functions = all.1.1.0; entry_points = all.1.1.1 };
   }
@@ -428,9 +431,9 @@ module _ (checked : Module) where
   lacks ValuePointerArgument all = record { functions = all.1.1.0; entry_points = all.1.1.1 }
   lacks EmitRange all = record { functions = all.1.1.0; entry_points = all.1.1.1 }
 
-  no-data : AtEach (λ place (type : «Type»). Unit {0}) checked.types ×
-      (AtEach (λ place (node : DiagnosticFilterNode). Unit {0}) checked.diagnostic_filters)
-  no-data = (any-place checked.types, any-place checked.diagnostic_filters)
+  no-data : AtEach (λ position (type : «Type»). Unit {0}) checked.types ×
+      (AtEach (λ position (node : DiagnosticFilterNode). Unit {0}) checked.diagnostic_filters)
+  no-data = (any-position checked.types, any-position checked.diagnostic_filters)
 
   facts : (fault : ModuleFault) → Lacks checked fault → AllFacts fault
   facts HandleOutOfRange is = (
@@ -443,38 +446,40 @@ module _ (checked : Module) where
             is.global_variables;
       },
       (
-        each-place (λ (type : «Type»). TypeInRange checked type.inner) checked.types is.types,
-        each-place (λ (node : DiagnosticFilterNode). IfSome node.parent (λ parent. parent < length checked.diagnostic_filters))
+        each-position (λ (type : «Type»). TypeInRange checked type.inner) checked.types is.types,
+        each-position (λ (node : DiagnosticFilterNode). IfSome node.parent (λ parent. parent < length checked.diagnostic_filters))
             checked.diagnostic_filters is.filters,
       ),
     ),
     (
-      each-place (ExpressionInRange checked (context_of checked [] []) checked.global_expressions) checked.global_expressions
+      each-position (ExpressionInRange checked (context_of checked [] []) checked.global_expressions) checked.global_expressions
           is.global_expressions,
       (is.functions.functions, is.functions.entry_points),
     ),
   )
   facts TypeNotEarlier is = (
-    (is.earlier, any-place checked.diagnostic_filters),
+    (is.earlier, any-position checked.diagnostic_filters),
     (
-      any-place checked.global_expressions,
-      (any-place checked.functions, any-item checked.entry_points),
+      any-position checked.global_expressions,
+      (any-position checked.functions, any-item checked.entry_points),
     ),
   )
   facts OperandNotEarlier is = (no-data, (is.global_expressions, (is.functions.functions, is.functions.entry_points)))
   facts CalleeNotEarlier is = (
     no-data,
     (
-      each-place (λ expression. IfSome (expression_callee expression) (IsEarlier checked 0)) checked.global_expressions
+      each-position (λ expression. IfSome (expression_callee expression) (IsEarlier checked 0)) checked.global_expressions
           is.global_expressions,
       (is.functions.functions, is.functions.entry_points),
     ),
   )
-  facts ArgumentCount is = (no-data, (any-place checked.global_expressions, (is.functions, is.entry_points)))
-  facts FilterNotEarlier is =
-      ((any-place checked.types, is), (any-place checked.global_expressions, (any-place checked.functions, any-item checked.entry_points)))
-  facts ValuePointerArgument is = (no-data, (any-place checked.global_expressions, (is.functions, is.entry_points)))
-  facts EmitRange is = (no-data, (any-place checked.global_expressions, (is.functions, is.entry_points)))
+  facts ArgumentCount is = (no-data, (any-position checked.global_expressions, (is.functions, is.entry_points)))
+  facts FilterNotEarlier is = (
+    (any-position checked.types, is),
+    (any-position checked.global_expressions, (any-position checked.functions, any-item checked.entry_points)),
+  )
+  facts ValuePointerArgument is = (no-data, (any-position checked.global_expressions, (is.functions, is.entry_points)))
+  facts EmitRange is = (no-data, (any-position checked.global_expressions, (is.functions, is.entry_points)))
 
   pub module-sound : Sound (check_module checked) (Lacks checked)
   module-sound = along (check_module checked) AllFacts (Lacks checked) lacks facts all-sound
@@ -489,7 +494,7 @@ module _ (checked : Module) where
   each-lack is ValuePointerArgument = is.arguments
   each-lack is EmitRange = is.emits
 
-  -- it is Ok exactly where the module is well formed
+  -- the result is Ok exactly if the module is well formed
   pub ok-decides : (answer : Checked) → Sound answer (Lacks checked) → IsOk answer ↔ IsWellFormed checked
   ok-decides (Ok nothing) sound = (
     λ any.
@@ -507,7 +512,7 @@ module _ (checked : Module) where
   )
   ok-decides (Err failure) sound = (λ none. absurd (cc), λ is. absurd (sound (each-lack is failure)))
 
-  -- a fault that is answered stands
-  pub fault-stands : (answer : Checked) → Sound answer (Lacks checked) → IfErr answer (Stands checked)
-  fault-stands (Ok nothing) sound = tt
-  fault-stands (Err failure) sound = sound
+  -- a returned violation occurs in the module
+  pub fault-is_there : (answer : Checked) → Sound answer (Lacks checked) → IfErr answer (ModuleHasFault checked)
+  fault-is_there (Ok nothing) sound = tt
+  fault-is_there (Err failure) sound = sound

@@ -1,4 +1,4 @@
--- How deep a body is, and what the tests of a module's bodies decide.
+-- The depth of a body, and what the tests of a module's bodies decide.
 use Rattle.std.proofs.Common.{◌≡◌, ℕ, ◌≤◌, Bool, ◌&&◌, nat_le, arith}
 use Rattle.std.specs.Bool.{Decides}
 use Rattle.std.specs.List.{list_all}
@@ -21,12 +21,12 @@ within-decides deep levels = (λ e. grind (arith, nat_tests), λ h. grind (arith
 
 module _ (levels : ℕ) (nested : Module) where
   abbrev pub functions_within : Bool
-  functions_within = every (λ place function. nat_le (depth function.body) levels) nested.functions
+  functions_within = every (λ position function. nat_le (depth function.body) levels) nested.functions
 
   abbrev pub entry_points_within : Bool
   entry_points_within = list_all (λ entry. nat_le (depth entry.function.body) levels) nested.entry_points
 
-  -- so does any answer that joins both tests
+  -- any answer that conjoins both tests decides the same
   pub nesting-decides : (answer : Bool) → answer ≡ (functions_within && entry_points_within) → Decides answer (NestsWithin levels nested)
   nesting-decides answer joins =
       Decides-at _ _ joins (like _

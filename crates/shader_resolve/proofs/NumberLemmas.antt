@@ -1,4 +1,4 @@
--- Where known numbers and sizes are looked for.
+-- The handles that determine known numbers and sizes.
 use Rattle.std.proofs.Common.{sym, subst, ℕ, zero, suc, ◌<◌, List, [], ◌∷◌, Option}
 use Rattle.std.proofs.Common.{Some, None, IfSome, All, length, slice_get, arith}
 use Rattle.std.specs.Option.{IsSomeAnd}
@@ -20,20 +20,20 @@ use Rattle.shader_ir.specs.declared.types.TypeInner.TheVariants.{Array}
 use Rattle.shader_resolve.specs.ContextLaws.{IsCtxOf, NumbersFit}
 use Rattle.shader_resolve.specs.WellFormed.{pending_size, sizing_override}
 
--- what holds of each item holds of the one found at a place below the length
-found : {T : Type 0} (P : T → Type 0) (items : List T) (place : ℕ) → All P items → place < length items →
-    IsSomeAnd (slice_get items place) P
-found P [] place all lt = absurd (omega arith)
+-- a property of each item holds of the one at a position below the length
+found : {T : Type 0} (P : T → Type 0) (items : List T) (position : ℕ) → All P items → position < length items →
+    IsSomeAnd (slice_get items position) P
+found P [] position all lt = absurd (omega arith)
 found P (item ∷ items) zero all lt = All-head P item items all
-found P (item ∷ items) (suc place) all lt = found P items place (All-tail P item items all) (omega arith)
+found P (item ∷ items) (suc position) all lt = found P items position (All-tail P item items all) (omega arith)
 
--- what a global expression names of constants and overrides is there
+-- the constants and overrides that a global expression names are in range
 abbrev pub IsStep : List Constant → List Override → Expression → Type 0
 IsStep constants overrides (form.Constant constant) = constant < length constants
 IsStep constants overrides (form.Override override) = override < length overrides
 IsStep constants overrides _ = Unit {0}
 
--- what numbers are looked for through is there
+-- the handles that determine known numbers are in range
 pub record Numbered (types : List «Type») (constants : List Constant) (overrides : List Override)
     (expressions : List Expression) : Type 0 where
   pub sizes : All (λ (type : «Type»). IfSome (sizing_override type.inner) (λ override. override < length overrides)) types
@@ -99,7 +99,7 @@ module _ (ctx : GlobalCtx) (numbered : Numbered ctx.types.now ctx.constants.now 
   type-in (Array base size stride) lt = count-in size lt
   type-in inner any = tt
 
-  -- the override that sizes a type is there
+  -- the override that sizes a type is in range
   abbrev IsSized : «Type» → Type 0
   IsSized type = IfSome (sizing_override type.inner) (λ override. override < length ctx.overrides.now)
 
@@ -112,7 +112,7 @@ module _ (ctx : GlobalCtx) (numbered : Numbered ctx.types.now ctx.constants.now 
         numbered.sizes;
   }
 
--- so it is in a context that holds a module's parts
+-- the handles are in range in a context of a module's fields
 pub module-numbers : (checked : Module) → Numbered checked.types checked.constants checked.overrides checked.global_expressions →
     (ctx : GlobalCtx) → IsCtxOf checked ctx → NumbersFit ctx
 module-numbers checked numbered ctx is =

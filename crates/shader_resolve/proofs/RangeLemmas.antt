@@ -1,9 +1,9 @@
--- The greatest place of a range is its last.
+-- The greatest position of a range is its last.
 use Rattle.std.proofs.Common.{◌≡◌, ◌∙◌, ap, sym, refl, ℕ, zero, suc, ◌+◌, ◌-◌, ◌≤◌, nat_lt}
 use Rattle.std.proofs.Common.{Bool, true, false, cond, ◌&&◌, Option, Some, None, arith}
 use Rattle.std.specs.List.{list_all}
 use Rattle.std.proofs.lemmas.Bool.{lt-ltb, le-ltb, ltb-true}
-use Rattle.shader_arena.specs.Places.{places_from, places_between, ends_between}
+use Rattle.shader_arena.specs.Positions.{positions_from, positions_between, ends_between}
 
 and-true : (b : Bool) → (b && true) ≡ b
 and-true true = refl
@@ -20,25 +20,25 @@ later-decides first second bound le = by (nat_lt second bound) refl
     by true e = let lt = ltb-true second bound e in ap (λ b. b && true) (lt-ltb first bound (omega arith))
     by false e = and-false (nat_lt first bound)
 
-from-below : (bound n first : ℕ) → list_all (λ place. nat_lt place bound) (places_from first (suc n)) ≡ nat_lt (first + n) bound
+from-below : (bound n first : ℕ) → list_all (λ position. nat_lt position bound) (positions_from first (suc n)) ≡ nat_lt (first + n) bound
 from-below bound zero first =
     let same : first ≡ first + 0 = omega arith in
-    and-true (nat_lt first bound) ∙ ap (λ place. nat_lt place bound) same
+    and-true (nat_lt first bound) ∙ ap (λ position. nat_lt position bound) same
 from-below bound (suc n) first =
     let same : first + 1 + n ≡ first + suc n = omega arith in
     ap (λ b. nat_lt first bound && b) (from-below bound n (first + 1))
-    ∙ later-decides first (first + 1 + n) bound (omega arith) ∙ ap (λ place. nat_lt place bound) same
+    ∙ later-decides first (first + 1 + n) bound (omega arith) ∙ ap (λ position. nat_lt position bound) same
 
--- whether the last place, where there is one, is below a bound
+-- whether the last position, if any, is below a bound
 abbrev pub last_below : ℕ → Option (ℕ × ℕ) → Bool
 last_below bound (Some ends) = nat_lt ends.1 bound
 last_below bound None = true
 
-pub places_below : (bound start end : ℕ) → list_all (λ place. nat_lt place bound) (places_between start end)
+pub positions_below : (bound start end : ℕ) → list_all (λ position. nat_lt position bound) (positions_between start end)
     ≡ last_below bound (ends_between start end)
-places_below bound start end = by (end - start) refl
+positions_below bound start end = by (end - start) refl
   where
-    by : (count : ℕ) → end - start ≡ count → list_all (λ place. nat_lt place bound) (places_from start count)
+    by : (count : ℕ) → end - start ≡ count → list_all (λ position. nat_lt position bound) (positions_from start count)
         ≡ last_below bound (ends_between start end)
     by zero e =
         let none : nat_lt start end ≡ false = le-ltb start end (omega arith) in
@@ -46,5 +46,5 @@ places_below bound start end = by (end - start) refl
     by (suc n) e =
         let some : nat_lt start end ≡ true = lt-ltb start end (omega arith) in
         let last : start + n ≡ end - 1 = omega arith in
-        from-below bound n start ∙ ap (λ place. nat_lt place bound) last
+        from-below bound n start ∙ ap (λ position. nat_lt position bound) last
         ∙ ap (λ test. last_below bound (cond test (Some (start, end - 1)) None)) (sym some)

@@ -1,10 +1,10 @@
--- What the tests of a module's parts decide.
+-- What the checks of a module's items decide.
 use Rattle.std.proofs.Common.{◌≡◌, ap, refl, ℕ, ◌+◌, ◌<◌, Bool, ◌&&◌, not, List, [], ◌∷◌}
 use Rattle.std.proofs.Common.{Option, Some, None, IfSome, All, length, slice_get, nat_lt}
 use Rattle.std.specs.Bool.{Decides}
 use Rattle.std.specs.List.{list_all, enumerate_from}
 use Rattle.std.proofs.lemmas.Bool.Decides.{Decides-and, Decides-at, Decides-by_and, Decides-eqb, Decides-ltb}
-use Rattle.shader_arena.specs.Places.{places_between}
+use Rattle.shader_arena.specs.Positions.{positions_between}
 use Rattle.shader_ir.specs.Body.{Emit, Call, Step, Leaf}
 use Rattle.shader_ir.specs.Operands.{expression_operands, statement_operands}
 use Rattle.shader_ir.specs.TypeTree.{type_handles}
@@ -29,14 +29,14 @@ use Rattle.shader_resolve.specs.Context.{context_of, IsInRange}
 use Rattle.shader_resolve.specs.ModuleTests.{all_below, constant_in_range, counts_match, every, every_entry, function_in_range}
 use Rattle.shader_resolve.specs.ModuleTests.{global_in_range, is_below, is_emitted, is_pointer_type, is_value_pointer, local_in_range}
 use Rattle.shader_resolve.specs.ModuleTests.{names_in_range, operands_below, override_in_range, result_in_range, special_in_range}
-use Rattle.shader_resolve.specs.ModuleTests.{statement_in_range, takes, variables_in_range}
+use Rattle.shader_resolve.specs.ModuleTests.{statement_in_range, takes_arguments, variables_in_range}
 use Rattle.shader_resolve.specs.Statements.{statement_callee, statement_result}
 use Rattle.shader_resolve.specs.WellFormed.{AllBelow, sizing_override, ConstantInRange, CountMatches}
 use Rattle.shader_resolve.specs.WellFormed.{EmitsBelow, ExpressionInRange, GlobalInRange, IsEarlier, IsNoValuePointerArgument}
-use Rattle.shader_resolve.specs.WellFormed.{IsNoValuePointer, IsType, LocalInRange, OverrideInRange}
+use Rattle.shader_resolve.specs.WellFormed.{IsNoValuePointer, IsModuleType, LocalInRange, OverrideInRange}
 use Rattle.shader_resolve.specs.WellFormed.{SpecialTypesInRange, StatementInRange, TypeInRange}
 
--- a test decides what follows from what it decides, both ways
+-- a test of one fact is a test of any equivalent fact
 pub like : {P Q : Type 0} (test : Bool) → Decides test P → (P → Q) → (Q → P) → Decides test Q
 like test decides to from = (λ e. to (decides.0 e), λ q. decides.1 (from q))
 
@@ -45,12 +45,12 @@ pub all-decides : {T : Type 0} (test : T → Bool) (P : T → Type 0) → ((item
 all-decides test P each items = Decides-by_and test P (list_all test) each refl (λ _ _. refl) items
 
 every-from : {T : Type 0} (test : T → Bool) (first : ℕ) (items : List T) →
-    every_entry (λ place item. test item) (enumerate_from first items) ≡ list_all test items
+    every_entry (λ position item. test item) (enumerate_from first items) ≡ list_all test items
 every-from test first [] = refl
 every-from test first (item ∷ items) = ap (λ rest. test item && rest) (every-from test (first + 1) items)
 
 pub every-decides : {T : Type 0} (test : T → Bool) (P : T → Type 0) → ((item : T) → Decides (test item) (P item)) → (items : List T) →
-    Decides (every (λ place item. test item) items) (All P items)
+    Decides (every (λ position item. test item) items) (All P items)
 every-decides test P each items = Decides-at _ _ (every-from test 0 items) (all-decides test P each items)
 
 pub optional-decides : (bound : ℕ) (found : Option ℕ) → Decides (is_below bound found) (IfSome found (λ handle. handle < bound))
@@ -67,7 +67,7 @@ operands-decide bound operands =
     (λ operand. Decides-ltb operand.0 bound) operands
 
 pub emits-decide : (bound : ℕ) (step : Step) → Decides (is_emitted bound step) (EmitsBelow bound step)
-emits-decide bound (Leaf (Emit start end)) = handles-decide bound (places_between start end)
+emits-decide bound (Leaf (Emit start end)) = handles-decide bound (positions_between start end)
 emits-decide bound step = (λ e. tt, λ any. refl)
 
 pointer-decides : (inner : TypeInner) → Decides (not (is_value_pointer inner)) (IsNoValuePointer inner)
@@ -78,10 +78,10 @@ pointer_type-decides : (type : Option «Type») → Decides (not (is_pointer_typ
 pointer_type-decides (Some type) = pointer-decides type.inner
 pointer_type-decides None = (λ e. tt, λ any. refl)
 
-takes-decides : (function : Option Function) (count : ℕ) →
-    Decides (takes function count) (IfSome function (λ callee. length callee.arguments ≡ count))
-takes-decides (Some function) count = Decides-eqb (length function.arguments) count
-takes-decides None count = (λ e. tt, λ any. refl)
+takes_arguments-decides : (function : Option Function) (count : ℕ) →
+    Decides (takes_arguments function count) (IfSome function (λ callee. length callee.arguments ≡ count))
+takes_arguments-decides (Some function) count = Decides-eqb (length function.arguments) count
+takes_arguments-decides None count = (λ e. tt, λ any. refl)
 
 module _ (checked : Module) where
   pub argument-decides : (argument : FunctionArgument) → Decides (not (is_pointer_type (slice_get checked.types argument.ty)))
@@ -89,7 +89,7 @@ module _ (checked : Module) where
   argument-decides argument = pointer_type-decides (slice_get checked.types argument.ty)
 
   pub counts-decide : (step : Step) → Decides (counts_match checked step) (CountMatches checked step)
-  counts-decide (Leaf (Call function arguments result)) = takes-decides (slice_get checked.functions function) (length arguments)
+  counts-decide (Leaf (Call function arguments result)) = takes_arguments-decides (slice_get checked.functions function) (length arguments)
   counts-decide step = (λ e. tt, λ any. refl)
 
   pub type-decides : (inner : TypeInner) → Decides (all_below (length checked.types) (type_handles inner)
@@ -105,7 +105,7 @@ module _ (checked : Module) where
       (Decides-and _ _ (optional-decides (length checked.types) special.ray_intersection)
       (Decides-and _ _ (optional-decides (length checked.types) special.ray_vertex_return)
       (all-decides (λ (entry : PredeclaredType × ℕ). nat_lt entry.1 (length checked.types))
-      (λ (entry : PredeclaredType × ℕ). IsType checked entry.1)
+      (λ (entry : PredeclaredType × ℕ). IsModuleType checked entry.1)
       (λ entry. Decides-ltb entry.1 (length checked.types)) special.predeclared_types)))
       (λ both. record { ray_intersection = both.0; ray_vertex_return = both.1.0; predeclared = both.1.1 })
       (λ is. (is.ray_intersection, (is.ray_vertex_return, is.predeclared)))
@@ -128,7 +128,7 @@ module _ (checked : Module) where
       (optional-decides (length checked.global_expressions) variable.init))
       (λ both. record { ty = both.0; init = both.1 }) (λ is. (is.ty, is.init))
 
-  -- what special types, constants, overrides and variables name is there
+  -- everything that special types, constants, overrides and variables name is in range
   pub record VariablesInRange : Type 0 where
     pub special_types : SpecialTypesInRange checked checked.special_types
     pub constants : All (ConstantInRange checked) checked.constants
@@ -168,14 +168,14 @@ module _ (checked : Module) where
       (names-decide locals arguments expression))
       (λ both. record { operands = both.0; names = both.1 }) (λ is. (is.operands, is.names))
 
-  -- where a callee is there, its place decides whether it is earlier
+  -- if a callee is in range, its position decides whether it is earlier
   pub callee-decides : (earlier : ℕ) (callee : Option ℕ) → IfSome callee (λ callee. callee < length checked.functions)
       → Decides (is_below earlier callee) (IfSome callee (IsEarlier checked earlier))
   callee-decides earlier (Some callee) there = like _ (Decides-ltb callee earlier) (λ lt any. lt) (λ is. is there)
   callee-decides earlier None there = (λ e. tt, λ any. refl)
 
   result-decides : (result : Option FunctionResult) → Decides (result_in_range checked result)
-      (IfSome result (λ (result : FunctionResult). IsType checked result.ty))
+      (IfSome result (λ (result : FunctionResult). IsModuleType checked result.ty))
   result-decides (Some result) = Decides-ltb result.ty (length checked.types)
   result-decides None = (λ e. tt, λ any. refl)
 
@@ -186,9 +186,10 @@ module _ (checked : Module) where
       (optional-decides (length function.expressions) variable.init))
       (λ both. record { ty = both.0; init = both.1 }) (λ is. (is.ty, is.init))
 
-  -- the handles of a function, those of its arguments, expressions and statements aside
+  -- the handles of a function are in range, except those of its arguments, expressions and
+  -- statements
   pub record OthersInRange (function : Function) : Type 0 where
-    pub result : IfSome function.result (λ (result : FunctionResult). IsType checked result.ty)
+    pub result : IfSome function.result (λ (result : FunctionResult). IsModuleType checked result.ty)
     pub locals : All (LocalInRange checked function) function.local_variables
     pub named : All (λ (entry : ℕ × Name). entry.0 < length function.expressions) function.named_expressions
     pub filter : IfSome function.diagnostic_filter_leaf (λ filter. filter < length checked.diagnostic_filters)

@@ -1,4 +1,4 @@
--- Equal types of operands give equal types.
+-- Laws: equal types of operands give equal types.
 use Rattle.std.specs.Prelude.{ℕ, ◌≡◌, List, Option, Result, Ok, Err}
 use Rattle.shader_ir.specs.declared.expression.Expression.{Expression}
 use Rattle.shader_ir.specs.declared.types.«Type».{«Type»}
@@ -6,14 +6,14 @@ use Rattle.shader_ir.specs.declared.proc.type_resolution.TypeResolution.{TypeRes
 use Rattle.shader_ir.specs.Key.{Key, key_of}
 use Rattle.shader_resolve.specs.declared.error.ResolveError.{ResolveError}
 use Rattle.shader_resolve.specs.Context.{Context}
-use Rattle.shader_resolve.specs.Follows.{Told, EachAsked, Follows, memory_of}
-use Rattle.shader_resolve.specs.Outcome.{Memory, WantsForType}
-use Rattle.shader_resolve.specs.Rows.{Row, Plain, One, Two, row}
+use Rattle.shader_resolve.specs.DerivesByRule.{OperandAnswer, EachQueried, DerivesByRule, memory_of}
+use Rattle.shader_resolve.specs.Outcome.{Memory, IsOutOfMemoryForType}
+use Rattle.shader_resolve.specs.TypingRules.{TypingRule, Plain, One, Two, typing_rule}
 use Rattle.shader_resolve.specs.Typing.{outcome_key, typing}
 
 module _ (types : List «Type») where
-  -- at operands of equal keys the row gives types of equal keys, or refuses under both
-  abbrev pub Respects : Row → Type 0
+  -- the typing rule gives types of equal keys at operands of equal keys, or rejects in both cases
+  abbrev pub Respects : TypingRule → Type 0
   Respects (Plain outcome) = Unit {0}
   Respects (One operand answer) = (first second : TypeResolution) → key_of types first ≡ key_of types second →
       outcome_key types (answer first) ≡ outcome_key types (answer second)
@@ -21,40 +21,41 @@ module _ (types : List «Type») where
       key_of types third ≡ key_of types fourth
       → outcome_key types (answer first third) ≡ outcome_key types (answer second fourth)
 
-  -- both are told to be of equal keys, or both are refused
-  abbrev pub AreToldAlike : Told → Told → Type 0
-  AreToldAlike (Ok first) (Ok second) = key_of types first.now ≡ key_of types second.now
-  AreToldAlike (Err failure) (Err other) = Unit {0}
-  AreToldAlike _ _ = ⊥
+  -- both operands have types of equal keys, or both are errors
+  abbrev pub AnswersHaveEqualKeys : OperandAnswer → OperandAnswer → Type 0
+  AnswersHaveEqualKeys (Ok first) (Ok second) = key_of types first.now ≡ key_of types second.now
+  AnswersHaveEqualKeys (Err failure) (Err other) = Unit {0}
+  AnswersHaveEqualKeys _ _ = ⊥
 
-  -- what the two closures tell of each operand that the row asks is alike
-  abbrev pub TellAlike : (Post Other : ℕ → Told → Type 0) → Row → Type 0
-  TellAlike Post Other asked = EachAsked (λ operand. (told other : Told) → Post operand told → Other operand other →
-      AreToldAlike told other) asked
+  -- the two closures return equal keys, or both errors, for each operand that the rule queries
+  abbrev pub OperandsHaveEqualKeys : (Post Other : ℕ → OperandAnswer → Type 0) → TypingRule → Type 0
+  OperandsHaveEqualKeys Post Other queried =
+      EachQueried (λ operand. (reported other : OperandAnswer) → Post operand reported → Other operand other →
+      AnswersHaveEqualKeys reported other) queried
 
-  -- both are of equal keys, or both are errors; one alone is an error where memory is taken for the type and ran out
-  abbrev pub AreAlike : Memory → Result TypeResolution ResolveError → Result TypeResolution ResolveError → Type 0
-  AreAlike memory (Ok first) (Ok second) = key_of types first ≡ key_of types second
-  AreAlike memory (Err failure) (Err other) = Unit {0}
-  AreAlike memory (Ok resolution) (Err failure) = WantsForType memory failure
-  AreAlike memory (Err failure) (Ok resolution) = WantsForType memory failure
+  -- both results have equal keys, or both are errors; one alone may be out of memory if the rule allocates for the type
+  abbrev pub HaveEqualKeys : Memory → Result TypeResolution ResolveError → Result TypeResolution ResolveError → Type 0
+  HaveEqualKeys memory (Ok first) (Ok second) = key_of types first ≡ key_of types second
+  HaveEqualKeys memory (Err failure) (Err other) = Unit {0}
+  HaveEqualKeys memory (Ok resolution) (Err failure) = IsOutOfMemoryForType memory failure
+  HaveEqualKeys memory (Err failure) (Ok resolution) = IsOutOfMemoryForType memory failure
 
--- equal keys at the operands that are asked give an equal key, or none under both
+-- equal keys of the queried operands give an equal key, or none in both cases
 abbrev pub KeysRestOnKeys : Type 0
 KeysRestOnKeys =
     (context : Context) (expression : Expression) (keys others : ℕ → Option Key)
-    → EachAsked (λ operand. keys operand ≡ others operand) (row context expression)
+    → EachQueried (λ operand. keys operand ≡ others operand) (typing_rule context expression)
     → typing context keys expression ≡ typing context others expression
 
--- so do the rows, form by form, at what operands are told to be
-abbrev pub RowsRespectKeys : Type 0
-RowsRespectKeys = (context : Context) (expression : Expression) → Respects context.types (row context expression)
+-- each typing rule respects keys
+abbrev pub RulesRespectKeys : Type 0
+RulesRespectKeys = (context : Context) (expression : Expression) → Respects context.types (typing_rule context expression)
 
--- results that follow an expression's row at what the two closures tell, where that is alike, are alike
-abbrev pub ResultsAreAlike : (Post Other : ℕ → Told → Type 0) → Type 0
-ResultsAreAlike Post Other =
+-- results that derive by an expression's typing rule from equal operand types are equal
+abbrev pub ResultsHaveEqualKeys : (Post Other : ℕ → OperandAnswer → Type 0) → Type 0
+ResultsHaveEqualKeys Post Other =
     (context : Context) (expression : Expression) (result other : Result TypeResolution ResolveError)
-    → TellAlike context.types Post Other (row context expression)
-    → Follows (memory_of expression) Post result (row context expression) →
-    Follows (memory_of expression) Other other (row context expression)
-    → AreAlike context.types (memory_of expression) result other
+    → OperandsHaveEqualKeys context.types Post Other (typing_rule context expression)
+    → DerivesByRule (memory_of expression) Post result (typing_rule context expression) →
+    DerivesByRule (memory_of expression) Other other (typing_rule context expression)
+    → HaveEqualKeys context.types (memory_of expression) result other

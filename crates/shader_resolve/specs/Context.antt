@@ -1,4 +1,4 @@
--- What an expression's type rests on, beside its operands.
+-- The module data that type resolution reads.
 use Rattle.std.specs.Prelude.{ℕ, ◌<◌, List, length, Option, All, IfSome}
 use Rattle.shader_ir.specs.declared.expression.Expression.{Expression}
 use Rattle.shader_ir.specs.declared.expression.Expression.TheVariants as form
@@ -38,7 +38,7 @@ context_of checked locals arguments = record {
 }
 
 module _ (context : Context) where
-  -- the handles of the expression are in range, its operands aside
+  -- the handles of the expression are in range, except its operands
   abbrev pub IsInRange : Expression → Type 0
   IsInRange (form.Constant constant) = constant < length context.constants
   IsInRange (form.Override override) = override < length context.overrides

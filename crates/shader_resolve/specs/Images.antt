@@ -1,4 +1,4 @@
--- What images hold, and how large they are.
+-- The contents of images and their extents.
 use Rattle.std.specs.Prelude.{ℕ}
 use Rattle.shader_ir.specs.Scalars.{scalar}
 use Rattle.shader_ir.specs.declared.scalar.ScalarKind.{ScalarKind}
@@ -52,7 +52,7 @@ format_scalar format.Rg32Sint = i32_scalar
 format_scalar format.Rgba32Sint = i32_scalar
 format_scalar _ = f32_scalar
 
--- what one texel is
+-- the type of a texel
 abbrev pub texel : ImageClass → TypeInner
 texel (Depth multi) = type.Scalar f32_scalar
 texel (Sampled kind multi) = type.Vector Quad (scalar kind 4)

@@ -1,8 +1,8 @@
--- What the parts of check_module answer; cited by no public clause.
+-- The results of the steps of check_module. No public clause cites this file.
 use Rattle.std.specs.Prelude.{ℕ, ◌==◌, Bool, true, false, ◌&&◌, not, List, [], ◌∷◌, length}
 use Rattle.std.specs.Prelude.{slice_get, Option, Some, None, Result, Ok, Err, nat_lt}
 use Rattle.std.specs.List.{list_all, enumerate_from}
-use Rattle.shader_arena.specs.Places.{places_between}
+use Rattle.shader_arena.specs.Positions.{positions_between}
 use Rattle.shader_ir.specs.Body.{Emit, Call, Body, End, Then, Step, Leaf, Nested, If, Switch, Loop, Cases, NoCase, Case}
 use Rattle.shader_ir.specs.Operands.{expression_operands, statement_operands}
 use Rattle.shader_ir.specs.TypeTree.{type_handles}
@@ -31,60 +31,60 @@ use Rattle.shader_resolve.specs.declared.well_formed.ModuleFault.TheVariants.{Ha
 use Rattle.shader_resolve.specs.declared.well_formed.ModuleFault.TheVariants.{CalleeNotEarlier, ArgumentCount, FilterNotEarlier}
 use Rattle.shader_resolve.specs.declared.well_formed.ModuleFault.TheVariants.{ValuePointerArgument, EmitRange}
 
--- a fault, or none
+-- a violation, or none
 abbrev pub Checked : Type 0
 Checked = Result (Unit {0}) ModuleFault
 
-abbrev pub passed : Checked
-passed = Ok tt
+abbrev pub no_fault : Checked
+no_fault = Ok tt
 
--- the fault where the test fails, and else what follows
+-- the violation if the test fails, and else the rest
 abbrev pub guard : Bool → ModuleFault → Checked → Checked
 guard true fault rest = rest
 guard false fault rest = Err fault
 
--- the first fault
+-- the first violation
 abbrev pub then : Checked → Checked → Checked
 then (Ok nothing) rest = rest
 then (Err fault) rest = Err fault
 
 abbrev pub in_list : {T : Type 0} → (T → Checked) → List T → Checked
-in_list check [] = passed
+in_list check [] = no_fault
 in_list check (item ∷ items) = then (check item) (in_list check items)
 
 abbrev pub in_entries : {T : Type 0} → (ℕ → T → Checked) → List (ℕ × T) → Checked
 in_entries check entries = in_list (λ entry. check entry.0 entry.1) entries
 
--- the first fault of an item at its place
+-- the first violation of an item at its position
 abbrev pub in_arena : {T : Type 0} → (ℕ → T → Checked) → List T → Checked
 in_arena check items = in_entries check (enumerate_from 0 items)
 
--- the first fault of a body's statements, each before those in its blocks
+-- the first violation of a body's statements, each before those in its blocks
 abbrev mutual
   pub in_body : (Step → Checked) → Body → Checked
-  in_body check End = passed
+  in_body check End = no_fault
   in_body check (Then step rest) = then (check step) (then (in_within check step) (in_body check rest))
 
-  -- that in the blocks of a statement
+  -- the first violation in the blocks of a statement
   pub in_within : (Step → Checked) → Step → Checked
-  in_within check (Leaf simple) = passed
+  in_within check (Leaf simple) = no_fault
   in_within check (Nested body) = in_body check body
   in_within check (If condition accept reject) = then (in_body check accept) (in_body check reject)
   in_within check (Switch selector cases) = in_cases check cases
   in_within check (Loop body continuing break_if) = then (in_body check body) (in_body check continuing)
 
   pub in_cases : (Step → Checked) → Cases → Checked
-  in_cases check NoCase = passed
+  in_cases check NoCase = no_fault
   in_cases check (Case value body fall_through rest) = then (in_body check body) (in_cases check rest)
 
--- whether each item passes, at its place
+-- whether each item passes, at its position
 abbrev pub every_entry : {T : Type 0} → (ℕ → T → Bool) → List (ℕ × T) → Bool
 every_entry test entries = list_all (λ entry. test entry.0 entry.1) entries
 
 abbrev pub every : {T : Type 0} → (ℕ → T → Bool) → List T → Bool
 every test items = every_entry test (enumerate_from 0 items)
 
--- whether a handle, where there is one, is below a bound
+-- whether a handle, if any, is below a bound
 abbrev pub is_below : ℕ → Option ℕ → Bool
 is_below bound None = true
 is_below bound (Some handle) = nat_lt handle bound
@@ -103,21 +103,21 @@ abbrev pub is_pointer_type : Option «Type» → Bool
 is_pointer_type (Some type) = is_value_pointer type.inner
 is_pointer_type None = false
 
-abbrev pub takes : Option Function → ℕ → Bool
-takes (Some function) count = length function.arguments == count
-takes None count = true
+abbrev pub takes_arguments : Option Function → ℕ → Bool
+takes_arguments (Some function) count = length function.arguments == count
+takes_arguments None count = true
 
 -- whether the expressions of an Emit's range are below a bound
 abbrev pub is_emitted : ℕ → Step → Bool
-is_emitted bound (Leaf (Emit start end)) = all_below bound (places_between start end)
+is_emitted bound (Leaf (Emit start end)) = all_below bound (positions_between start end)
 is_emitted bound _ = true
 
 module _ (checked : Module) where
   abbrev pub check_type : ℕ → TypeInner → Checked
-  check_type place inner =
+  check_type position inner =
       guard (all_below (length checked.types) (type_handles inner) && is_below (length checked.overrides) (sizing_override inner))
       HandleOutOfRange
-      (guard (all_below place (type_handles inner)) TypeNotEarlier passed)
+      (guard (all_below position (type_handles inner)) TypeNotEarlier no_fault)
 
   abbrev pub special_in_range : SpecialTypes → Bool
   special_in_range special =
@@ -134,23 +134,24 @@ module _ (checked : Module) where
   global_in_range variable = nat_lt variable.ty (length checked.types) && is_below (length checked.global_expressions) variable.init
 
   abbrev pub check_filter : ℕ → DiagnosticFilterNode → Checked
-  check_filter place node =
+  check_filter position node =
       guard (is_below (length checked.diagnostic_filters) node.parent) HandleOutOfRange
-      (guard (is_below place node.parent) FilterNotEarlier passed)
+      (guard (is_below position node.parent) FilterNotEarlier no_fault)
 
   abbrev pub variables_in_range : Bool
   variables_in_range =
       special_in_range checked.special_types
-      && (every (λ place constant. constant_in_range constant) checked.constants
-      && (every (λ place override. override_in_range override) checked.overrides
-      && every (λ place variable. global_in_range variable) checked.global_variables))
+      && (every (λ position constant. constant_in_range constant) checked.constants
+      && (every (λ position override. override_in_range override) checked.overrides
+      && every (λ position variable. global_in_range variable) checked.global_variables))
 
   abbrev pub check_data : Checked
   check_data =
       guard variables_in_range HandleOutOfRange
-      (then (in_arena (λ place type. check_type place type.inner) checked.types) (in_arena check_filter checked.diagnostic_filters))
+      (then (in_arena (λ position type. check_type position type.inner) checked.types) (in_arena check_filter checked.diagnostic_filters))
 
-  -- whether what an expression of a function with so many locals names is there, operands aside
+  -- whether everything that an expression of a function with this many locals names is in range,
+  -- operands aside
   abbrev pub names_in_range : ℕ → Expression → Bool
   names_in_range locals (form.Constant constant) = nat_lt constant (length checked.constants)
   names_in_range locals (form.Override override) = nat_lt override (length checked.overrides)
@@ -165,15 +166,15 @@ module _ (checked : Module) where
   names_in_range locals _ = true
 
   abbrev pub check_expression : Bounds → ℕ → Expression → Checked
-  check_expression bounds place expression =
+  check_expression bounds position expression =
       guard (operands_below bounds.expressions (expression_operands expression) && names_in_range bounds.locals expression) HandleOutOfRange
-      (guard (operands_below place (expression_operands expression)) OperandNotEarlier
-      (guard (is_below bounds.earlier (expression_callee expression)) CalleeNotEarlier passed))
+      (guard (operands_below position (expression_operands expression)) OperandNotEarlier
+      (guard (is_below bounds.earlier (expression_callee expression)) CalleeNotEarlier no_fault))
 
   abbrev pub check_argument : FunctionArgument → Checked
   check_argument argument =
       guard (nat_lt argument.ty (length checked.types)) HandleOutOfRange
-      (guard (not (is_pointer_type (slice_get checked.types argument.ty))) ValuePointerArgument passed)
+      (guard (not (is_pointer_type (slice_get checked.types argument.ty))) ValuePointerArgument no_fault)
 
   abbrev pub result_in_range : Option FunctionResult → Bool
   result_in_range (Some result) = nat_lt result.ty (length checked.types)
@@ -182,19 +183,20 @@ module _ (checked : Module) where
   abbrev pub local_in_range : Function → LocalVariable → Bool
   local_in_range function variable = nat_lt variable.ty (length checked.types) && is_below (length function.expressions) variable.init
 
-  -- the handles of a function, those of its arguments, expressions and statements aside
+  -- whether the handles of a function are in range, except those of its arguments, expressions and
+  -- statements
   abbrev pub function_in_range : Function → Bool
   function_in_range function =
       result_in_range function.result
-      && (every (λ place variable. local_in_range function variable) function.local_variables
+      && (every (λ position variable. local_in_range function variable) function.local_variables
       && (list_all (λ entry. nat_lt entry.0 (length function.expressions)) function.named_expressions
       && is_below (length checked.diagnostic_filters) function.diagnostic_filter_leaf))
 
   abbrev pub counts_match : Step → Bool
-  counts_match (Leaf (Call function arguments result)) = takes (slice_get checked.functions function) (length arguments)
+  counts_match (Leaf (Call function arguments result)) = takes_arguments (slice_get checked.functions function) (length arguments)
   counts_match _ = true
 
-  -- whether the handles of a statement are in range, without the range of an Emit
+  -- whether the handles of a statement are in range, except the range of an Emit
   abbrev pub statement_in_range : ℕ → Step → Bool
   statement_in_range expressions step =
       operands_below expressions (statement_operands step)
@@ -204,9 +206,9 @@ module _ (checked : Module) where
   check_statement bounds step =
       guard (statement_in_range bounds.expressions step) HandleOutOfRange
       (guard (is_below bounds.earlier (statement_callee step)) CalleeNotEarlier
-      (guard (counts_match step) ArgumentCount (guard (is_emitted bounds.expressions step) EmitRange passed)))
+      (guard (counts_match step) ArgumentCount (guard (is_emitted bounds.expressions step) EmitRange no_fault)))
 
--- what the expressions and statements of a function with so many earlier ones may name
+-- the bounds for the expressions and statements of a function with this many earlier ones
 abbrev pub bounds_of : ℕ → Function → Bounds
 bounds_of earlier function = record {
   earlier = earlier;
@@ -215,7 +217,7 @@ bounds_of earlier function = record {
       length function.expressions;
 }
 
--- what global expressions may name
+-- the bounds for global expressions
 abbrev pub global_bounds : Module → Bounds
 global_bounds checked = record { earlier = 0; locals = 0; expressions = length checked.global_expressions }
 

@@ -1,11 +1,11 @@
--- How deep blocks nest.
+-- The nesting depth of blocks.
 use Rattle.std.specs.Prelude.{ℕ, ◌+◌, ◌≤◌, max, All}
 use Rattle.shader_ir.specs.Body.{Body, End, Then, Step, Leaf, Nested, If, Switch, Loop, Cases, NoCase, Case}
 use Rattle.shader_ir.specs.declared.function.EntryPoint.{EntryPoint}
 use Rattle.shader_ir.specs.declared.function.Function.{Function}
 use Rattle.shader_ir.specs.declared.module.Module.{Module}
 
--- how many blocks stand one in another in a body, itself the first of them; in a statement, where none may be
+-- the nesting depth of a body, itself included; for a statement, zero if it contains no block
 abbrev mutual
   pub depth : Body → ℕ
   depth End = 1
@@ -22,7 +22,7 @@ abbrev mutual
   cases_depth NoCase = 0
   cases_depth (Case value body fall_through rest) = max (depth body) (cases_depth rest)
 
--- each body of the module is at most so many levels deep
+-- each body of the module is at most this many levels deep
 pub record NestsWithin (levels : ℕ) (nested : Module) : Type 0 where
   pub functions : All (λ (function : Function). depth function.body ≤ levels) nested.functions
   pub entry_points : All (λ (entry : EntryPoint). depth entry.function.body ≤ levels) nested.entry_points

@@ -1,4 +1,4 @@
--- What a row of the table answers, and when a result meets it.
+-- Outcomes of typing rules, and when a result meets one.
 use Rattle.std.specs.Prelude.{ℕ, Bool, ◌≡◌, ◌⊎◌, Option, Some, None, Result, Ok, Err, List, [], string_bytes}
 use Rattle.shader_ir.specs.declared.types.«Type».{«Type»}
 use Rattle.shader_ir.specs.declared.types.TypeInner.{TypeInner}
@@ -7,7 +7,7 @@ use Rattle.shader_ir.specs.Key.{inner_of}
 use Rattle.shader_resolve.specs.declared.error.ResolveError.{ResolveError}
 use Rattle.shader_resolve.specs.declared.error.ResolveError.TheVariants as error
 
--- an error without its words; no error says NoSuchHandle
+-- an error without its text; no error corresponds to NoSuchHandle
 pub data Refusal : Type 0 where
   OutOfBoundsIndex : ℕ → ℕ → Refusal
   InvalidAccess : ℕ → Bool → Refusal
@@ -41,26 +41,26 @@ refusal_of error.MissingSpecialType = MissingSpecialType
 refusal_of (error.BuiltinArgumentsInvalid words) = BuiltinArgumentsInvalid
 refusal_of error.OutOfMemory = OutOfMemory
 
--- the words of an error, where it has some
+-- the text of an error that has one
 abbrev pub words_of : ResolveError → List ℕ
 words_of (error.FunctionNotDefined name) = string_bytes name
 words_of (error.IncompatibleOperands words) = string_bytes words
 words_of (error.BuiltinArgumentsInvalid words) = string_bytes words
 words_of _ = []
 
--- the error holds words
+-- the error has a text
 abbrev pub HasWords : ResolveError → Type 0
 HasWords (error.FunctionNotDefined name) = Unit {0}
 HasWords (error.IncompatibleOperands words) = Unit {0}
 HasWords (error.BuiltinArgumentsInvalid words) = Unit {0}
 HasWords _ = ⊥
 
--- a type or a refusal
+-- a type or an error
 pub data Outcome : Type 0 where
   Given : TypeResolution → Outcome
   Refused : Refusal → Outcome
 
--- the outcome of a shape, where there is one
+-- the outcome of a shape, if any
 abbrev pub at_inner : Option TypeInner → (TypeInner → Outcome) → Outcome
 at_inner (Some inner) answer = answer inner
 at_inner None answer = Refused NoSuchHandle
@@ -69,32 +69,32 @@ at_inner None answer = Refused NoSuchHandle
 abbrev pub at_shape : List «Type» → TypeResolution → (TypeInner → Outcome) → Outcome
 at_shape types resolution answer = at_inner (inner_of types resolution) answer
 
--- what memory is taken for: nothing, the words of a refusal, or the rules of a builtin and those words
+-- the purpose of allocations: none, the text of an error, or the rules of a built-in function and that text
 pub data Memory : Type 0 where
   ForNothing : Memory
   ForWords : Memory
   ForRules : Memory
 
--- memory ran out, where some is taken
-abbrev pub WantsMemory : Memory → ResolveError → Type 0
-WantsMemory ForNothing failure = ⊥
-WantsMemory ForWords failure = failure ≡ error.OutOfMemory
-WantsMemory ForRules failure = failure ≡ error.OutOfMemory
+-- out of memory, if the rule allocates
+abbrev pub IsOutOfMemory : Memory → ResolveError → Type 0
+IsOutOfMemory ForNothing failure = ⊥
+IsOutOfMemory ForWords failure = failure ≡ error.OutOfMemory
+IsOutOfMemory ForRules failure = failure ≡ error.OutOfMemory
 
--- memory ran out before there was a type, where some is taken for that
-abbrev pub WantsForType : Memory → ResolveError → Type 0
-WantsForType ForNothing failure = ⊥
-WantsForType ForWords failure = ⊥
-WantsForType ForRules failure = failure ≡ error.OutOfMemory
+-- out of memory before there was a type, if the rule allocates for one
+abbrev pub IsOutOfMemoryForType : Memory → ResolveError → Type 0
+IsOutOfMemoryForType ForNothing failure = ⊥
+IsOutOfMemoryForType ForWords failure = ⊥
+IsOutOfMemoryForType ForRules failure = failure ≡ error.OutOfMemory
 
 module _ (memory : Memory) where
-  -- the error is the refusal, with some words, or says that memory ran out
+  -- the error is the rule's, with some text, or out of memory
   abbrev pub IsRefusal : Refusal → ResolveError → Type 0
-  IsRefusal refusal failure = (refusal_of failure ≡ refusal) ⊎ WantsMemory memory failure
+  IsRefusal refusal failure = (refusal_of failure ≡ refusal) ⊎ IsOutOfMemory memory failure
 
-  -- the result is what the row answers, or says that memory ran out
+  -- the result is the rule's outcome or out of memory
   abbrev pub Meets : Result TypeResolution ResolveError → Outcome → Type 0
   Meets (Ok resolution) (Given given) = resolution ≡ given
   Meets (Ok resolution) (Refused refusal) = ⊥
-  Meets (Err failure) (Given given) = WantsForType memory failure
+  Meets (Err failure) (Given given) = IsOutOfMemoryForType memory failure
   Meets (Err failure) (Refused refusal) = IsRefusal refusal failure

@@ -1,11 +1,11 @@
--- What a statement names beside its operands.
+-- The names in a statement other than its operands.
 use Rattle.std.specs.Prelude.{ℕ, Option, Some, None}
 use Rattle.shader_ir.specs.Body.{Simple, Atomic, WorkGroupUniformLoad, Call, RayQuery, SubgroupBallot}
 use Rattle.shader_ir.specs.Body.{SubgroupGather, SubgroupCollectiveOperation, Step, Leaf}
 use Rattle.shader_ir.specs.declared.statement.RayQueryFunction.{RayQueryFunction}
 use Rattle.shader_ir.specs.declared.statement.RayQueryFunction.TheVariants.{Proceed}
 
--- the result of asking whether a candidate is there
+-- the result of a Proceed step
 abbrev pub proceed_result : RayQueryFunction → Option ℕ
 proceed_result (Proceed result) = Some result
 proceed_result _ = None
@@ -20,7 +20,7 @@ simple_result (SubgroupGather mode argument result) = Some result
 simple_result (SubgroupCollectiveOperation op collective_op argument result) = Some result
 simple_result _ = None
 
--- the expression that a statement's result is
+-- the expression that stands for a statement's result
 abbrev pub statement_result : Step → Option ℕ
 statement_result (Leaf simple) = simple_result simple
 statement_result _ = None

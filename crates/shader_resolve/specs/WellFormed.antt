@@ -1,6 +1,6 @@
--- Which modules are well formed: a fact for each fault.
+-- Well-formed modules: one fact for each kind of violation.
 use Rattle.std.specs.Prelude.{◌≡◌, ℕ, ◌<◌, List, [], length, slice_get, Option, Some, None, IfSome, All}
-use Rattle.shader_arena.specs.Places.{places_between}
+use Rattle.shader_arena.specs.Positions.{positions_between}
 use Rattle.shader_ir.specs.Body.{Emit, Call, Step, Leaf}
 use Rattle.shader_ir.specs.Occurs.{statements}
 use Rattle.shader_ir.specs.Operands.{expression_operands, statement_operands}
@@ -33,15 +33,15 @@ use Rattle.shader_resolve.specs.declared.well_formed.ModuleFault.TheVariants.{Ha
 use Rattle.shader_resolve.specs.declared.well_formed.ModuleFault.TheVariants.{CalleeNotEarlier, ArgumentCount, FilterNotEarlier}
 use Rattle.shader_resolve.specs.declared.well_formed.ModuleFault.TheVariants.{ValuePointerArgument, EmitRange}
 
--- a fact of each item at its place
+-- a fact of each item at its position
 abbrev pub AtEach : {T : Type 0} → (ℕ → T → Type 0) → List T → Type 0
-AtEach {T} Fact items = (place : ℕ) (item : T) → slice_get items place ≡ Some item → Fact place item
+AtEach {T} Fact items = (position : ℕ) (item : T) → slice_get items position ≡ Some item → Fact position item
 
 -- the operands are below the bound
 abbrev pub AllBelow : ℕ → List (ℕ × Label) → Type 0
 AllBelow bound operands = All (λ (operand : ℕ × Label). operand.0 < bound) operands
 
--- so are those of the expression
+-- the operands of the expression are below the bound
 abbrev pub OperandsBelow : ℕ → Expression → Type 0
 OperandsBelow bound expression = AllBelow bound (expression_operands expression)
 
@@ -66,40 +66,40 @@ IsNoValuePointer _ = Unit {0}
 
 -- the expressions of an Emit's range are below the bound
 abbrev pub EmitsBelow : ℕ → Step → Type 0
-EmitsBelow bound (Leaf (Emit start end)) = All (λ expression. expression < bound) (places_between start end)
+EmitsBelow bound (Leaf (Emit start end)) = All (λ expression. expression < bound) (positions_between start end)
 EmitsBelow bound _ = Unit {0}
 
 module _ (checked : Module) where
-  abbrev pub IsType : ℕ → Type 0
-  IsType ty = ty < length checked.types
+  abbrev pub IsModuleType : ℕ → Type 0
+  IsModuleType ty = ty < length checked.types
 
   abbrev pub IsGlobalExpression : ℕ → Type 0
   IsGlobalExpression expression = expression < length checked.global_expressions
 
   pub record TypeInRange (inner : TypeInner) : Type 0 where
-    pub named : All IsType (type_handles inner)
+    pub named : All IsModuleType (type_handles inner)
     pub sized : IfSome (sizing_override inner) (λ override. override < length checked.overrides)
 
   pub record SpecialTypesInRange (special : SpecialTypes) : Type 0 where
-    pub ray_intersection : IfSome special.ray_intersection IsType
-    pub ray_vertex_return : IfSome special.ray_vertex_return IsType
-    pub predeclared : All (λ (entry : PredeclaredType × ℕ). IsType entry.1) special.predeclared_types
+    pub ray_intersection : IfSome special.ray_intersection IsModuleType
+    pub ray_vertex_return : IfSome special.ray_vertex_return IsModuleType
+    pub predeclared : All (λ (entry : PredeclaredType × ℕ). IsModuleType entry.1) special.predeclared_types
 
   pub record ConstantInRange (constant : Constant) : Type 0 where
-    pub ty : IsType constant.ty
+    pub ty : IsModuleType constant.ty
     pub init : IsGlobalExpression constant.init
 
   pub record OverrideInRange (override : Override) : Type 0 where
-    pub ty : IsType override.ty
+    pub ty : IsModuleType override.ty
     pub init : IfSome override.init IsGlobalExpression
 
   pub record GlobalInRange (variable : GlobalVariable) : Type 0 where
-    pub ty : IsType variable.ty
+    pub ty : IsModuleType variable.ty
     pub init : IfSome variable.init IsGlobalExpression
 
   -- an initial value is among the expressions of the local's function
   pub record LocalInRange (function : Function) (variable : LocalVariable) : Type 0 where
-    pub ty : IsType variable.ty
+    pub ty : IsModuleType variable.ty
     pub init : IfSome variable.init (λ init. init < length function.expressions)
 
   -- the handles of one of these expressions
@@ -114,8 +114,8 @@ module _ (checked : Module) where
     pub callee : IfSome (statement_callee step) (λ callee. callee < length checked.functions)
 
   pub record FunctionInRange (function : Function) : Type 0 where
-    pub arguments : All (λ (argument : FunctionArgument). IsType argument.ty) function.arguments
-    pub result : IfSome function.result (λ (result : FunctionResult). IsType result.ty)
+    pub arguments : All (λ (argument : FunctionArgument). IsModuleType argument.ty) function.arguments
+    pub result : IfSome function.result (λ (result : FunctionResult). IsModuleType result.ty)
     pub locals : All (LocalInRange function) function.local_variables
     pub expressions : All (ExpressionInRange (context_of checked function.local_variables function.arguments) function.expressions)
         function.expressions
@@ -123,16 +123,16 @@ module _ (checked : Module) where
     pub filter : IfSome function.diagnostic_filter_leaf (λ filter. filter < length checked.diagnostic_filters)
     pub statements : All (StatementInRange function) (statements function.body)
 
-  -- a callee is earlier, where it is there
+  -- a callee is earlier, if it is in range
   abbrev pub IsEarlier : ℕ → ℕ → Type 0
   IsEarlier earlier callee = callee < length checked.functions → callee < earlier
 
-  -- of a function that has so many earlier ones: those whose results it names and those that it calls are earlier
+  -- all functions are earlier whose results the function names or which it calls, for a function with this many earlier ones
   pub record CalleesBelow (earlier : ℕ) (function : Function) : Type 0 where
     pub results : All (λ expression. IfSome (expression_callee expression) (IsEarlier earlier)) function.expressions
     pub calls : All (λ step. IfSome (statement_callee step) (IsEarlier earlier)) (statements function.body)
 
-  -- a call gives as many arguments as its callee takes, where that is there
+  -- a call passes as many arguments as its callee takes, if that is in range
   abbrev pub CountMatches : Step → Type 0
   CountMatches (Leaf (Call function arguments result)) = IfSome (slice_get checked.functions function)
       (λ callee. length callee.arguments ≡ length arguments)
@@ -141,7 +141,7 @@ module _ (checked : Module) where
   abbrev pub IsNoValuePointerArgument : FunctionArgument → Type 0
   IsNoValuePointerArgument argument = IfSome (slice_get checked.types argument.ty) (λ type. IsNoValuePointer type.inner)
 
-  -- a fact of each function, which has so many earlier ones, and of each entry point, to which all functions are earlier
+  -- a fact of each function, with its number of earlier ones, and of each entry point, to which all functions are earlier
   pub record EachFunction (Fact : ℕ → Function → Type 0) : Type 0 where
     pub functions : AtEach Fact checked.functions
     pub entry_points : All (λ (entry : EntryPoint). Fact (length checked.functions) entry.function) checked.entry_points
@@ -158,7 +158,7 @@ module _ (checked : Module) where
         checked.diagnostic_filters
     pub functions : EachFunction (λ earlier function. FunctionInRange function)
 
-  -- each type names earlier types alone
+  -- each type names only earlier types
   abbrev pub TypesEarlier : Type 0
   TypesEarlier = IsBackward checked.types
 
@@ -167,18 +167,19 @@ module _ (checked : Module) where
     pub global_expressions : AtEach OperandsBelow checked.global_expressions
     pub functions : EachFunction (λ earlier function. AtEach OperandsBelow function.expressions)
 
-  -- each function whose result is named or that is called is earlier, where it is there; to a global expression none is
+  -- each function whose result is named or that is called is earlier, if it is in range; for a global expression none is
   pub record CalleesEarlier : Type 0 where
     pub global_expressions : All (λ expression. IfSome (expression_callee expression) (IsEarlier 0)) checked.global_expressions
     pub functions : EachFunction CalleesBelow
 
-  -- each call gives as many arguments as its callee takes
+  -- each call passes as many arguments as its callee takes
   abbrev pub ArgumentCountsMatch : Type 0
   ArgumentCountsMatch = EachFunction (λ earlier function. All CountMatches (statements function.body))
 
   -- each filter's parent is an earlier filter
   abbrev pub FiltersEarlier : Type 0
-  FiltersEarlier = AtEach (λ place (node : DiagnosticFilterNode). IfSome node.parent (λ parent. parent < place)) checked.diagnostic_filters
+  FiltersEarlier = AtEach (λ position (node : DiagnosticFilterNode). IfSome node.parent (λ parent. parent < position))
+      checked.diagnostic_filters
 
   -- no function takes an argument of a ValuePointer type
   abbrev pub NoValuePointerArguments : Type 0
@@ -198,7 +199,7 @@ module _ (checked : Module) where
     pub arguments : NoValuePointerArguments
     pub emits : EmitsInRange
 
-  -- the fact that rules the fault out
+  -- the fact that excludes the violation
   abbrev pub Lacks : ModuleFault → Type 0
   Lacks HandleOutOfRange = HandlesInRange
   Lacks TypeNotEarlier = TypesEarlier
@@ -209,5 +210,5 @@ module _ (checked : Module) where
   Lacks ValuePointerArgument = NoValuePointerArguments
   Lacks EmitRange = EmitsInRange
 
-  abbrev pub Stands : ModuleFault → Type 0
-  Stands fault = ¬ Lacks fault
+  abbrev pub ModuleHasFault : ModuleFault → Type 0
+  ModuleHasFault fault = ¬ Lacks fault

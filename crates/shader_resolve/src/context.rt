@@ -1,15 +1,15 @@
-//! What an expression's type rests on, beside its operands.
-ghost use Rattle.std.specs.Prelude.{◌≡◌};
-ghost use Rattle.shader_resolve.specs.Context.{context_of};
+//! The module data that type resolution reads.
+ghost use Rattle.std.specs.Prelude.{◌≡◌, ◌↔◌, IsTrue};
+ghost use Rattle.shader_resolve.specs.Context.{IsInRange, context_of};
 
 use shader_arena::{Arena, UniqueArena};
 use shader_ir::{
-    Constant, Function, FunctionArgument, GlobalVariable, LocalVariable, Module, Override,
-    SpecialTypes, Type, mark,
+    Constant, Expression, Function, FunctionArgument, GlobalVariable, LocalVariable, Module,
+    Override, SpecialTypes, Type, mark,
 };
 use std::marker::Model;
 
-/// What an expression's type rests on, beside its operands.
+/// The module data that type resolution reads.
 #[derive(Drop)]
 pub struct ResolveContext<'a> {
     pub constants: &'a Arena<Constant, mark::Constant>,
@@ -17,10 +17,10 @@ pub struct ResolveContext<'a> {
     pub types: &'a UniqueArena<Type, mark::Type>,
     pub special_types: &'a SpecialTypes,
     pub global_vars: &'a Arena<GlobalVariable, mark::GlobalVariable>,
-    /// Those of the expression's function; a global expression has none.
+    /// The local variables of the expression's function; empty for a global expression.
     pub local_vars: &'a Arena<LocalVariable, mark::LocalVariable>,
     pub functions: &'a Arena<Function, mark::Function>,
-    /// Those of the expression's function; a global expression has none.
+    /// The arguments of the expression's function; empty for a global expression.
     pub arguments: &'a [FunctionArgument],
 }
 
@@ -46,7 +46,7 @@ impl<'a> Model for ResolveContext<'a> {
 }
 
 impl<'a> ResolveContext<'a> {
-    /// The context of the expressions of a function, which has these locals and arguments.
+    /// Returns the context for the expressions of a function with these locals and arguments.
     pub fn with_locals(
         module: &'a Module,
         local_vars: &'a Arena<LocalVariable, mark::LocalVariable>,
@@ -63,6 +63,25 @@ impl<'a> ResolveContext<'a> {
             local_vars,
             functions: &module.functions,
             arguments,
+        }
+    }
+
+    /// Checks whether the handles of an expression are in range, its operands aside, as `resolve` requires.
+    pub fn names_in_range(&self, expression: &Expression) -> bool
+        ensures { IsTrue result ↔ IsInRange self.now expression.now }
+    {
+        match expression {
+            Expression::Constant(constant) => self.constants.contains_handle(*constant),
+            Expression::Override(value) => self.overrides.contains_handle(*value),
+            Expression::ZeroValue(ty)
+            | Expression::Compose { ty, .. }
+            | Expression::AtomicResult { ty, .. }
+            | Expression::WorkGroupUniformLoadResult { ty }
+            | Expression::SubgroupOperationResult { ty } => self.types.contains_handle(*ty),
+            Expression::GlobalVariable(variable) => self.global_vars.contains_handle(*variable),
+            Expression::LocalVariable(variable) => self.local_vars.contains_handle(*variable),
+            Expression::CallResult(function) => self.functions.contains_handle(*function),
+            _ => true,
         }
     }
 }

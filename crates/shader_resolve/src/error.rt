@@ -1,55 +1,56 @@
-//! Why an expression has no type.
+//! Errors of type resolution.
 ghost use Rattle.std.specs.Prelude.{◌≡◌, string_bytes, IfErr, IfOk};
 ghost use Rattle.shader_resolve.specs.Outcome.{HasWords, refusal_of, words_of};
 
 use shader_arena::Handle;
 use shader_ir::mark;
 use shader_overloads::MissingSpecialType;
-use std::alloc::{AllocError, Global};
+use std::alloc::{AllocError, AllocFailed, Global};
 use thiserror::Error;
 
-/// Why an expression has no type. A handle is printed as its place in brackets.
+/// The reason why an expression has no type. Handles are printed as positions in brackets.
 #[derive(Debug, PartialEq, Drop, Error)]
 pub enum ResolveError {
-    /// A known index is past the components of a vector, the columns of a matrix or the members of a struct, which is the base `expr`.
+    /// A constant index is past the components of a vector, the columns of a matrix or the members of a struct, the base `expr`.
     #[error("Index {index} is out of bounds for expression {expr:?}")]
     OutOfBoundsIndex {
         expr: Handle<mark::Expression>,
         index: u32,
     },
-    /// `indexed` tells an `AccessIndex` from an `Access`, here and in `InvalidSubAccess`.
+    /// An access into a value that has no such components. `indexed` distinguishes `AccessIndex` from `Access`, here and in
+    /// `InvalidSubAccess`.
     #[error("Invalid access into expression {expr:?}, indexed: {indexed}")]
     InvalidAccess {
         expr: Handle<mark::Expression>,
         indexed: bool,
     },
-    /// A pointer to `ty` is accessed, which has no such parts.
+    /// An access through a pointer to `ty`, which has no such components.
     #[error("Invalid sub-access into type {ty:?}, indexed: {indexed}")]
     InvalidSubAccess {
         ty: Handle<mark::Type>,
         indexed: bool,
     },
-    /// What is spread by a `Splat` is no scalar.
+    /// The operand of a `Splat` isn't a scalar.
     #[error("Invalid scalar {0:?}")]
     InvalidScalar(Handle<mark::Expression>),
-    /// What a `Swizzle` takes components of is no vector.
+    /// The operand of a `Swizzle` isn't a vector.
     #[error("Invalid vector {0:?}")]
     InvalidVector(Handle<mark::Expression>),
-    /// What is loaded through is no pointer, or of a cooperative matrix a pointer to what has no scalar.
+    /// The operand of a load isn't a pointer, or for a cooperative matrix it points to a type without a scalar.
     #[error("Invalid pointer {0:?}")]
     InvalidPointer(Handle<mark::Expression>),
-    /// What is sampled, loaded from or asked for its size is no image.
+    /// The operand of a sample, a texel load or a query isn't an image.
     #[error("Invalid image {0:?}")]
     InvalidImage(Handle<mark::Expression>),
-    /// For front ends, which look up functions by name; `resolve` never returns it.
+    /// A call names an unknown function. For front ends, which look up functions by name; `resolve` never returns it.
     #[error("Function {name} not defined")]
     FunctionNotDefined {
         name: String,
     },
-    /// The result is named of a function that returns none.
+    /// An expression names the result of a function that returns none.
     #[error("Function without return type")]
     FunctionReturnsVoid,
-    /// The name of the operator or relational function, or `As`.
+    /// The operands don't fit the operation: the name of the operator or relational function, or `As`.
     #[error("Incompatible operands: {0}")]
     IncompatibleOperands(String),
     /// The function has no argument at the index.
@@ -58,10 +59,10 @@ pub enum ResolveError {
     /// The module hasn't registered the result type of a ray query, of `frexp` or of `modf`.
     #[error("Special type is not registered within the module")]
     MissingSpecialType,
-    /// The name of the builtin function.
+    /// No rule accepts the arguments of the built-in function of this name.
     #[error("Call to builtin {0} has incorrect or ambiguous arguments")]
     BuiltinArgumentsInvalid(String),
-    /// Memory is refused.
+    /// An allocation failed.
     #[error("OutOfMemory")]
     OutOfMemory,
 }
@@ -73,6 +74,17 @@ impl From<AllocError> for ResolveError {
     ghost from_gives = { λ _ e. e ≡ OutOfMemory };
 
     fn from(_error: AllocError) -> ResolveError {
+        ResolveError::OutOfMemory
+    }
+}
+
+impl<T: Drop> From<AllocFailed<T>> for ResolveError {
+    ghost use Rattle.std.specs.Prelude.{◌≡◌};
+    ghost use Rattle.shader_resolve.specs.declared.error.ResolveError.TheVariants.{OutOfMemory};
+
+    ghost from_gives = { λ _ e. e ≡ OutOfMemory };
+
+    fn from(_failed: AllocFailed<T>) -> ResolveError {
         ResolveError::OutOfMemory
     }
 }
@@ -96,7 +108,7 @@ fn copy_text(alloc: Global, text: &str) -> Result<String, AllocError>
 }
 
 impl ResolveError {
-    /// Returns an equal error, with the same words. Only an error that has some takes memory.
+    /// Returns an equal error with the same text. Allocates only if the error has a text.
     pub fn copy(&self, alloc: Global) -> Result<ResolveError, AllocError>
         ensures refusal { IfOk result (λ copy. refusal_of copy ≡ refusal_of self.now) }
         ensures words { IfOk result (λ copy. words_of copy ≡ words_of self.now) }

@@ -1,52 +1,54 @@
-//! Laws of well-formed modules and of the table of types, each the contract of a function that does nothing.
-ghost use Rattle.shader_resolve.specs.AskedLaws.{AskedAreOperands};
-ghost use Rattle.shader_resolve.specs.CongruenceLaws.{KeysRestOnKeys, ResultsAreAlike, RowsRespectKeys};
+//! Laws about well-formed modules and typing rules. Each law is the contract of a function that does nothing.
+ghost use Rattle.shader_resolve.specs.QueriedLaws.{QueriedAreOperands};
+ghost use Rattle.shader_resolve.specs.CongruenceLaws.{KeysRestOnKeys, ResultsHaveEqualKeys, RulesRespectKeys};
 ghost use Rattle.shader_resolve.specs.ContextLaws.{WellFormedContextsFit};
-ghost use Rattle.shader_resolve.specs.PointerLaws.{AccessesAreLifted, AccessesAreParts, LoadsArePointed};
+ghost use Rattle.shader_resolve.specs.PointerLaws.{AccessesAreLifted, AccessesAreComponents, LoadsArePointed};
 
 use crate::ResolveError;
 use shader_arena::Handle;
 use shader_ir::{TypeResolution, mark};
 
-/// In a well-formed module, what the context of each function, of each entry point and of the global expressions names is
-/// there, and so is what their expressions name beside operands; the operands that an expression asks are earlier.
+/// States that a well-formed module meets the preconditions of type resolution: everything named by the context of a function, of an entry
+/// point or of the global expressions is in range, and so is everything that their expressions name besides operands; and the operands that
+/// an expression queries are earlier.
 ///
-/// So the conditions of `ResolveContext::resolve` on the context and on the expression hold in each of them, those of
-/// `Layouter::update` hold in the module's context, and known numbers can be asked of each global expression and override.
+/// Hence the preconditions of `ResolveContext::resolve` on the context and on the expression hold in each of them, those of
+/// `Layouter::update` hold in the module's context, and the known number of each global expression and override may be queried.
 pub fn contexts_of_well_formed_modules_fit()
     ensures { WellFormedContextsFit }
 {}
 
-/// What a form asks is among its operands: where these are all below a bound, so are those that `ResolveContext::resolve` asks.
-pub fn asked_are_operands()
-    ensures { AskedAreOperands }
+/// States that the queried operands are operands: if all operands of an expression are below a bound, so are those that
+/// `ResolveContext::resolve` queries.
+pub fn queried_are_operands()
+    ensures { QueriedAreOperands }
 {}
 
-/// What the table says of pointers: a load is what the pointer points to, of an atomic its scalar, whether the pointer names its
-/// base or is a value pointer; and an access through a pointer is a pointer in the same space to the part of what it points to,
-/// the part that an access of that itself gives.
+/// States the typing rules of pointers on keys. A load has the pointee's type, or its scalar if it is an atomic, whether the pointer names
+/// its base or is a value pointer. An access through a pointer is a pointer in the same space to the component of the pointee that an
+/// access of the pointee itself would give.
 pub fn pointers_are_followed()
     ensures loads { LoadsArePointed }
     ensures accesses { AccessesAreLifted }
-    ensures parts { AccessesAreParts }
+    ensures parts { AccessesAreComponents }
 {}
 
-/// Types rest on keys alone: equal keys at the operands that an expression asks give it an equal key, or none under both; and the
-/// table respects keys form by form.
+/// States that types depend only on keys: equal keys of the queried operands give an expression an equal key, or none in both cases; and
+/// each typing rule respects keys.
 pub fn equal_keys_give_equal_keys()
     ensures keys { KeysRestOnKeys }
-    ensures rows { RowsRespectKeys }
+    ensures rows { RulesRespectKeys }
 {}
 
-/// `ResolveContext::resolve` respects `compare_types`: where two closures tell of each operand that the expression asks types
-/// that are equal by `compare_types`, or both an error, the two results are equal by it or both errors. Where the form takes
-/// memory, one of them may say alone that it ran out.
+/// States that `ResolveContext::resolve` respects `compare_types`: if two closures return, for each queried operand, types that are equal
+/// by `compare_types` or both an error, then the two results are equal by it or both errors. If the expression's rule allocates, one of
+/// them alone may be out of memory.
 ///
-/// The premises are what the contracts of the calls say: of `resolve` that its result follows the expression's row, and of
-/// `compare_types` that the keys are equal.
+/// The premises are the postconditions of the calls: that the result of `resolve` derives by the expression's typing rule, and that
+/// `compare_types` decides equality of keys.
 pub fn equal_operand_types_give_equal_types<'a, F, G>(_past: &F, _other: &G)
 where
     F: Fn(Handle<mark::Expression>) -> Result<&'a TypeResolution, ResolveError>,
     G: Fn(Handle<mark::Expression>) -> Result<&'a TypeResolution, ResolveError>,
-    ensures { ResultsAreAlike (F.post _past.now) (G.post _other.now) }
+    ensures { ResultsHaveEqualKeys (F.post _past.now) (G.post _other.now) }
 {}

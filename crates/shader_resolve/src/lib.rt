@@ -1,4 +1,4 @@
-//! The type of every expression, and the well-formed module.
+//! The type of every expression, and well-formedness of modules.
 #![tactic(auto)]
 
 mod context;
@@ -10,5 +10,5 @@ mod well_formed;
 pub use context::ResolveContext;
 pub use error::ResolveError;
 pub use well_formed::{
-    MOST_LEVELS, ModuleFault, ModulePlace, check_module, find_fault, nests_within,
+    MOST_LEVELS, ModuleFault, ModuleLocation, check_module, find_fault, nests_within,
 };

@@ -1,4 +1,16 @@
-//! The type of an expression, by its row of the table of types.
+//! Typing of expressions: the type of an expression, given the types of its operands.
+//!
+//! Each kind of expression has one typing rule (`specs/TypingRules.antt`). A rule reads the types of at most two operands, and either gives
+//! a type or rejects the expression. `resolve` obtains the operands' types from the closure `past`; a caller that visits an arena in order
+//! supplies the types resolved before. Nothing here is recursive over expressions.
+//!
+//! `resolve` is sound and complete with respect to the rules: unless `past` fails or, for the rules that allocate, memory runs out, it
+//! returns a type exactly if the rule gives one, and then that type; if the rule rejects the expression, it returns the rule's error. Since
+//! rules depend only on the keys of operand types (`shader_ir::compare_types`), it makes no difference whether `past` returns a handle or
+//! an equal value.
+//!
+//! The modules below follow the groups of rules: `leaves` reads no operands; `access`, `pointers`, `images` and `operations` read shapes of
+//! types; `builtins` resolves overloads by `shader_overloads`.
 mod access;
 mod builtins;
 mod images;
@@ -26,43 +38,44 @@ impl<'a> ResolveContext<'a> {
     ghost use Rattle.shader_ir.specs.Key.{Key, inner_of, FitsTypes};
     ghost use Rattle.shader_ir.specs.TypeTree.{IsBackward, PointsBelow};
     ghost use Rattle.shader_resolve.specs.Context.{IsInRange, TypesInRange};
-    ghost use Rattle.shader_resolve.specs.Rows.{math_row, row};
-    ghost use Rattle.shader_resolve.specs.Follows.{EachAsked, FitsTold, Follows, IsAccessing, IsOfImage, IsOperation, memory_of};
+    ghost use Rattle.shader_resolve.specs.TypingRules.{math_rule, typing_rule};
+    ghost use Rattle.shader_resolve.specs.DerivesByRule.{EachQueried, AnswerFits, DerivesByRule, IsAccessing, IsOfImage, IsOperation};
+    ghost use Rattle.shader_resolve.specs.DerivesByRule.{memory_of};
     ghost use Rattle.shader_resolve.specs.Outcome.{ForRules};
-    ghost use Rattle.shader_resolve.specs.Typing.{HasKey, TellsKeys, typing};
+    ghost use Rattle.shader_resolve.specs.Typing.{HasKey, AnswersHaveKeys, typing};
 
-    /// The type of an expression, where `past` tells those of its operands. Only the operands that the type rests on are asked.
+    /// Returns the type of an expression, given those of its operands by `past`. Only the operands that the typing rule reads are queried.
     ///
     /// # Errors
     ///
-    /// The refusal of the expression's form; an error of `past`, the first that it returns; want of memory, in place of a refusal that
-    /// names an operation, and for calls of builtins, which ask for their rules.
+    /// The error of the typing rule; the first error that `past` returns; or out of memory, in place of an error that names an operation
+    /// and for calls of built-in functions, which build their rules.
     pub fn resolve<F>(&self, alloc: Global, expr: &Expression, past: F) -> Resolved
     where
         F: Fn(Handle<mark::Expression>) -> Result<&'a TypeResolution, ResolveError>,
         requires backward { IsBackward self.now.types }
         requires in_range { IsInRange self.now expr.now }
-        requires asked { EachAsked (F.pre past) (row self.now expr.now) }
-        requires told_fits { EachAsked (λ operand. (told : _) → F.post past operand told →
-            FitsTold self.now.types told) (row self.now expr.now) }
-        ensures follows { Follows (memory_of expr.now) (F.post past) result (row self.now expr.now) }
-        ensures key { (keys : ℕ → Option Key) → TellsKeys self.now.types (F.post past) keys (row self.now expr.now) →
+        requires queried { EachQueried (F.pre past) (typing_rule self.now expr.now) }
+        requires reported_fits { EachQueried (λ operand. (reported : _) → F.post past operand reported →
+            AnswerFits self.now.types reported) (typing_rule self.now expr.now) }
+        ensures follows { DerivesByRule (memory_of expr.now) (F.post past) result (typing_rule self.now expr.now) }
+        ensures key { (keys : ℕ → Option Key) → AnswersHaveKeys self.now.types (F.post past) keys (typing_rule self.now expr.now) →
             HasKey self.now.types result (typing self.now keys expr.now) }
         ensures fits { TypesInRange self.now → IfOk result (λ resolution. FitsTypes self.now.types resolution) }
     {
-        self.resolve_row(alloc, expr, past)
+        self.resolve_by_rule(alloc, expr, past)
     }
 
-    #[tactic(auto, using(crate::proofs::FollowLemmas::plain_follows))]
-    fn resolve_row<F>(&self, alloc: Global, expr: &Expression, past: F) -> Resolved
+    #[tactic(auto, using(crate::proofs::DerivationLemmas::plain_derives))]
+    fn resolve_by_rule<F>(&self, alloc: Global, expr: &Expression, past: F) -> Resolved
     where
         F: Fn(Handle<mark::Expression>) -> Result<&'a TypeResolution, ResolveError>,
         requires backward { IsBackward self.now.types }
         requires in_range { IsInRange self.now expr.now }
-        requires asked { EachAsked (F.pre past) (row self.now expr.now) }
-        requires told_fits { EachAsked (λ operand. (told : _) → F.post past operand told →
-            FitsTold self.now.types told) (row self.now expr.now) }
-        ensures { Follows (memory_of expr.now) (F.post past) result (row self.now expr.now) }
+        requires queried { EachQueried (F.pre past) (typing_rule self.now expr.now) }
+        requires reported_fits { EachQueried (λ operand. (reported : _) → F.post past operand reported →
+            AnswerFits self.now.types reported) (typing_rule self.now expr.now) }
+        ensures { DerivesByRule (memory_of expr.now) (F.post past) result (typing_rule self.now expr.now) }
     {
         match expr {
             Expression::Access { .. }
@@ -93,16 +106,16 @@ impl<'a> ResolveContext<'a> {
         }
     }
 
-    /// The forms that look into a type or through a pointer.
+    /// Resolves expressions that look into a type or through a pointer.
     fn resolve_access<F>(&self, expr: &Expression, past: F) -> Resolved
     where
         F: Fn(Handle<mark::Expression>) -> Result<&'a TypeResolution, ResolveError>,
         requires backward { IsBackward self.now.types }
         requires form { IsAccessing expr.now }
-        requires asked { EachAsked (F.pre past) (row self.now expr.now) }
-        requires told_fits { EachAsked (λ operand. (told : _) → F.post past operand told →
-            FitsTold self.now.types told) (row self.now expr.now) }
-        ensures { Follows (memory_of expr.now) (F.post past) result (row self.now expr.now) }
+        requires queried { EachQueried (F.pre past) (typing_rule self.now expr.now) }
+        requires reported_fits { EachQueried (λ operand. (reported : _) → F.post past operand reported →
+            AnswerFits self.now.types reported) (typing_rule self.now expr.now) }
+        ensures { DerivesByRule (memory_of expr.now) (F.post past) result (typing_rule self.now expr.now) }
     {
         match expr {
             Expression::Access { base, .. } => {
@@ -132,16 +145,16 @@ impl<'a> ResolveContext<'a> {
         }
     }
 
-    /// The forms that ask an image.
+    /// Resolves expressions that query an image.
     fn resolve_image<F>(&self, expr: &Expression, past: F) -> Resolved
     where
         F: Fn(Handle<mark::Expression>) -> Result<&'a TypeResolution, ResolveError>,
         requires backward { IsBackward self.now.types }
         requires form { IsOfImage expr.now }
-        requires asked { EachAsked (F.pre past) (row self.now expr.now) }
-        requires told_fits { EachAsked (λ operand. (told : _) → F.post past operand told →
-            FitsTold self.now.types told) (row self.now expr.now) }
-        ensures { Follows (memory_of expr.now) (F.post past) result (row self.now expr.now) }
+        requires queried { EachQueried (F.pre past) (typing_rule self.now expr.now) }
+        requires reported_fits { EachQueried (λ operand. (reported : _) → F.post past operand reported →
+            AnswerFits self.now.types reported) (typing_rule self.now expr.now) }
+        ensures { DerivesByRule (memory_of expr.now) (F.post past) result (typing_rule self.now expr.now) }
     {
         match expr {
             Expression::ImageSample {
@@ -161,17 +174,17 @@ impl<'a> ResolveContext<'a> {
         }
     }
 
-    /// The forms that compute with their operands.
-    #[tactic(auto, using(crate::proofs::CopyLemmas::held_types))]
+    /// Resolves expressions that compute with their operands.
+    #[tactic(auto, using(crate::proofs::CopyLemmas::stored_types))]
     fn resolve_operation<F>(&self, alloc: Global, expr: &Expression, past: F) -> Resolved
     where
         F: Fn(Handle<mark::Expression>) -> Result<&'a TypeResolution, ResolveError>,
         requires backward { IsBackward self.now.types }
         requires form { IsOperation expr.now }
-        requires asked { EachAsked (F.pre past) (row self.now expr.now) }
-        requires told_fits { EachAsked (λ operand. (told : _) → F.post past operand told →
-            FitsTold self.now.types told) (row self.now expr.now) }
-        ensures { Follows (memory_of expr.now) (F.post past) result (row self.now expr.now) }
+        requires queried { EachQueried (F.pre past) (typing_rule self.now expr.now) }
+        requires reported_fits { EachQueried (λ operand. (reported : _) → F.post past operand reported →
+            AnswerFits self.now.types reported) (typing_rule self.now expr.now) }
+        ensures { DerivesByRule (memory_of expr.now) (F.post past) result (typing_rule self.now expr.now) }
     {
         match expr {
             Expression::Unary { expr: operand, .. }
@@ -205,7 +218,7 @@ impl<'a> ResolveContext<'a> {
         }
     }
 
-    /// A call of a builtin, which asks its first argument and, where there is one, its second.
+    /// Resolves a call of a built-in function, which queries its first argument and, if any, its second.
     fn resolve_math<F>(
         &self,
         alloc: Global,
@@ -217,10 +230,10 @@ impl<'a> ResolveContext<'a> {
     where
         F: Fn(Handle<mark::Expression>) -> Result<&'a TypeResolution, ResolveError>,
         requires backward { IsBackward self.now.types }
-        requires asked { EachAsked (F.pre past) (math_row self.now fun arg arg1) }
-        requires told_fits { EachAsked (λ operand. (told : _) → F.post past operand told →
-            FitsTold self.now.types told) (math_row self.now fun arg arg1) }
-        ensures { Follows ForRules (F.post past) result (math_row self.now fun arg arg1) }
+        requires queried { EachQueried (F.pre past) (math_rule self.now fun arg arg1) }
+        requires reported_fits { EachQueried (λ operand. (reported : _) → F.post past operand reported →
+            AnswerFits self.now.types reported) (math_rule self.now fun arg arg1) }
+        ensures { DerivesByRule ForRules (F.post past) result (math_rule self.now fun arg arg1) }
     {
         match arg1 {
             None => self.math_of_one(alloc, fun, past(arg)?),
@@ -228,7 +241,7 @@ impl<'a> ResolveContext<'a> {
         }
     }
 
-    /// The shape of an operand's type.
+    /// Returns the shape of an operand's type.
     fn inner(&self, resolution: &'a TypeResolution) -> &'a TypeInner
         requires backward { IsBackward self.now.types }
         requires fits { FitsTypes self.now.types resolution.now }

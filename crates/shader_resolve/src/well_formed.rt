@@ -1,28 +1,27 @@
-//! Whether a module is well formed.
+//! Well-formedness of modules.
 ghost use Rattle.std.specs.Prelude.{◌≡◌, ◌↔◌, IsOk, IfErr};
 ghost use Rattle.shader_resolve.specs.ModuleTests.{check_entry_point, check_function, check_module, in_arena, in_list};
-ghost use Rattle.shader_resolve.specs.WellFormed.{IsWellFormed, Stands};
+ghost use Rattle.shader_resolve.specs.WellFormed.{IsWellFormed, ModuleHasFault};
 
 mod data;
 mod expressions;
 mod functions;
+mod locations;
 mod nesting;
-mod places;
 mod statements;
 
 use data::check_data;
 use expressions::check_expressions;
 use functions::check_function;
+pub use locations::{ModuleLocation, find_fault};
 pub use nesting::{MOST_LEVELS, nests_within};
-pub use places::{ModulePlace, find_fault};
 use shader_ir::Module;
 use thiserror::Error;
 
-/// Why a module isn't well formed.
+/// The reason why a module isn't well formed.
 #[derive(Clone, Copy, Debug, PartialEq, Eq, Error)]
 pub enum ModuleFault {
-    /// A handle is past the end of its arena. The range of an `Emit` is left to `EmitRange`, and a
-    /// global expression has no locals.
+    /// A handle is past the end of its arena. The range of an `Emit` is left to `EmitRange`, and a global expression has no locals.
     #[error("A handle is past the end of its arena")]
     HandleOutOfRange,
     /// A type names itself or a later type.
@@ -35,7 +34,7 @@ pub enum ModuleFault {
     /// expression names the result of a call. To an entry point all functions are earlier.
     #[error("A called function isn't an earlier one")]
     CalleeNotEarlier,
-    /// A call gives more or fewer arguments than its callee takes.
+    /// A call passes more or fewer arguments than its callee takes.
     #[error("A call gives more or fewer arguments than its function takes")]
     ArgumentCount,
     /// The parent of a filter is that filter or a later one.
@@ -49,7 +48,7 @@ pub enum ModuleFault {
     EmitRange,
 }
 
-/// How many functions, locals and expressions the expressions and statements of a function may name.
+/// The numbers of functions, locals and expressions that the expressions and statements of a function may name.
 #[derive(Clone, Copy)]
 pub struct Bounds {
     /// The functions before it.
@@ -58,16 +57,16 @@ pub struct Bounds {
     pub expressions: usize,
 }
 
-/// Whether a module is well formed, or else a fault that stands in it. Nothing is asked of the
-/// module's handles, and no memory is taken.
+/// Checks that a module is well formed. The check is sound and complete: `Ok` exactly if the module is well formed, and else a violation
+/// that the module has. Assumes nothing of the module's handles, and allocates nothing.
 pub fn check_module(module: &Module) -> Result<(), ModuleFault>
     ensures ok { IsOk result ↔ IsWellFormed «module».now }
-    ensures fault { IfErr result (λ fault. Stands «module».now fault) }
+    ensures fault { IfErr result (λ fault. ModuleHasFault «module».now fault) }
 {
     check_parts(module)
 }
 
-/// The first fault, types before expressions before functions before entry points.
+/// Checks the data, the global expressions, the functions and the entry points in this order. Returns the first violation.
 fn check_parts(module: &Module) -> Result<(), ModuleFault>
     ensures { result ≡ check_module «module».now }
 {
@@ -91,7 +90,7 @@ fn check_functions(module: &Module) -> Result<(), ModuleFault>
     Ok(())
 }
 
-/// To an entry point all functions are earlier.
+/// Checks the entry points. To an entry point all functions are earlier.
 fn check_entry_points(module: &Module) -> Result<(), ModuleFault>
     ensures { result ≡ in_list (check_entry_point «module».now) «module».now.entry_points }
 {

@@ -1,7 +1,7 @@
-//! Tests of `shader_resolve` and `shader_typifier` by their public items alone, of what no row of `test_rows` shows.
+//! Tests of `shader_resolve` and `shader_typifier` through their public items alone, for whatever no row of `test_rows` covers.
 #![tactic(auto)]
 
 #[cfg(test)]
-mod alike;
+mod congruence;
 #[cfg(test)]
 mod tests;

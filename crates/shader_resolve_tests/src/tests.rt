@@ -1,3 +1,4 @@
+//! One module for each kind of test.
 mod loads;
 mod nesting;
 mod refusals;

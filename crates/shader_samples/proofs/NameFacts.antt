@@ -1,10 +1,10 @@
--- What is known of the name of each sample.
+-- Facts about the name of each sample.
 use Rattle.std.proofs.Common.{◌≡◌, Some, refl}
-use Rattle.shader_samples.specs.Names.{name_text, sample_named}
+use Rattle.shader_samples.specs.Names.{sample_text, sample_named}
 use Rattle.shader_samples.specs.declared.sample.Sample.{Sample}
 use Rattle.shader_samples.specs.declared.sample.Sample.TheVariants as s
 
-pub named_back : (sample : Sample) → sample_named (name_text sample) ≡ Some sample
+pub named_back : (sample : Sample) → sample_named (sample_text sample) ≡ Some sample
 named_back s.Named = refl
 named_back s.Stored = refl
 named_back s.Sampling = refl

@@ -1,4 +1,4 @@
--- Functions and modules of a few parts.
+-- Functions and modules with few parts.
 use Rattle.std.specs.Prelude.{ℕ, List, [], Option, None}
 use Rattle.shader_ir.specs.Body.{Body}
 use Rattle.shader_ir.specs.declared.expression.Expression.{Expression}
@@ -9,7 +9,7 @@ use Rattle.shader_ir.specs.declared.module.GlobalVariable.{GlobalVariable}
 use Rattle.shader_ir.specs.declared.«module».Module.{Module}
 use Rattle.shader_ir.specs.declared.types.«Type».{«Type»}
 
--- a function without a name, locals and a filter
+-- a function without a name, locals or a filter
 abbrev pub function_with : List FunctionArgument → Option FunctionResult → List Expression → List (ℕ × List ℕ) → Body → Function
 function_with arguments returned expressions named body = record {
   name = None;

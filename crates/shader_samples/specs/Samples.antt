@@ -32,12 +32,12 @@ use Rattle.shader_samples.specs.Types.{unnamed}
 use Rattle.shader_samples.specs.declared.sample.Sample.{Sample}
 use Rattle.shader_samples.specs.declared.sample.Sample.TheVariants as s
 
--- ---- what they are made of
+-- ---- parts of the samples
 
 abbrev pub variable : AddressSpace → ℕ → GlobalVariable
 variable space ty = record { name = None; space = space; ty = ty; init = None }
 
--- in a storage buffer that is read and written
+-- a global in a storage buffer that is read and written
 abbrev pub storage : ℕ → GlobalVariable
 storage ty = variable (space.Storage (record { 0 = 3 })) ty
 
@@ -50,7 +50,7 @@ argument ty = record { name = None; ty = ty; binding = None }
 abbrev pub number : ℕ → Expression
 number value = form.Literal (literal.U32 value)
 
--- one statement, and two
+-- a body of one statement, and one of two
 abbrev pub just : Step → Body
 just step = Then step End
 
@@ -76,7 +76,7 @@ named_module = over_a_counter (
 abbrev pub stored_module : Module
 stored_module = over_a_counter (function_with [] None (form.GlobalVariable 0 ∷ number 1 ∷ []) counter_named (just (Leaf (Store 0 1))) ∷ [])
 
--- ---- an image and a sampler that are handed on
+-- ---- an image and a sampler that are passed on
 
 abbrev pub image : TypeInner
 image = type.Image dimension.D2 false (class.Sampled kinds.Float false)
@@ -87,18 +87,18 @@ sampling_types = image ∷ type.Sampler false ∷ type.Vector size.Bi (scalar ki
 abbrev pub sample_of : Expression
 sample_of = form.ImageSample 0 1 None false 2 None None level.Zero None
 
--- samples its first argument with its second, and returns what that gives
+-- samples its first argument with its second, and returns the result
 abbrev pub taking_both : Function
 taking_both = function_with (argument 0 ∷ argument 1 ∷ []) (Some (record { ty = 3; binding = None }))
     (form.FunctionArgument 0 ∷ form.FunctionArgument 1 ∷ form.ZeroValue 2 ∷ sample_of ∷ []) []
     (both (Leaf (Emit 3 4)) (Leaf (Return (Some 3))))
 
--- calls that with its argument and the global sampler
+-- calls `taking_both` with its argument and the global sampler
 abbrev pub taking_the_image : Function
 taking_the_image = function_with (argument 0 ∷ []) None (form.FunctionArgument 0 ∷ form.GlobalVariable 1 ∷ []) []
     (just (Leaf (Call 0 (0 ∷ 1 ∷ []) None)))
 
--- calls that twice with the global image
+-- calls `taking_the_image` twice with the global image
 abbrev pub calling_twice : Function
 calling_twice = function_with [] None (form.GlobalVariable 0 ∷ []) [] (both (Leaf (Call 1 (0 ∷ []) None)) (Leaf (Call 1 (0 ∷ []) None)))
 
@@ -106,7 +106,7 @@ abbrev pub sampling_module : Module
 sampling_module = module_with (map unnamed sampling_types) (resource 0 ∷ resource 1 ∷ [])
     (taking_both ∷ taking_the_image ∷ calling_twice ∷ [])
 
--- ---- a matrix that a whole subgroup is to load
+-- ---- a matrix that a whole subgroup has to load
 
 abbrev pub matrix_load : Expression
 matrix_load = form.CooperativeLoad cooperative.Eight cooperative.Eight role.A (record { pointer = 2; stride = 3; row_major = false })
@@ -121,13 +121,13 @@ abbrev pub over_a_float : List Function → Module
 over_a_float functions = module_with (map unnamed (type.Scalar (scalar kinds.Float 4) ∷ type.Scalar (scalar kinds.Bool 1) ∷ []))
     (storage 0 ∷ []) functions
 
--- some return in the first case, which may fall into the second, where the matrix is loaded
+-- some invocations return in the first case, which may fall into the second, where the matrix is loaded
 abbrev pub switching : Bool → Function
 switching falls = with_matrix (just (Switch 1
     (Case (value.I32 (pos 0)) (just (If 0 (just (Leaf (Return None))) End)) falls
     (Case value.Default (just (Leaf (Emit 4 5))) false NoCase))))
 
--- derivatives outside uniform flow are said nothing of
+-- diagnostics of derivatives outside uniform flow are turned off
 abbrev pub off : List DiagnosticFilterNode
 off = record { severity = severity.Off; rule = rule.DerivativeUniformity; parent = None } ∷ []
 
@@ -140,7 +140,7 @@ exit_module falls = over_a_float (switching falls ∷ [])
 abbrev pub exit_off_module : Module
 exit_off_module = record (over_a_float (filtered (switching true) ∷ [])) { diagnostic_filters = off }
 
--- ---- an operand that is named five times
+-- ---- an operand that is used five times
 
 abbrev pub counts_module : Module
 counts_module = module_with (map unnamed (type.Vector size.Tri (scalar kinds.Uint 4) ∷ [])) [] (
@@ -165,7 +165,7 @@ with_derivatives body = function_with [] None derivative_expressions [] body
 abbrev pub storing : Body
 storing = both (Leaf (Emit 0 2)) (Leaf (Store 0 1))
 
--- a branch on what is the same for all, and one on what varies
+-- a branch on a uniform condition, and one on a condition that varies
 abbrev pub on_shared : Body
 on_shared = both (Leaf (Emit 2 4)) (If 3 End storing)
 

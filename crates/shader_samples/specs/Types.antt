@@ -9,7 +9,7 @@ use Rattle.shader_ir.specs.declared.types.TypeInner.{TypeInner}
 abbrev pub unnamed : TypeInner → «Type»
 unnamed inner = record { name = None; inner = inner }
 
--- the types after these were inserted in turn
+-- the types after these are inserted in turn
 abbrev pub types_after : List «Type» → List TypeInner → List «Type»
 types_after types [] = types
 types_after types (inner ∷ inners) = types_after (with_item type.ghosts.eq types (unnamed inner)) inners

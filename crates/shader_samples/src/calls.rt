@@ -1,11 +1,11 @@
-//! An image and a sampler that are handed on from call to call.
+//! The sample of an image and a sampler that are passed from call to call.
 ghost use Rattle.std.specs.Prelude.{◌≡◌, [], ◌∷◌, IfOk};
 ghost use Rattle.shader_ir.specs.Scalars.{scalar};
 ghost use Rattle.shader_ir.specs.declared.scalar.ScalarKind.TheVariants as kinds;
 ghost use Rattle.shader_ir.specs.declared.types.TypeInner.TheVariants.{Vector};
 ghost use Rattle.shader_samples.specs.Samples.{calling_twice, image, sample_of, sampling_module, taking_both, taking_the_image};
 
-use crate::parts::{argument, at, call, emit, function_of, global, module_of, resource};
+use crate::builders::{argument, at, call, emit, function_of, global, module_of, resource};
 use shader_arena::Handle;
 use shader_ir::{
     Expression, Function, FunctionResult, ImageClass, ImageDimension, Items, Module, SampleLevel,
@@ -35,7 +35,7 @@ fn floats(size: VectorSize) -> TypeInner
     }
 }
 
-/// `textureSampleLevel(e0, e1, e2, 0.0)`
+/// Returns the expression `textureSampleLevel(e0, e1, e2, 0.0)`.
 fn sample() -> Expression
     ensures { result ≡ sample_of }
 {
@@ -52,9 +52,9 @@ fn sample() -> Expression
     }
 }
 
-/// `fn f(t: texture_2d<f32>, s: sampler) -> vec4<f32> { return textureSampleLevel(t, s, vec2<f32>(), 0.0); }`
+/// Builds `fn f(t: texture_2d<f32>, s: sampler) -> vec4<f32> { return textureSampleLevel(t, s, vec2<f32>(), 0.0); }`.
 fn taking_both(alloc: Global) -> Result<Function, AllocError>
-    ensures { IfOk result (λ made. made ≡ taking_both) }
+    ensures { IfOk result (λ built. built ≡ taking_both) }
 {
     let expressions = vec![in alloc;
         Expression::FunctionArgument(0),
@@ -74,9 +74,9 @@ fn taking_both(alloc: Global) -> Result<Function, AllocError>
     Ok(function)
 }
 
-/// `fn g(t: texture_2d<f32>) { f(t, smp); }`
+/// Builds `fn g(t: texture_2d<f32>) { f(t, smp); }`.
 fn taking_the_image(alloc: Global) -> Result<Function, AllocError>
-    ensures { IfOk result (λ made. made ≡ taking_the_image) }
+    ensures { IfOk result (λ built. built ≡ taking_the_image) }
 {
     let expressions = vec![in alloc; Expression::FunctionArgument(0), global(1)]?;
     let arguments = vec![in alloc; at(0), at(1)]?;
@@ -87,9 +87,9 @@ fn taking_the_image(alloc: Global) -> Result<Function, AllocError>
     Ok(function)
 }
 
-/// `fn h() { g(tex); g(tex); }`
+/// Builds `fn h() { g(tex); g(tex); }`.
 fn calling_twice(alloc: Global) -> Result<Function, AllocError>
-    ensures { IfOk result (λ made. made ≡ calling_twice) }
+    ensures { IfOk result (λ built. built ≡ calling_twice) }
 {
     let first = call(1, vec![in alloc; at(0)]?);
     let second = call(1, vec![in alloc; at(0)]?);
@@ -97,7 +97,8 @@ fn calling_twice(alloc: Global) -> Result<Function, AllocError>
     function_of(alloc, expressions, vec![in alloc; first, second]?)
 }
 
-/// An image and a sampler, of which a function that samples knows neither, its caller the one, and that one's caller both:
+/// Builds a module in which a function samples its two arguments, its caller passes a global for the sampler, and that one's caller passes
+/// a global for the image:
 ///
 /// ```wgsl
 /// @group(0) @binding(0) var tex: texture_2d<f32>;
@@ -109,9 +110,9 @@ fn calling_twice(alloc: Global) -> Result<Function, AllocError>
 ///
 /// # Errors
 ///
-/// If allocation fails.
+/// `AllocError` if allocation fails.
 pub fn sampling(alloc: Global) -> Result<Module, AllocError>
-    ensures { IfOk result (λ made. made ≡ sampling_module) }
+    ensures { IfOk result (λ built. built ≡ sampling_module) }
 {
     let types = vec![in alloc;
         image(),
@@ -123,9 +124,9 @@ pub fn sampling(alloc: Global) -> Result<Module, AllocError>
     module_of(alloc, types, globals, sampling_functions(alloc)?)
 }
 
-/// The functions of `sampling`.
+/// Builds the functions of `sampling`.
 fn sampling_functions(alloc: Global) -> Result<Vec<Function>, AllocError>
-    ensures { IfOk result (λ made. made.items ≡ taking_both ∷ taking_the_image ∷ calling_twice ∷ []) }
+    ensures { IfOk result (λ built. built.items ≡ taking_both ∷ taking_the_image ∷ calling_twice ∷ []) }
 {
     let first = taking_both(alloc)?;
     let second = taking_the_image(alloc)?;

@@ -1,10 +1,10 @@
-//! Expressions that are operands several times.
+//! The sample of an expression that is an operand several times.
 ghost use Rattle.std.specs.Prelude.{◌≡◌, [], ◌∷◌, IfOk};
 ghost use Rattle.shader_ir.specs.declared.expression.Expression.TheVariants.{Binary, Compose};
 ghost use Rattle.shader_ir.specs.declared.operators.BinaryOperator.TheVariants.{Add};
 ghost use Rattle.shader_samples.specs.Samples.{counts_module};
 
-use crate::parts::{at, function_of, module_of, number};
+use crate::builders::{at, function_of, module_of, number};
 use shader_arena::Handle;
 use shader_ir::{BinaryOperator, Expression, Items, Module, Scalar, TypeInner, VectorSize};
 use std::alloc::{AllocError, Global};
@@ -20,7 +20,7 @@ fn doubled() -> Expression
 }
 
 fn tripled(alloc: Global) -> Result<Expression, AllocError>
-    ensures { IfOk result (λ made. made ≡ Compose 0 (0 ∷ 0 ∷ 0 ∷ [])) }
+    ensures { IfOk result (λ built. built ≡ Compose 0 (0 ∷ 0 ∷ 0 ∷ [])) }
 {
     let components = vec![in alloc; at(0), at(0), at(0)]?;
     Ok(Expression::Compose {
@@ -29,14 +29,14 @@ fn tripled(alloc: Global) -> Result<Expression, AllocError>
     })
 }
 
-/// A literal that is an operand five times, and nothing that is evaluated: the expressions `7u`, `7u + 7u` and
-/// `vec3<u32>(7u, 7u, 7u)` share it.
+/// Builds a module with a literal that is an operand five times, and evaluates nothing. The expressions `7u`, `7u + 7u` and `vec3<u32>(7u,
+/// 7u, 7u)` share the literal.
 ///
 /// # Errors
 ///
-/// If allocation fails.
+/// `AllocError` if allocation fails.
 pub fn counts(alloc: Global) -> Result<Module, AllocError>
-    ensures { IfOk result (λ made. made ≡ counts_module) }
+    ensures { IfOk result (λ built. built ≡ counts_module) }
 {
     let expressions = vec![in alloc; number(7), doubled(), tripled(alloc)?]?;
     let function = function_of(alloc, expressions, Vec::new(alloc))?;

@@ -1,11 +1,11 @@
-//! A derivative, in branches on conditions of two kinds.
+//! The samples of a derivative in a branch, on a uniform condition and on one that isn't.
 ghost use Rattle.std.specs.Prelude.{◌≡◌, IfOk};
 ghost use Rattle.shader_ir.specs.BodyOf.{body_of};
 ghost use Rattle.shader_ir.specs.declared.types.AddressSpace.TheVariants.{Uniform};
 ghost use Rattle.shader_samples.specs.Samples.{derivative_of_first, derivative_off_module, on_shared, on_varying};
 ghost use Rattle.shader_samples.specs.Samples.{over_two_vectors, storing, variable, with_derivatives};
 
-use crate::parts::{
+use crate::builders::{
     at, branch, derivatives_off, emit, function_of, global, module_of, number, resource, store,
 };
 use shader_arena::Handle;
@@ -36,9 +36,9 @@ fn uniform(ty: u32) -> GlobalVariable
     }
 }
 
-/// A function of these statements over the expressions `0u`, `dpdx(0u)`, `v`, `u`, `arrayLength(&u)` and `v.y`.
+/// Builds a function of these statements over the expressions `0u`, `dpdx(0u)`, `v`, `u`, `arrayLength(&u)` and `v.y`.
 fn function(alloc: Global, statements: Vec<Statement>) -> Result<Function, AllocError>
-    ensures { IfOk result (λ made. made ≡ with_derivatives (body_of statements.items)) }
+    ensures { IfOk result (λ built. built ≡ with_derivatives (body_of statements.items)) }
 {
     let (base, index) = (at(2), 1);
     let expressions = vec![in alloc;
@@ -53,7 +53,7 @@ fn function(alloc: Global, statements: Vec<Statement>) -> Result<Function, Alloc
 }
 
 fn over_two_vectors(alloc: Global, function: Function) -> Result<Module, AllocError>
-    ensures { IfOk result (λ made. made ≡ over_two_vectors function) }
+    ensures { IfOk result (λ built. built ≡ over_two_vectors function) }
 {
     let ty = TypeInner::Vector {
         size: VectorSize::Bi,
@@ -64,27 +64,26 @@ fn over_two_vectors(alloc: Global, function: Function) -> Result<Module, AllocEr
     module_of(alloc, types, globals, vec![in alloc; function]?)
 }
 
-/// A function of these statements, over expressions that no front end would write: `0u`, `dpdx(0u)`, `v`, `u`,
-/// `arrayLength(&u)` and `v.y`, where `v` and `u` are vectors of two floats, the first of which may differ among invocations, the
-/// second not.
+/// Builds a module with a function of these statements, over expressions that no front end would write: `0u`, `dpdx(0u)`, `v`, `u`,
+/// `arrayLength(&u)` and `v.y`, where `v` and `u` are vectors of two floats. The first may differ among invocations, the second doesn't.
 ///
 /// # Errors
 ///
-/// If allocation fails.
+/// `AllocError` if allocation fails.
 pub fn with_derivatives(alloc: Global, statements: Vec<Statement>) -> Result<Module, AllocError>
-    ensures { IfOk result (λ made. made ≡ over_two_vectors (with_derivatives (body_of statements.items))) }
+    ensures { IfOk result (λ built. built ≡ over_two_vectors (with_derivatives (body_of statements.items))) }
 {
     over_two_vectors(alloc, function(alloc, statements)?)
 }
 
-/// `0u = dpdx(0u);`
+/// Returns the statements `0u = dpdx(0u);`.
 fn store_derivative(alloc: Global) -> Result<Vec<Statement>, AllocError>
-    ensures { IfOk result (λ made. body_of made.items ≡ storing) }
+    ensures { IfOk result (λ built. body_of built.items ≡ storing) }
 {
     Ok(vec![in alloc; emit(0, 2), store(0, 1)]?)
 }
 
-/// The derivative is taken where `u` says so, which all invocations do alike.
+/// Builds a module that takes the derivative in a branch on `u`, which is uniform.
 ///
 /// ```text
 /// if u {} else { 0u = dpdx(0u); }
@@ -92,23 +91,23 @@ fn store_derivative(alloc: Global) -> Result<Vec<Statement>, AllocError>
 ///
 /// # Errors
 ///
-/// If allocation fails.
+/// `AllocError` if allocation fails.
 pub fn derivative_uniform(alloc: Global) -> Result<Module, AllocError>
-    ensures { IfOk result (λ made. made ≡ over_two_vectors (with_derivatives on_shared)) }
+    ensures { IfOk result (λ built. built ≡ over_two_vectors (with_derivatives on_shared)) }
 {
     let choice = branch(3, Vec::new(alloc), store_derivative(alloc)?);
     with_derivatives(alloc, vec![in alloc; emit(2, 4), choice]?)
 }
 
-/// `if v { 0u = dpdx(0u); }`
+/// Returns the statements `if v { 0u = dpdx(0u); }`.
 fn on_what_differs(alloc: Global) -> Result<Vec<Statement>, AllocError>
-    ensures { IfOk result (λ made. body_of made.items ≡ on_varying) }
+    ensures { IfOk result (λ built. body_of built.items ≡ on_varying) }
 {
     let choice = branch(2, store_derivative(alloc)?, Vec::new(alloc));
     Ok(vec![in alloc; emit(2, 4), choice]?)
 }
 
-/// The derivative is taken where `v` says so, in which invocations may differ.
+/// Builds a module that takes the derivative in a branch on `v`, which may differ among invocations.
 ///
 /// ```text
 /// if v { 0u = dpdx(0u); }
@@ -116,20 +115,20 @@ fn on_what_differs(alloc: Global) -> Result<Vec<Statement>, AllocError>
 ///
 /// # Errors
 ///
-/// If allocation fails.
+/// `AllocError` if allocation fails.
 pub fn derivative(alloc: Global) -> Result<Module, AllocError>
-    ensures { IfOk result (λ made. made ≡ over_two_vectors (with_derivatives on_varying)) }
+    ensures { IfOk result (λ built. built ≡ over_two_vectors (with_derivatives on_varying)) }
 {
     with_derivatives(alloc, on_what_differs(alloc)?)
 }
 
-/// `derivative` in a function with `@diagnostic(off, derivative_uniformity)`.
+/// Builds `derivative` with `@diagnostic(off, derivative_uniformity)` on the function.
 ///
 /// # Errors
 ///
-/// If allocation fails.
+/// `AllocError` if allocation fails.
 pub fn derivative_off(alloc: Global) -> Result<Module, AllocError>
-    ensures { IfOk result (λ made. made ≡ derivative_off_module) }
+    ensures { IfOk result (λ built. built ≡ derivative_off_module) }
 {
     let filters = derivatives_off(alloc)?;
     let mut function = function(alloc, on_what_differs(alloc)?)?;

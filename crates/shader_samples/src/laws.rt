@@ -1,13 +1,13 @@
-//! Laws of the samples, each the contract of a function that does nothing.
+//! Laws about the samples. Each law is the contract of a function with an empty body.
 
-ghost use Rattle.shader_samples.specs.Laws.{NamesTellSamples, SamplesAreWellFormed};
+ghost use Rattle.shader_samples.specs.Laws.{NamesDetermineSamples, SamplesAreWellFormed};
 
-/// Each sample is a module that an analysis may be asked about.
+/// States that each sample is a well-formed module, so that it can be analysed.
 pub fn samples_are_well_formed()
     ensures { SamplesAreWellFormed }
 {}
 
-/// Each sample is the one that its name names.
-pub fn names_tell_samples()
-    ensures { NamesTellSamples }
+/// States that each sample is the one that its name names.
+pub fn names_determine_samples()
+    ensures { NamesDetermineSamples }
 {}

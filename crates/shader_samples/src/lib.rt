@@ -1,13 +1,13 @@
-//! Small modules, each with something that an analysis is to find.
+//! Small modules, each with one property that an analysis has to detect.
 #![tactic(auto)]
 
+pub mod builders;
 mod calls;
 mod counting;
 mod derivatives;
 mod flow;
 pub mod laws;
 mod naming;
-pub mod parts;
 mod sample;
 
 pub use calls::sampling;

@@ -6,34 +6,34 @@ use crate::{
 use shader_ir::Module;
 use std::alloc::{AllocError, Global};
 
-/// A sample module. The function of the same name in this crate says what is in it.
+/// A sample module. The function of the same name in this crate documents its content.
 #[derive(Clone, Copy, Debug, PartialEq, Eq)]
 pub enum Sample {
     /// A global that one function names and its caller writes.
     Named,
     /// A global that one function names and writes.
     Stored,
-    /// An image and a sampler that come together along two calls.
+    /// An image and a sampler that are brought together along two calls.
     Sampling,
     /// A case that is fallen into after some invocations have returned.
     Exit,
     /// `Exit` without the fall-through.
     NoFall,
-    /// `Exit`, where a filter lets the fault pass.
+    /// `Exit` with a filter that permits the violation.
     ExitOff,
     /// An expression that is an operand five times.
     Counts,
-    /// A derivative where all invocations are led alike.
+    /// A derivative in a branch on a uniform condition.
     DerivativeUniform,
-    /// A derivative where invocations may differ.
+    /// A derivative in a branch on a condition that may differ among invocations.
     Derivative,
-    /// `Derivative`, where a filter lets the fault pass.
+    /// `Derivative` with a filter that permits the violation.
     DerivativeOff,
 }
 
 impl Sample {
     ghost use Rattle.std.specs.Prelude.{◌≡◌, IfOk};
-    ghost use Rattle.shader_samples.specs.Names.{sample_named, name_text};
+    ghost use Rattle.shader_samples.specs.Names.{sample_named, sample_text};
     ghost use Rattle.shader_samples.specs.Samples.{sample_module};
 
     /// All samples.
@@ -50,9 +50,9 @@ impl Sample {
         Sample::DerivativeOff,
     ];
 
-    /// The name, in lower case, with hyphens between words.
+    /// Returns the name, in lower case with hyphens between words.
     pub fn name(self) -> &'static str
-        ensures { result.now ≡ name_text self }
+        ensures { result.now ≡ sample_text self }
     {
         match self {
             Sample::Named => "named",
@@ -68,7 +68,7 @@ impl Sample {
         }
     }
 
-    /// The sample of this name.
+    /// Returns the sample of this name.
     pub fn from_name(name: &[u8]) -> Option<Sample>
         ensures { result ≡ sample_named name.now }
     {
@@ -78,13 +78,13 @@ impl Sample {
             .find(|sample| sample.name().as_bytes() == name)
     }
 
-    /// The module.
+    /// Builds the module.
     ///
     /// # Errors
     ///
-    /// If allocation fails.
+    /// `AllocError` if allocation fails.
     pub fn build(self, alloc: Global) -> Result<Module, AllocError>
-        ensures { IfOk result (λ made. made ≡ sample_module self) }
+        ensures { IfOk result (λ built. built ≡ sample_module self) }
     {
         match self {
             Sample::Named => named(alloc),

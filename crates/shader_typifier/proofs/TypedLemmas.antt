@@ -1,61 +1,67 @@
--- What is resolved over a table of types is what the row answers at the types held.
+-- A type resolved over a table is the outcome of the rule at the stored types.
 use Rattle.std.proofs.Common.{◌≡◌, refl, sym, subst, ◌∙◌, ap, ◌⊎◌, inl, inr, ◌<◌, ℕ, List, Some, Result, Ok, Err}
 use Rattle.std.proofs.Common.{All, IsOkAnd, slice_get, length, option_map}
 use Rattle.std.proofs.lemmas.Option.{get_or_from_slice_get, slice_get_within}
 use Rattle.shader_ir.specs.declared.expression.Expression.{Expression}
 use Rattle.shader_ir.specs.declared.proc.type_resolution.TypeResolution.{TypeResolution}
 use Rattle.shader_ir.specs.Key.{FitsTypes}
-use Rattle.shader_resolve.proofs.AskedLemmas.{asked, each-asked}
+use Rattle.shader_resolve.proofs.QueriedLemmas.{queried, each-queried}
 use Rattle.shader_resolve.proofs.MemoryLemmas.{for_type, wanted}
 use Rattle.shader_resolve.specs.declared.error.ResolveError.{ResolveError}
 use Rattle.shader_resolve.specs.declared.error.ResolveError.TheVariants as resolve
 use Rattle.shader_resolve.specs.Context.{Context}
-use Rattle.shader_resolve.specs.Follows.{Told, Follows, EachAsked, FitsTold}
+use Rattle.shader_resolve.specs.DerivesByRule.{OperandAnswer, DerivesByRule, EachQueried, AnswerFits}
 use Rattle.shader_resolve.specs.Outcome.{Given, Meets, Memory, Outcome, Refused, refusal_of}
-use Rattle.shader_resolve.specs.Rows.{Row, Plain, One, Two, row}
+use Rattle.shader_resolve.specs.TypingRules.{TypingRule, Plain, One, Two, typing_rule}
 use Rattle.shader_resolve.specs.WellFormed.{OperandsBelow}
 use Rattle.shader_typifier.specs.Grown.{outcome_at}
 
-module _ (held : List TypeResolution) where
-  -- the result is what the row answers at the types held, or memory was wanting
-  abbrev pub Tells : Row → Result TypeResolution ResolveError → Type 0
-  Tells asks (Ok resolution) = outcome_at held asks ≡ Some (Given resolution)
-  Tells asks (Err failure) = (outcome_at held asks ≡ Some (Refused (refusal_of failure))) ⊎ (failure ≡ resolve.OutOfMemory)
+module _ (stored : List TypeResolution) where
+  -- the result is the outcome of the rule at the stored types, or out of memory
+  abbrev pub IsOutcomeOf : TypingRule → Result TypeResolution ResolveError → Type 0
+  IsOutcomeOf queries (Ok resolution) = outcome_at stored queries ≡ Some (Given resolution)
+  IsOutcomeOf queries (Err failure) = (outcome_at stored queries ≡ Some (Refused (refusal_of failure))) ⊎ (failure ≡ resolve.OutOfMemory)
 
-  concluded : (memory : Memory) (asks : Row) (result : Result TypeResolution ResolveError) (outcome : Outcome) →
-      outcome_at held asks ≡ Some outcome → Meets memory result outcome → Tells asks result
-  concluded memory asks (Ok resolution) (Given given) at meets = at ∙ ap (λ r. Some (Given r)) (sym meets)
-  concluded memory asks (Ok resolution) (Refused refusal) at meets = absurd meets
-  concluded memory asks (Err failure) (Given given) at meets = inr (wanted memory failure (for_type memory failure meets))
-  concluded memory asks (Err failure) (Refused refusal) at (inl same) = inl (at ∙ ap (λ r. Some (Refused r)) (sym same))
-  concluded memory asks (Err failure) (Refused refusal) at (inr wants) = inr (wanted memory failure wants)
+  concluded : (memory : Memory) (queries : TypingRule) (result : Result TypeResolution ResolveError) (outcome : Outcome) →
+      outcome_at stored queries ≡ Some outcome → Meets memory result outcome → IsOutcomeOf queries result
+  concluded memory queries (Ok resolution) (Given given) at meets = at ∙ ap (λ r. Some (Given r)) (sym meets)
+  concluded memory queries (Ok resolution) (Refused refusal) at meets = absurd meets
+  concluded memory queries (Err failure) (Given given) at meets = inr (wanted memory failure (for_type memory failure meets))
+  concluded memory queries (Err failure) (Refused refusal) at (inl same) = inl (at ∙ ap (λ r. Some (Refused r)) (sym same))
+  concluded memory queries (Err failure) (Refused refusal) at (inr out_of_memory) = inr (wanted memory failure out_of_memory)
 
-  module _ (Post : ℕ → Told → Type 0) (memory : Memory) (result : Result TypeResolution ResolveError) where
-    pub follows_tells : (asks : Row) → Follows memory Post result asks →
-        ((operand : ℕ) (told : Told) → Post operand told → IsOkAnd told (λ t. slice_get held operand ≡ Some t.now)) → Tells asks result
-    follows_tells (Plain outcome) meets tells = concluded memory (Plain outcome) result outcome refl meets
-    follows_tells (One operand answer) (Ok t, post, meets) tells =
-        concluded memory (One operand answer) result (answer t.now) (ap (λ v. option_map answer v) (tells operand (Ok t) post)) meets
-    follows_tells (One operand answer) (Err failure, post, rest) tells = absurd (tells operand (Err failure) post)
-    follows_tells (Two left right answer) (Ok t, post, (Ok u, last, meets)) tells =
+  module _ (Post : ℕ → OperandAnswer → Type 0) (memory : Memory) (result : Result TypeResolution ResolveError) where
+    pub derivation_gives : (queries : TypingRule) → DerivesByRule memory Post result queries →
+        ((operand : ℕ) (reported : OperandAnswer) → Post operand reported → IsOkAnd reported (λ t. slice_get stored operand ≡ Some t.now)) →
+        IsOutcomeOf queries result
+    derivation_gives (Plain outcome) meets determines = concluded memory (Plain outcome) result outcome refl meets
+    derivation_gives (One operand answer) (Ok t, post, meets) determines =
+        concluded memory (One operand answer) result (answer t.now) (ap (λ v. option_map answer v) (determines operand (Ok t) post)) meets
+    derivation_gives (One operand answer) (Err failure, post, rest) determines = absurd (determines operand (Err failure) post)
+    derivation_gives (Two left right answer) (Ok t, post, (Ok u, last, meets)) determines =
         concluded memory (Two left right answer) result (answer t.now u.now)
-        (rw (tells left (Ok t) post) (rw (tells right (Ok u) last) refl)) meets
-    follows_tells (Two left right answer) (Ok t, post, (Err failure, last, rest)) tells = absurd (tells right (Err failure) last)
-    follows_tells (Two left right answer) (Err failure, post, rest) tells = absurd (tells left (Err failure) post)
+        (rw (determines left (Ok t) post) (rw (determines right (Ok u) last) refl)) meets
+    derivation_gives (Two left right answer) (Ok t, post, (Err failure, last, rest)) determines =
+        absurd (determines right (Err failure) last)
+    derivation_gives (Two left right answer) (Err failure, post, rest) determines = absurd (determines left (Err failure) post)
 
-module _ (context : Context) (x : Expression) (held : List TypeResolution) (below : OperandsBelow (length held) x) where
-  -- what is asked may be asked, and what is told fits
-  pub may_ask : (Pre : ℕ → Type 0) → ((operand : ℕ) → operand < length held → Pre operand) → EachAsked Pre (row context x)
-  may_ask Pre may = each-asked (λ operand. operand < length held) Pre may (row context x) (asked context x (length held) below)
+module _ (context : Context) (x : Expression) (stored : List TypeResolution) (below : OperandsBelow (length stored) x) where
+  -- the queried operands may be queried, and their types fit
+  pub may_query : (Pre : ℕ → Type 0) → ((operand : ℕ) → operand < length stored → Pre operand) → EachQueried Pre (typing_rule context x)
+  may_query Pre may = each-queried (λ operand. operand < length stored) Pre may (typing_rule context x)
+      (queried context x (length stored) below)
 
-  held_fits : All (FitsTypes context.types) held → (operand : ℕ) (told : Told) →
-      IsOkAnd told (λ t. slice_get held operand ≡ Some t.now) → FitsTold context.types told
-  held_fits fit operand (Ok t) is = subst (FitsTypes context.types) (get_or_from_slice_get held operand t.now t.now is)
-      (fit operand t.now (slice_get_within held operand t.now is))
-  held_fits fit operand (Err failure) is = absurd is
+  stored_fits : All (FitsTypes context.types) stored → (operand : ℕ) (reported : OperandAnswer) →
+      IsOkAnd reported (λ t. slice_get stored operand ≡ Some t.now) → AnswerFits context.types reported
+  stored_fits fit operand (Ok t) is = subst (FitsTypes context.types) (get_or_from_slice_get stored operand t.now t.now is)
+      (fit operand t.now (slice_get_within stored operand t.now is))
+  stored_fits fit operand (Err failure) is = absurd is
 
-  pub told_fits : All (FitsTypes context.types) held → (Post : ℕ → Told → Type 0) → ((operand : ℕ) (told : Told) → Post operand told →
-      IsOkAnd told (λ t. slice_get held operand ≡ Some t.now)) →
-      EachAsked (λ operand. (told : Told) → Post operand told → FitsTold context.types told) (row context x)
-  told_fits fit Post tells = may_ask (λ operand. (told : Told) → Post operand told → FitsTold context.types told)
-      (λ operand lt told post. held_fits fit operand told (tells operand told post))
+  pub reported_fits : All (FitsTypes context.types) stored → (Post : ℕ → OperandAnswer → Type 0) →
+      ((operand : ℕ) (reported : OperandAnswer) → Post operand reported →
+      IsOkAnd reported (λ t. slice_get stored operand ≡ Some t.now)) →
+      EachQueried (λ operand. (reported : OperandAnswer) → Post operand reported →
+      AnswerFits context.types reported) (typing_rule context x)
+  reported_fits fit Post determines =
+      may_query (λ operand. (reported : OperandAnswer) → Post operand reported → AnswerFits context.types reported)
+      (λ operand lt reported post. stored_fits fit operand reported (determines operand reported post))

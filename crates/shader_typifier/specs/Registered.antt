@@ -1,4 +1,4 @@
--- Types that stand in an arena.
+-- Types registered in an arena.
 use Rattle.std.specs.Prelude.{◌≡◌, ℕ, List, None, Some, false, slice_get}
 use Rattle.shader_arena.specs.Unique.{has_equal, with_item}
 use Rattle.shader_ir.specs.contracts.types.TypePartialEq.TheImpl as type
@@ -11,17 +11,17 @@ use Rattle.shader_ir.specs.declared.types.TypeInner.{TypeInner}
 abbrev pub unnamed : TypeInner → «Type»
 unnamed inner = record { name = None; inner = inner }
 
--- the handle is the type's own, or that of an unnamed type which is the same
+-- the handle is the type's own, or that of an unnamed type that equals it
 abbrev pub IsRegistered : List «Type» → TypeResolution → ℕ → Type 0
 IsRegistered types (Handle handle) ty = ty ≡ handle
 IsRegistered types (Value inner) ty = slice_get types ty ≡ Some (unnamed inner)
 
--- the type is free-standing, and no type of the arena is the same without a name
+-- the type is outside the arena, and no unnamed type of the arena equals it
 abbrev pub IsMissing : List «Type» → TypeResolution → Type 0
 IsMissing types (Handle handle) = ⊥
 IsMissing types (Value inner) = has_equal type.ghosts.eq types (unnamed inner) ≡ false
 
--- the types of the arena once the type stands there: it comes last where it was missing, and nothing else comes
+-- the types of the arena after the type was registered: it is added at the end if it was missing, and nothing else is added
 abbrev pub with_resolution : List «Type» → TypeResolution → List «Type»
 with_resolution types (Handle handle) = types
 with_resolution types (Value inner) = with_item type.ghosts.eq types (unnamed inner)

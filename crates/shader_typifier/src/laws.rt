@@ -1,17 +1,18 @@
-//! Laws on tables that grow, each the contract of a function that does nothing.
+//! Laws on tables of types that grow. Each law is the contract of a function that does nothing.
 ghost use Rattle.shader_typifier.specs.Laws.{GrownTypesAreDerived, RegisteredTypesFit, TypesFitLargerArenas};
 
-/// A table whose types are derivable grows by types that are, as long as the context stays: those that the analysis records.
+/// States that a table of derivable types grows by derivable types, the ones that the analysis records, as long as the context is
+/// unchanged.
 pub fn grown_types_are_derived()
     ensures { GrownTypesAreDerived }
 {}
 
-/// What fits an arena of types fits one that has more.
+/// States that types that fit an arena fit any larger arena.
 pub fn types_fit_larger_arenas()
     ensures { TypesFitLargerArenas }
 {}
 
-/// A table that has a type registered may go on to grow over the arena.
+/// States that a table may continue to grow over the arena after one of its types was registered.
 pub fn registered_types_fit()
     ensures { RegisteredTypesFit }
 {}

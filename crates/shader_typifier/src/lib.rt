@@ -1,4 +1,4 @@
-//! The types of a function's expressions, held while a front end writes it.
+//! The types of a function's expressions, stored while a front end builds it.
 #![tactic(auto)]
 
 mod error;

@@ -1,4 +1,4 @@
-//! Whether what an expression names is there.
+//! Range checks of the items that an expression names.
 ghost use Rattle.std.specs.Prelude.{◌↔◌, IsTrue};
 ghost use Rattle.shader_resolve.specs.Context.{IsInRange};
 ghost use Rattle.shader_resolve.specs.WellFormed.{OperandsBelow};
@@ -6,7 +6,7 @@ ghost use Rattle.shader_resolve.specs.WellFormed.{OperandsBelow};
 use shader_ir::{Expression, expression_operands};
 use shader_resolve::ResolveContext;
 
-/// Whether what an expression names beside its operands is there.
+/// Returns whether everything that an expression names besides its operands is in range.
 pub fn names_in_range(context: &ResolveContext<'_>, expression: &Expression) -> bool
     ensures { IsTrue result ↔ IsInRange context.now expression.now }
 {
@@ -25,7 +25,7 @@ pub fn names_in_range(context: &ResolveContext<'_>, expression: &Expression) -> 
     }
 }
 
-/// Whether all operands of an expression are below a bound.
+/// Returns whether all operands of an expression are below a bound.
 pub fn operands_below(expression: &Expression, bound: usize) -> bool
     ensures { IsTrue result ↔ OperandsBelow bound expression.now }
 {

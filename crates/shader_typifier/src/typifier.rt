@@ -1,12 +1,12 @@
-//! The types of the first expressions of a function.
+//! A table of the types of a function's first expressions.
 ghost use Rattle.std.specs.Prelude.{◌≡◌, ◌↔◌, ◌<◌, ◌≤◌, ◌+◌, [], All, Some, length, slice_get, take};
 ghost use Rattle.std.specs.Prelude.{IfErr, IfOk, IsOkAnd, IsTrue, OnErr, OnOk};
 ghost use Rattle.std.specs.Option.{option_and_then};
-ghost use Rattle.shader_arena.specs.Places.{most_items};
-ghost use Rattle.shader_ir.specs.Key.{FitsTypes, HoldsNoList, inner_of};
+ghost use Rattle.shader_arena.specs.Positions.{most_items};
+ghost use Rattle.shader_ir.specs.Key.{FitsTypes, HoldsNoMembers, inner_of};
 ghost use Rattle.shader_ir.specs.TypeTree.{IsBackward, PointsBelow};
 ghost use Rattle.shader_ir.specs.declared.proc.type_resolution.TypeResolution.{TypeResolution};
-ghost use Rattle.shader_typifier.specs.Grown.{Grows, IsRefusedAs, IsRefusedNext, IsTyped};
+ghost use Rattle.shader_typifier.specs.Grown.{AreTyped, Grows, IsRefusedAs, IsRefusedNext, IsTyped};
 ghost use Rattle.shader_typifier.specs.Registered.{IsMissing, IsRegistered, with_resolution};
 
 use crate::TypifyError;
@@ -18,7 +18,7 @@ use std::alloc::{AllocError, Global};
 use std::marker::Model;
 use std::ops::Index;
 
-/// The types of the first expressions of a function, which a front end holds while it writes the function and asks by handle.
+/// The types of the first expressions of a function, for a front end that builds the function and looks them up by handle.
 #[derive(Drop)]
 pub struct Typifier {
     resolutions: Vec<TypeResolution>,
@@ -34,7 +34,7 @@ impl Model for Typifier {
 }
 
 impl Typifier {
-    /// One that holds no types, which takes no memory.
+    /// Returns an empty table. Allocates nothing.
     pub fn new(alloc: Global) -> Typifier
         ensures { result ≡ [] }
     {
@@ -43,28 +43,29 @@ impl Typifier {
         }
     }
 
-    /// Forgets all types, for the next function. Their memory is kept.
+    /// Removes all types, for the next function, and keeps their memory for reuse.
     pub fn reset(&mut self)
         ensures { self.new ≡ [] }
     {
         self.resolutions.clear();
     }
 
-    /// The number of expressions whose types are held.
+    /// Returns the number of expressions whose types are stored.
     pub fn len(&self) -> usize
         ensures { result ≡ length self.now }
     {
         self.resolutions.len()
     }
 
-    /// Whether no types are held.
+    /// Returns whether no types are stored.
     pub fn is_empty(&self) -> bool
         ensures { IsTrue result ↔ (self.now ≡ []) }
     {
         self.resolutions.is_empty()
     }
 
-    /// Whether all types that are held are of this arena, as `grow` asks: each handle is in range, and no free-standing type is a struct.
+    /// Returns whether all stored types fit this arena, as `grow` requires: each handle is in range, and no type outside the arena is a
+    /// struct.
     pub fn fits(&self, types: &UniqueArena<Type, mark::Type>) -> bool
         ensures { IsTrue result ↔ All (FitsTypes types.now) self.now }
     {
@@ -73,7 +74,7 @@ impl Typifier {
             .all(|resolution| resolution.fits(types))
     }
 
-    /// The shape of the type of an expression.
+    /// Returns the shape of the type of an expression.
     pub fn get<'a>(
         &'a self,
         handle: Handle<mark::Expression>,
@@ -87,7 +88,7 @@ impl Typifier {
         self.resolutions[handle.index()].inner_with(types)
     }
 
-    /// The type of the next expression.
+    /// Returns the type of the next expression.
     fn next_type(
         &self,
         alloc: Global,
@@ -110,7 +111,7 @@ impl Typifier {
             expression,
             |operand: Handle<mark::Expression>| -> Result<&TypeResolution, ResolveError>
                 requires { operand < length self.now }
-                ensures { IsOkAnd result (λ told. slice_get self.entry.now operand ≡ Some told.now) }
+                ensures { IsOkAnd result (λ reported. slice_get self.entry.now operand ≡ Some reported.now) }
             { Ok(&self.resolutions[operand.index()]) },
         );
         let resolution = match resolved {
@@ -124,11 +125,11 @@ impl Typifier {
         }
     }
 
-    /// Gives types to the expressions up to and with `handle`, where they have none yet. Those that are held stay.
+    /// Resolves the types of the expressions up to and including `handle` that have none yet. The stored ones are unchanged.
     ///
     /// # Errors
     ///
-    /// Why the first expression without a type has none: that at place `len`, as the types of those before it are held.
+    /// The reason why the first expression without a type has none. It is the one at position `len`, as the types before it are stored.
     pub fn grow(
         &mut self,
         alloc: Global,
@@ -140,16 +141,17 @@ impl Typifier {
         requires fit { All (FitsTypes context.now.types) self.old }
         requires there { handle < length expressions.now }
         ensures grown { Grows context.now expressions.now self.old self.new }
-        ensures kept { take (length self.old) self.new ≡ self.old }
+        ensures typed { AreTyped context.now expressions.now (length self.old) self.new }
+        ensures retained { take (length self.old) self.new ≡ self.old }
         ensures whole { OnOk result (handle < length self.new) }
         ensures no_more { length self.old ≤ handle → length self.new ≤ handle + 1 }
         ensures idle { handle < length self.old → self.new ≡ self.old }
-        ensures asked { OnErr result (length self.old ≤ handle) }
+        ensures queried { OnErr result (length self.old ≤ handle) }
         ensures refused { IfErr result (IsRefusedNext context.now expressions.now self.new) }
         ensures fits { All (FitsTypes context.now.types) self.new }
     {
-        for place in self.len()..handle.index() + 1 {
-            let next = Handle::from_index(place as u32);
+        for position in self.len()..handle.index() + 1 {
+            let next = Handle::from_index(position as u32);
             let resolution = self.next_type(alloc, context, &expressions[next])?;
             match self.resolutions.push(resolution) {
                 Ok(()) => {}
@@ -159,12 +161,12 @@ impl Typifier {
         Ok(())
     }
 
-    /// Finds the type of an expression anew, which a front end has exchanged: the types from `handle` on are forgotten, as they may rest on
-    /// it, and the table grows up to and with it.
+    /// Resolves the type of an expression again after a front end has replaced it: removes the types from `handle` on, which may depend on
+    /// it, and grows the table up to and including it.
     ///
     /// # Errors
     ///
-    /// Those of `grow`.
+    /// The errors of `grow`.
     pub fn invalidate(
         &mut self,
         alloc: Global,
@@ -176,6 +178,7 @@ impl Typifier {
         requires fit { All (FitsTypes context.now.types) self.old }
         requires there { handle < length expressions.now }
         ensures grown { Grows context.now expressions.now (take handle self.old) self.new }
+        ensures typed { AreTyped context.now expressions.now handle self.new }
         ensures whole { OnOk result (handle < length self.new) }
         ensures no_more { length self.new ≤ handle + 1 }
         ensures refused { IfErr result (IsRefusedNext context.now expressions.now self.new) }
@@ -185,12 +188,12 @@ impl Typifier {
         self.grow(alloc, handle, expressions, context)
     }
 
-    /// The handle of an expression's type. A free-standing type goes into the arena without a name, where it isn't there yet; nothing
+    /// Returns the handle of an expression's type. A type outside the arena is inserted without a name unless it is there already; nothing
     /// else is added.
     ///
     /// # Errors
     ///
-    /// `AllocError` if memory for the arena is refused, which then holds what it held. A type that is there asks for none.
+    /// `AllocError` if allocating the arena fails, which is then unchanged. A type that is there already allocates nothing.
     pub fn register_type(
         &self,
         alloc: Global,
@@ -203,9 +206,10 @@ impl Typifier {
             IsRegistered types.new resolution ty) }
         ensures added { OnOk result ((resolution : TypeResolution) → slice_get self.now handle ≡ Some resolution →
             types.new ≡ with_resolution types.old resolution) }
-        ensures kept { take (length types.old) types.new ≡ types.old }
+        ensures retained { take (length types.old) types.new ≡ types.old }
         ensures err { OnErr result (types.new ≡ types.old) }
-        ensures asks { OnErr result ((resolution : TypeResolution) → slice_get self.now handle ≡ Some resolution → HoldsNoList resolution →
+        ensures needs_memory { OnErr result ((resolution : TypeResolution) → slice_get self.now handle ≡ Some resolution →
+            HoldsNoMembers resolution →
             IsMissing types.old resolution) }
     {
         match &self[handle] {

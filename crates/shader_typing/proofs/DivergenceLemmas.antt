@@ -1,35 +1,58 @@
--- In an accepted module no two invocations part where flow must be uniform.
-use Rattle.std.proofs.Common.{◌≡◌, sym, subst, ℕ, ◌<◌, List, Some, slice_get, length}
-use Rattle.std.proofs.lemmas.Option.{slice_get_within}
-use Rattle.shader_chains.proofs.WalkLemmas.{accepted_walks_agree}
-use Rattle.shader_chains.specs.Exact.{IsExact, IsExactModule}
-use Rattle.shader_chains.specs.Faults.{in_entry_point, in_function}
-use Rattle.shader_chains.specs.Infos.{Info}
-use Rattle.shader_chains.specs.Program.{Function, Module}
-use Rattle.shader_ir.specs.declared.proc.type_resolution.TypeResolution.{TypeResolution}
-use Rattle.shader_typing.proofs.PlaceLemmas.{found_at}
-use Rattle.shader_typing.specs.Divergence.{AnalyzedWalksAgree, IsOf, entry_point, function}
+-- In a well-formed module walks that choose alike pass the same undisrupted Emits, and in a function without fault those that need it.
+use Rattle.std.proofs.Common.{ℕ, ◌<◌, ◌≤◌, IsTrue}
+use Rattle.shader_analysis_spec.proofs.FlowLemmas.{more_disrupted}
+use Rattle.shader_analysis_spec.proofs.ReasonLemmas.{reason}
+use Rattle.shader_analysis_spec.proofs.WalkLemmas.{disruption_means_divergence}
+use Rattle.shader_analysis_spec.specs.Faults.{Cause, IsFault, IsOriginOf, NonUniformControlFlow, PairAt, Settings, flow_violation}
+use Rattle.shader_analysis_spec.specs.Filters.{Governs}
+use Rattle.shader_analysis_spec.specs.Flow.{At, Disrupted}
+use Rattle.shader_analysis_spec.specs.Kills.{HasOrigin, KillsAt}
+use Rattle.shader_analysis_spec.specs.Needs.{ExpressionNeeds, Need}
+use Rattle.shader_analysis_spec.specs.Program.{Body, Emit, Function, Leaf, Module, Then}
+use Rattle.shader_ir.specs.declared.module.Severity.TheVariants as severity
+use Rattle.shader_resolve.specs.WellFormed.{IsWellFormed}
+use Rattle.shader_typing.proofs.DecidedLemmas.{origins_decided}
+use Rattle.shader_typing.proofs.DecidedNeeds.{needs_bits, needs_number, needs_small}
+use Rattle.shader_typing.specs.Divergence.{AcceptedWalksAgree, AlikeWalksPassAlike, IsOf}
 
--- a list of the same length has an item at the same place
-beside : {X Y : Type 0} (xs : List X) (ys : List Y) (i : ℕ) (x : X) → length ys ≡ length xs → slice_get xs i ≡ Some x →
-    (y : Y) × (slice_get ys i ≡ Some y)
-beside xs ys i x long is = found_at ys i (subst (λ n. i < n) (sym long) (slice_get_within xs i x is))
+pub alike_walks_pass_alike : AlikeWalksPassAlike
+alike_walks_pass_alike m f well of plain = disruption_means_divergence m f (origins_decided m well f of) plain
 
--- an exact info is recorded of each function and entry point
-recorded : (m : Module) (types : List TypeResolution) (functions entry_points : List Info) → IsExactModule m types functions entry_points →
-    (f : Function) → IsOf m f → (info : Info) × IsExact m f info
-recorded m types functions entry_points exact f (function i is) =
-    let held = beside m.functions functions i f exact.each_function is in
-    (held.0, exact.exact_functions i f held.0 is held.1)
-recorded m types functions entry_points exact _ (entry_point i entry is) =
-    let held = beside m.entry_points entry_points i entry exact.each_entry_point is in
-    (held.0, exact.exact_entry_points i entry held.0 is held.1)
+module _ (m : Module) (settings : Settings) (well : IsWellFormed m) (f : Function) (of : IsOf m f) where
+  abbrev has_source : ℕ → Type 0
+  has_source e = (h : ℕ) × IsOriginOf m f e h
 
-pub analyzed_walks_agree : AnalyzedWalksAgree
-analyzed_walks_agree m settings types functions entry_points exact accepted checked f (function i is) plain governed =
-    let held = recorded m types functions entry_points exact f (function i is) in
-    accepted_walks_agree m settings f held.0 held.1 plain checked governed (λ cause fault. accepted _ cause (in_function is fault))
-analyzed_walks_agree m settings types functions entry_points exact accepted checked _ (entry_point i entry is) plain governed =
-    let held = recorded m types functions entry_points exact entry.function (entry_point i entry is) in
-    accepted_walks_agree m settings entry.function held.0 held.1 plain checked governed
-    (λ cause fault. accepted _ cause (in_entry_point is fault))
+  turned : (e : ℕ) → HasOrigin m f e → has_source e
+  turned e (r, h, origin) = (h, (r, origin))
+
+  -- a disrupted Emit of an expression that needs undisrupted flow is a fault
+  flow_fault : (i j e : ℕ) (n : Need) (b : Body) (p : At f.body (Then (Leaf (Emit i j)) b)) →
+      Disrupted (HasOrigin m f) (KillsAt m) f.body _ p →
+      i ≤ e → e < j → ExpressionNeeds m n f e → IsTrue settings.checks_flow →
+      Governs m.diagnostic_filters f.diagnostic_filter_leaf severity.Error →
+      (cause : Cause) × IsFault m f settings cause
+  flow_fault i j e n b p d le lt needs checks grave =
+      let same : Disrupted has_source (KillsAt m) f.body _ p =
+      more_disrupted (HasOrigin m f) has_source (KillsAt m) (KillsAt m) f.body turned (λ c arguments result b q k. k) _ p d in
+      let (disruptor, disrupts) = reason (IsOriginOf m f) (KillsAt m) (λ n e. ExpressionNeeds m n f e) (PairAt m) m settings f _ p same in (
+        NonUniformControlFlow (needs_number m well f of e) e disruptor,
+        flow_violation checks grave (record {
+          start = i;
+          finish = j;
+          left = b;
+          at = p;
+          from = le;
+          to = lt;
+          disrupted = same;
+          need = n;
+          needed = needs;
+          small = needs_small m well f of e;
+          bits = needs_bits m well f of e;
+          disrupts = disrupts;
+        }),
+      )
+
+pub accepted_walks_agree : AcceptedWalksAgree
+accepted_walks_agree m settings f well of plain checks grave clean w v alike i j e n b p le lt needs =
+    alike_walks_pass_alike m f well of plain w v alike _ p
+    (λ d. let (cause, fault) = flow_fault m settings well f of i j e n b p d le lt needs checks grave in clean cause fault)

@@ -1,10 +1,6 @@
-pub mod AnalyzableLemmas
+pub mod Answering
+pub mod DecidedLemmas
+pub mod DecidedNeeds
 pub mod DivergenceLemmas
-pub mod FewNeeds
-pub mod FoundLemmas
-pub mod InfoLemmas
-pub mod KeptLemmas
-pub mod MisplacedFaults
-pub mod NextLemmas
-pub mod PlaceLemmas
-pub mod TypedLemmas
+pub mod Fitting
+pub mod Growing

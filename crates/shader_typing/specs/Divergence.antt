@@ -1,17 +1,16 @@
--- In an accepted module no two walks part where flow must be uniform.
-use Rattle.std.specs.Prelude.{◌≡◌, ℕ, ◌<◌, ◌≤◌, ◌↔◌, List, Some, slice_get, IsTrue}
-use Rattle.shader_chains.specs.Exact.{IsExactModule}
-use Rattle.shader_chains.specs.Faults.{IsAccepted, Settings}
-use Rattle.shader_chains.specs.Filters.{Governs}
-use Rattle.shader_chains.specs.Flow.{At}
-use Rattle.shader_chains.specs.Infos.{Info}
-use Rattle.shader_chains.specs.Kills.{HasOrigin, KillsAt}
-use Rattle.shader_chains.specs.Needs.{ExpressionNeeds, Need}
-use Rattle.shader_chains.specs.Program.{Body, Emit, Function, Leaf, Module, Then}
-use Rattle.shader_chains.specs.Walks.{Alike, HasNoLoop, Passes, Walk}
+-- Noninterference of control flow, by the definitions of flow, faults and walks alone: no two walks part where flow must be uniform.
+use Rattle.std.specs.Prelude.{◌≡◌, ℕ, ◌<◌, ◌≤◌, ◌↔◌, Some, slice_get, IsTrue}
+use Rattle.shader_analysis_spec.specs.Disruption.{OriginsDecided}
+use Rattle.shader_analysis_spec.specs.Faults.{Cause, IsFault, Settings}
+use Rattle.shader_analysis_spec.specs.Filters.{Governs}
+use Rattle.shader_analysis_spec.specs.Flow.{At}
+use Rattle.shader_analysis_spec.specs.Kills.{HasOrigin, KillsAt}
+use Rattle.shader_analysis_spec.specs.Needs.{ExpressionNeeds, Need}
+use Rattle.shader_analysis_spec.specs.Program.{Body, Emit, Function, Leaf, Module, Then}
+use Rattle.shader_analysis_spec.specs.Walks.{Alike, AlikeWalksAgree, HasNoLoop, Passes, Walk}
 use Rattle.shader_ir.specs.declared.function.EntryPoint.{EntryPoint}
 use Rattle.shader_ir.specs.declared.module.Severity.TheVariants as severity
-use Rattle.shader_ir.specs.declared.proc.type_resolution.TypeResolution.{TypeResolution}
+use Rattle.shader_resolve.specs.WellFormed.{IsWellFormed}
 
 -- f is a function or an entry point of the module
 pub data IsOf (m : Module) : Function → Type 0 where
@@ -24,9 +23,18 @@ KeepsTogether m f = (w v : Walk (KillsAt m) f.body) → Alike (HasOrigin m f) w 
     (i j e : ℕ) (n : Need) (b : Body) (p : At f.body (Then (Leaf (Emit i j)) b)) → i ≤ e → e < j → ExpressionNeeds m n f e →
     Passes w _ p ↔ Passes v _ p
 
--- what analyze_module answers of a module: where flow is checked, each function without loops whose filter says Error keeps its walks
--- together
-abbrev pub AnalyzedWalksAgree : Type 0
-AnalyzedWalksAgree = (m : Module) (settings : Settings) (types : List TypeResolution) (functions entry_points : List Info) →
-    IsExactModule m types functions entry_points → IsAccepted m settings → IsTrue settings.checks_flow →
-    (f : Function) → IsOf m f → HasNoLoop f.body → Governs m.diagnostic_filters f.diagnostic_filter_leaf severity.Error → KeepsTogether m f
+-- in a well-formed module each expression has an origin or has none
+abbrev pub OriginsAreDecided : Type 0
+OriginsAreDecided = (m : Module) → IsWellFormed m → (f : Function) → IsOf m f → OriginsDecided m f
+
+-- any two walks through a function without loops that choose alike where the choice has no origin pass the same undisrupted path points,
+-- and so the same undisrupted Emits
+abbrev pub AlikeWalksPassAlike : Type 0
+AlikeWalksPassAlike = (m : Module) (f : Function) → IsWellFormed m → IsOf m f → HasNoLoop f.body →
+    AlikeWalksAgree (HasOrigin m f) (KillsAt m) f.body
+
+-- if flow is checked and its filter says Error, a function without loops and without fault keeps its walks together
+abbrev pub AcceptedWalksAgree : Type 0
+AcceptedWalksAgree = (m : Module) (settings : Settings) (f : Function) → IsWellFormed m → IsOf m f → HasNoLoop f.body →
+    IsTrue settings.checks_flow → Governs m.diagnostic_filters f.diagnostic_filter_leaf severity.Error →
+    ((cause : Cause) → IsFault m f settings cause → ⊥) → KeepsTogether m f

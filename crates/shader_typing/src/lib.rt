@@ -1,6 +1,9 @@
-//! The analysis of functions and modules, and the names of the layers below it by naga's paths.
+//! The typing layer at naga's paths: `arena`, `ir`, `proc`, `valid` and `front`. This crate hands on the names of the crates below it,
+//! and its `specs/` the words of their public contracts, so that a user names one crate; of its own it has one law, over all of them. No
+//! crate of the layer stands on it.
 #![tactic(auto)]
 
+pub mod front;
 pub mod laws;
 pub mod proc;
 pub mod valid;

@@ -1,8 +1,9 @@
-//! The names of naga's `proc` that typing has, gathered from the crates below.
+//! The names of naga's `proc` that concern typing, from the crates below.
 
 pub mod index;
 
 pub use index::{BoundsCheckPolicies, BoundsCheckPolicy, IndexableLength, IndexableLengthError};
+pub use shader_expression_types::type_of;
 pub use shader_ir::GlobalCtx;
 pub use shader_ir::proc::{
     Alignment, ConcreteIntScalars, ExpressionOperands, KnownIndex, Label, LayoutError,

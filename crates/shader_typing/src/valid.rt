@@ -1,17 +1,12 @@
-//! What the analysis records, and why it refuses.
-
-mod analyze;
-mod analyzer;
-mod module_info;
-
-pub use analyze::analyze_module;
-pub use module_info::ModuleInfo;
+//! The names of naga's `valid`: well-formed modules, the analysis, what it records and why it refuses.
+pub use bitflags::Flags;
+pub use shader_analysis::{ModuleInfo, ValidationError, analyze_module, is_fault, validate};
 pub use shader_info::{
-    AnalysisError, AnalysisPlace, Capabilities, ExpressionError, ExpressionInfo, FunctionError,
+    AnalysisError, AnalysisLocation, Capabilities, ExpressionError, ExpressionInfo, FunctionError,
     FunctionInfo, GlobalOrArgument, GlobalUse, NonUniformResult, Sampling, SamplingKey, Uniformity,
     UniformityDisruptor, UniformityRequirements, ValidationFlags,
 };
 pub use shader_ir::proc::MAX_TYPE_SIZE;
 pub use shader_resolve::{
-    MOST_LEVELS, ModuleFault, ModulePlace, check_module, find_fault, nests_within,
+    MOST_LEVELS, ModuleFault, ModuleLocation, check_module, find_fault, nests_within,
 };

@@ -1,35 +1,36 @@
-//! Questions about what the analysis records of a module, or why it refuses it: `analysis` and then
+//! Questions about the analysis results for a module, or the reason for its rejection: `analysis`, followed by
 //!
-//! - `module`: what is told of each function and entry point, or of the first fault;
-//! - `function N PART`, `entry N PART`: a part of what is recorded of the Nth function or entry point;
-//! - `samplings PLACE PLACE`: how many functions sample the first with the second;
+//! - `module`: the results for each function and entry point, or the first violation;
+//! - `function N SECTION`, `entry N SECTION`: a section of the results for the Nth function or entry point;
+//! - `samplings RESOURCE RESOURCE`: the number of functions that sample the first with the second;
 //! - `constant N`: the type of the Nth global expression, `u32` or `other`;
-//! - `first PART`: a part of what is recorded of the first function by itself;
-//! - `first verdict FLAGS CAPABILITIES`: whether it is `accepted`, or why not.
+//! - `first SECTION`: a section of the results for the first function alone;
+//! - `first verdict FLAGS CAPABILITIES`: `accepted`, or the reason for its rejection.
 //!
-//! A PART is `origins`, `counts`, `needs`, `kills`, `uses`, `result`, `pairs` or `samples PLACE PLACE`, a PLACE `global N` or `argument N`.
+//! A SECTION is `origins`, `counts`, `needs`, `kills`, `uses`, `result`, `pairs` or `samples RESOURCE RESOURCE`; a RESOURCE is `global N`
+//! or `argument N`.
 mod question;
 mod recorded;
-mod telling;
+mod rendering;
 
 use crate::analysis::question::Question;
-use crate::analysis::recorded::{told_of_first, told_of_module, verdict_on_first};
+use crate::analysis::recorded::{report_of_first, report_of_module, verdict_on_first};
 use crate::words::Words;
 use shader_ir::Module;
 use std::alloc::{AllocError, Global};
 
-/// What is replied to the question that the words are, if they are one and it can be asked of this module.
+/// Returns the reply to the question, if the words are one and it applies to this module.
 pub fn reply(
     alloc: Global,
     words: Words<'_>,
     module: &Module,
 ) -> Result<Option<String>, AllocError> {
     match Question::from_words(words) {
-        Some(Question::First(part)) => told_of_first(alloc, module, part),
+        Some(Question::First(part)) => report_of_first(alloc, module, part),
         Some(Question::Verdict(flags, capabilities)) => {
             verdict_on_first(alloc, module, flags, capabilities)
         }
-        Some(Question::Analyzed(asked)) => told_of_module(alloc, module, asked),
+        Some(Question::Analyzed(queried)) => report_of_module(alloc, module, queried),
         None => Ok(None),
     }
 }

@@ -1,14 +1,14 @@
 //! The answer to each line of an input.
 use crate::words::Words;
 use crate::{
-    analysis, faults, indexes, known, layouts, lengths, operands, origins, parts, resolve, sizes,
-    types, typifier,
+    analysis, faults, indexes, known, layouts, lengths, operands, origins, parts, reports, resolve,
+    sizes, types, typifier,
 };
 use shader_ir::Module;
-use shader_json::{ReadError, read_module};
+use shader_json_module::{ReadError, read_module};
 use std::alloc::{AllocError, Global};
 
-/// What is replied to a question about the module, or about a copy of it where the first word is `copied`.
+/// Returns the reply to a question about the module, or about a copy of it if the first word is `copied`.
 fn reply(alloc: Global, question: &str, module: &Module) -> Result<Option<String>, AllocError> {
     match question.strip_prefix("copied ") {
         Some(question) => {
@@ -21,7 +21,7 @@ fn reply(alloc: Global, question: &str, module: &Module) -> Result<Option<String
     }
 }
 
-/// What is replied to a question, if a kind of question knows it and it can be asked of this module.
+/// Returns the reply to a question, if a kind of question matches it and it applies to this module.
 fn reply_of_kind(
     alloc: Global,
     question: &str,
@@ -39,6 +39,7 @@ fn reply_of_kind(
         "operands" => operands::reply(alloc, words, module),
         "origins" => origins::reply(alloc, words, module),
         "part" => parts::reply(alloc, words, module),
+        "report" => reports::reply(alloc, words, module),
         "resolve" => resolve::reply(alloc, words, module),
         "size" => sizes::reply(alloc, words, module),
         "type" => types::reply(alloc, words, module),
@@ -47,7 +48,7 @@ fn reply_of_kind(
     }
 }
 
-/// The question and the text of the module that stand in a line.
+/// Returns the question and the text of the module in a line.
 fn split_line(line: &[u8]) -> Option<(&str, &str)> {
     match str::from_utf8(line) {
         Ok(text) => text.split_once('\t'),
@@ -62,7 +63,7 @@ fn add_reply(text: &mut String, reply: Option<String>) -> Result<(), AllocError>
     }
 }
 
-/// Adds what is replied to a question about the module that the text is.
+/// Adds the reply to a question about the module given by the text.
 fn add_answer(
     alloc: Global,
     text: &mut String,
@@ -87,7 +88,7 @@ fn add_line(alloc: Global, text: &mut String, line: &[u8]) -> Result<(), AllocEr
     }
 }
 
-/// The answers to the lines of the input, each on a line of its own.
+/// Returns the answers to the lines of the input, one per line.
 pub fn answer(alloc: Global, input: &[u8]) -> Result<String, AllocError> {
     let mut text = String::new(alloc);
     for line in input.split_inclusive(|b| *b == b'\n') {

@@ -1,26 +1,30 @@
-//! Questions about whether a module is well formed, and how deep its blocks nest:
+//! Questions about well-formedness and nesting of a module:
 //!
-//! - `fault`: `none`, or the first place at which something is wrong and what that is, as `Type([0]) TypeNotEarlier`;
-//! - `nests NUMBER..`: for each number `yes` where the blocks nest no deeper, or else `no`.
+//! - `fault`: `none`, or the first faulty location and its violation, as `Type([0]) TypeNotEarlier`;
+//! - `nests NUMBER..`: for each number `yes` if the blocks nest no deeper, or else `no`.
 use crate::words::Words;
 use shader_ir::Module;
-use shader_resolve::{ModuleFault, ModulePlace, check_module, find_fault, nests_within};
+use shader_resolve::{ModuleFault, ModuleLocation, check_module, find_fault, nests_within};
 use std::alloc::{AllocError, Global};
 
-/// Whether two calls tell the same fault, or both none.
-fn agree(told: Result<(), ModuleFault>, found: Option<(ModulePlace, ModuleFault)>) -> bool {
-    match (told, found) {
+/// Returns whether two calls report the same violation, or both none.
+fn agree(reported: Result<(), ModuleFault>, found: Option<(ModuleLocation, ModuleFault)>) -> bool {
+    match (reported, found) {
         (Ok(()), None) => true,
-        (Err(told), Some((_, found))) => told == found,
+        (Err(reported), Some((_, found))) => reported == found,
         _ => false,
     }
 }
 
-fn fault_text(alloc: Global, place: ModulePlace, fault: ModuleFault) -> Result<String, AllocError> {
-    format!(in alloc; "{place:?} {fault:?}")
+fn fault_text(
+    alloc: Global,
+    location: ModuleLocation,
+    fault: ModuleFault,
+) -> Result<String, AllocError> {
+    format!(in alloc; "{location:?} {fault:?}")
 }
 
-/// What is replied to `fault`.
+/// Returns the reply to `fault`.
 pub fn fault(
     alloc: Global,
     words: Words<'_>,
@@ -35,13 +39,13 @@ pub fn fault(
             .map(Some);
     }
     let text = match find_fault(module) {
-        Some((place, fault)) => fault_text(alloc, place, fault),
+        Some((location, fault)) => fault_text(alloc, location, fault),
         None => "none".to_string(alloc),
     };
     text.map(Some)
 }
 
-/// What is replied to the numbers that the words are, if they are.
+/// Returns the reply to the numbers, if the words are numbers.
 pub fn nests(
     alloc: Global,
     words: Words<'_>,

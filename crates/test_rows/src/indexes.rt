@@ -1,28 +1,29 @@
-//! Questions about indexes that may be out of bounds: `indexes` and then
+//! Questions about indexes that may be out of bounds: `indexes`, followed by
 //!
-//! - `policies POLICIES`: which policies are among them;
-//! - `function N ASKED`, `entry N ASKED`: what is asked of the Nth function or entry point.
+//! - `policies POLICIES`: the policies that occur among them;
+//! - `function N QUERY`, `entry N QUERY`: a query of the Nth function or entry point.
 //!
-//! ASKED is one of these, where E is the place of an expression:
+//! A QUERY is one of these, where E is the position of an expression:
 //!
-//! - `checked POLICIES`: the places of the indexes that are checked;
-//! - `locals POLICIES`: the places of the types of which a local is needed;
+//! - `checked POLICIES`: the positions of the checked indexes;
+//! - `locals POLICIES`: the positions of the types that need a local variable;
 //! - `policy POLICIES E`: the policy of an access to the expression;
-//! - `compare E INDEX`: the length that the index into the expression is compared with, `eE` or a number `nN`; or `-` where it is below.
+//! - `compare E INDEX`: the length with which the index into the expression is compared, or `-` if the index is below it; an INDEX is `eE`
+//!   or a number `nN`.
 //!
-//! POLICIES are `index=Restrict,buffer=ReadZeroSkipWrite` and so on, of which those that aren't named are `Unchecked`, or `-`.
+//! POLICIES are written `index=Restrict,buffer=ReadZeroSkipWrite` and so on, where those not named are `Unchecked`, or `-`.
 mod question;
+mod rendering;
 mod searched;
-mod telling;
 
 use crate::indexes::question::Question;
-use crate::indexes::searched::told;
-use crate::indexes::telling::policies_text;
+use crate::indexes::rendering::policies_text;
+use crate::indexes::searched::report;
 use crate::words::Words;
 use shader_ir::Module;
 use std::alloc::{AllocError, Global};
 
-/// What is replied to the question that the words are, if they are one and it can be asked of this module.
+/// Returns the reply to the question, if the words are one and it applies to this module.
 pub fn reply(
     alloc: Global,
     words: Words<'_>,
@@ -30,7 +31,7 @@ pub fn reply(
 ) -> Result<Option<String>, AllocError> {
     match Question::from_words(words) {
         Some(Question::Policies(policies)) => Ok(Some(policies_text(alloc, policies)?)),
-        Some(Question::Function(place, asked)) => told(alloc, module, place, asked),
+        Some(Question::Function(location, queried)) => report(alloc, module, location, queried),
         None => Ok(None),
     }
 }

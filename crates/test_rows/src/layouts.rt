@@ -1,14 +1,14 @@
-//! Questions about layouts: `layouts` and then
+//! Questions about layouts: `layouts`, followed by
 //!
-//! - nothing: all layouts, each as its size, its alignment and its stride in bytes, and behind them the type that has none;
-//! - `twice`: the same for two updates, one behind the other;
-//! - `anew`: the same, where the layouter is cleared between them;
-//! - `added`: all layouts, where each type is laid out when it is added;
-//! - `held`: how many there are.
+//! - nothing: all layouts, each as its size, alignment and stride in bytes, and then the type that has none;
+//! - `twice`: the same for two updates in sequence;
+//! - `anew`: the same, with the layouter cleared between the updates;
+//! - `added`: all layouts, with each type laid out when it is added;
+//! - `stored`: the number of layouts.
 ghost use Rattle.shader_ir.specs.Layout.{HasStride};
 ghost use Rattle.shader_ir.specs.Sizes.{AreTypeSizesInRange};
 
-use crate::told::Reply;
+use crate::render::Reply;
 use crate::words::Words;
 use shader_arena::{Handle, UniqueArena};
 use shader_ir::{
@@ -24,7 +24,7 @@ fn add_layout(text: &mut String, layout: TypeLayout) -> Result<(), AllocError>
     write!(text, " {}/{}/{stride}", layout.size, layout.alignment)
 }
 
-/// Adds how many layouts are held, and those of the context's types.
+/// Adds the number of layouts stored, and those of the context's types.
 fn add_layouts(
     text: &mut String,
     layouter: &Layouter,
@@ -39,7 +39,7 @@ fn add_layouts(
     Ok(())
 }
 
-/// Adds why an update stopped, if it did.
+/// Adds the reason why an update stopped, if it did.
 fn add_outcome(text: &mut String, outcome: Result<(), UpdateError>) -> Result<(), AllocError> {
     match outcome {
         Ok(()) => Ok(()),
@@ -48,7 +48,7 @@ fn add_outcome(text: &mut String, outcome: Result<(), UpdateError>) -> Result<()
     }
 }
 
-/// Updates a layouter, and adds the layouts that it holds then.
+/// Updates a layouter, and adds the layouts that it then contains.
 fn add_update(
     text: &mut String,
     layouter: &mut Layouter,
@@ -61,7 +61,7 @@ fn add_update(
     add_outcome(text, outcome)
 }
 
-/// Updates a layouter twice, and clears it between, where that is asked for.
+/// Updates a layouter twice, and clears it between the updates if requested.
 fn add_updates(
     text: &mut String,
     layouter: &mut Layouter,
@@ -79,7 +79,7 @@ fn add_updates(
     add_update(text, layouter, ctx)
 }
 
-/// What the module lends, with other types.
+/// Returns the module's context with other types.
 fn with_types<'a>(types: &'a UniqueArena<Type, mark::Type>, module: &'a Module) -> GlobalCtx<'a> {
     GlobalCtx {
         types,
@@ -89,7 +89,7 @@ fn with_types<'a>(types: &'a UniqueArena<Type, mark::Type>, module: &'a Module) 
     }
 }
 
-/// Lays out what isn't laid out yet, and adds the type that has no layout.
+/// Lays out the types added last, and adds the type that has no layout.
 fn add_added(
     text: &mut String,
     layouter: &mut Layouter,
@@ -121,8 +121,8 @@ fn add_one_by_one(
     add_layouts(text, layouter, module.to_ctx())
 }
 
-/// Updates a layouter, and adds how many layouts it holds then.
-fn add_held(
+/// Updates a layouter, and adds the number of layouts that it then contains.
+fn add_stored(
     text: &mut String,
     layouter: &mut Layouter,
     ctx: GlobalCtx<'_>,
@@ -134,27 +134,27 @@ fn add_held(
     add_outcome(text, outcome)
 }
 
-/// Adds what a question is answered by.
+/// Adds the answer to a question.
 fn add_answer(
     alloc: Global,
     text: &mut String,
-    asked: &str,
+    queried: &str,
     module: &Module,
     ctx: GlobalCtx<'_>,
 ) -> Result<(), AllocError>
     requires { AreTypeSizesInRange ctx }
 {
     let mut layouter = Layouter::new(alloc);
-    match asked {
+    match queried {
         "twice" => add_updates(text, &mut layouter, ctx, false),
         "anew" => add_updates(text, &mut layouter, ctx, true),
         "added" => add_one_by_one(alloc, text, &mut layouter, module),
-        "held" => add_held(text, &mut layouter, ctx),
+        "stored" => add_stored(text, &mut layouter, ctx),
         _ => add_update(text, &mut layouter, ctx),
     }
 }
 
-/// What is replied to the question that the words are, if it can be asked of this module.
+/// Returns the reply to the question, if the words are one and it applies to this module.
 pub fn reply(alloc: Global, mut words: Words<'_>, module: &Module) -> Reply {
     let ctx = module.to_ctx();
     if !sizes_in_range(ctx) {

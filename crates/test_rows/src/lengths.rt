@@ -1,17 +1,17 @@
-//! Questions about lengths: `length` and then
+//! Questions about lengths: `length`, followed by
 //!
 //! - `type T`: the length of the type, before the overrides have values, and once they have them;
-//! - `size T`: the length that the size of an array or a binding array gives;
-//! - `base R`: the length of what an expression resolves to, an R as `h3` or `v3`;
+//! - `size T`: the length given by the size of an array or a binding array;
+//! - `base R`: the length of the type to which an expression resolves, with R as `h3` or `v3`;
 //! - `known`: whether all sizes are known.
-use crate::told::{Reply, told};
+use crate::render::{Reply, render};
 use crate::types::{next_resolution, next_type};
 use crate::words::Words;
-use shader_ir::{Module, TypeInner};
-use shader_lengths::{
+use shader_bounds::{
     IndexableLength, IndexableLengthError, IndexableLengths, ToIndexableLength, base_length,
     sizes_known,
 };
+use shader_ir::{Module, TypeInner};
 use std::alloc::{AllocError, Global};
 
 type Length = Result<IndexableLength, IndexableLengthError>;
@@ -23,14 +23,14 @@ fn add(text: &mut String, length: Length) -> Result<(), AllocError> {
     }
 }
 
-fn tell(alloc: Global, length: Length) -> Reply {
+fn render_length(alloc: Global, length: Length) -> Reply {
     let mut text = String::new(alloc);
     add(&mut text, length)?;
     Ok(Some(text))
 }
 
-/// The length of a type: for itself, before the overrides have values, and once they have them.
-fn tell_three(alloc: Global, inner: &TypeInner, module: &Module) -> Reply {
+/// Returns the length of a type: the type's own, before the overrides have values, and once they have them.
+fn render_three(alloc: Global, inner: &TypeInner, module: &Module) -> Reply {
     let mut text = String::new(alloc);
     add(&mut text, inner.indexable_length(module))?;
     text.push_str("; ")?;
@@ -40,39 +40,42 @@ fn tell_three(alloc: Global, inner: &TypeInner, module: &Module) -> Reply {
     Ok(Some(text))
 }
 
-/// The length that a size gives.
-fn tell_size(alloc: Global, inner: &TypeInner, module: &Module) -> Reply {
+/// Returns the length given by a size.
+fn render_size(alloc: Global, inner: &TypeInner, module: &Module) -> Reply {
     match inner {
-        TypeInner::Array { size, .. } => tell(alloc, size.to_indexable_length(module)),
-        TypeInner::BindingArray { size, .. } => tell(alloc, size.to_indexable_length(module)),
+        TypeInner::Array { size, .. } => render_length(alloc, size.to_indexable_length(module)),
+        TypeInner::BindingArray { size, .. } => render_length(
+            alloc,
+            size.to_indexable_length(module),
+        ),
         _ => Ok(None),
     }
 }
 
-fn tell_base(alloc: Global, mut words: Words<'_>, module: &Module) -> Reply {
+fn render_base(alloc: Global, mut words: Words<'_>, module: &Module) -> Reply {
     match next_resolution(alloc, &mut words, &module.types)? {
-        Some(base) => tell(alloc, base_length(&base, module)),
+        Some(base) => render_length(alloc, base_length(&base, module)),
         None => Ok(None),
     }
 }
 
-/// Answers a question about the type that the next word is the number of.
-fn tell_type(alloc: Global, asked: &str, mut words: Words<'_>, module: &Module) -> Reply {
+/// Answers a question about the type with the number in the next word.
+fn render_type(alloc: Global, queried: &str, mut words: Words<'_>, module: &Module) -> Reply {
     match next_type(&mut words, &module.types) {
-        Some(ty) => match asked {
-            "type" => tell_three(alloc, &ty.inner, module),
-            "size" => tell_size(alloc, &ty.inner, module),
+        Some(ty) => match queried {
+            "type" => render_three(alloc, &ty.inner, module),
+            "size" => render_size(alloc, &ty.inner, module),
             _ => Ok(None),
         },
         None => Ok(None),
     }
 }
 
-/// What is replied to the question that the words are, if they are one and it can be asked of this module.
+/// Returns the reply to the question, if the words are one and it applies to this module.
 pub fn reply(alloc: Global, mut words: Words<'_>, module: &Module) -> Reply {
     match words.next_word() {
-        "base" => tell_base(alloc, words, module),
-        "known" => told(alloc, sizes_known(module)),
-        asked => tell_type(alloc, asked, words, module),
+        "base" => render_base(alloc, words, module),
+        "known" => render(alloc, sizes_known(module)),
+        queried => render_type(alloc, queried, words, module),
     }
 }

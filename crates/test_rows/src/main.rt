@@ -1,4 +1,4 @@
-//! Answers questions about modules that are read as JSON, a line for each: a program for tests alone.
+//! A program for tests: answers questions about modules in JSON, one per line.
 #![tactic(auto)]
 
 mod analysis;
@@ -11,15 +11,16 @@ mod lengths;
 mod operands;
 mod origins;
 mod parts;
+mod program;
+mod render;
+mod reports;
 mod resolve;
-mod running;
 mod sizes;
-mod told;
 mod types;
 mod typifier;
 mod words;
 
-use crate::running::run;
+use crate::program::run;
 use program_io::{FromReader, ToWriter};
 use std::io;
 use std::process::ExitCode;

@@ -1,17 +1,17 @@
-//! Questions about operands: `operands` and then
+//! Questions about operands: `operands`, followed by
 //!
-//! - `expression F E`: those of an expression of the Fth function;
-//! - `statement F S`: those of the Sth statement of its body.
+//! - `expression F E`: the operands of an expression of the Fth function;
+//! - `statement F S`: the operands of the Sth statement of its body.
 //!
-//! Each is told by its number and its label.
-use crate::told::Reply;
+//! Each operand is printed as its number and its label.
+use crate::render::Reply;
 use crate::words::Words;
 use shader_arena::Handle;
 use shader_ir::{Function, Module, Operands, expression_operands, mark, statement_operands};
 use std::alloc::Global;
 
-/// Tells each operand.
-fn tell(alloc: Global, operands: Operands<'_>) -> Reply {
+/// Returns the operands as text.
+fn render_operands(alloc: Global, operands: Operands<'_>) -> Reply {
     let mut text = "operands".to_string(alloc)?;
     for (operand, label) in operands {
         write!(text, " {}:{label:?}", operand.index())?;
@@ -19,52 +19,45 @@ fn tell(alloc: Global, operands: Operands<'_>) -> Reply {
     Ok(Some(text))
 }
 
-/// Tells the operands of an expression, if it is there.
-fn tell_of_expression(
+/// Returns the operands of an expression as text, if it is in range.
+fn render_expression(
     alloc: Global,
     function: &Function,
     expression: Handle<mark::Expression>,
 ) -> Reply {
-    if function.expressions.contains_handle(expression) {
-        tell(
-            alloc,
-            expression_operands(&function.expressions[expression]),
-        )
-    } else {
-        Ok(None)
-    }
-}
-
-/// Tells the operands of a statement, if it is there.
-fn tell_of_statement(alloc: Global, function: &Function, place: u32) -> Reply {
-    match function.body.statements.get(place as usize) {
-        Some(statement) => tell(alloc, statement_operands(statement)),
+    match function.expressions.try_get(expression) {
+        Some(expression) => render_operands(alloc, expression_operands(expression)),
         None => Ok(None),
     }
 }
 
-/// What is replied to the question that the words are, if they are one and it can be asked of this module.
+/// Returns the operands of a statement as text, if it is in range.
+fn render_statement(alloc: Global, function: &Function, position: u32) -> Reply {
+    match function.body.statements.get(position as usize) {
+        Some(statement) => render_operands(alloc, statement_operands(statement)),
+        None => Ok(None),
+    }
+}
+
+/// Returns the reply to the question, if the words are one and it applies to this module.
 pub fn reply(alloc: Global, mut words: Words<'_>, module: &Module) -> Reply {
-    let asked = words.next_word();
+    let queried = words.next_word();
     let Some(function) = next_function(&mut words, module) else {
         return Ok(None);
     };
-    let Some(place) = words.number() else {
+    let Some(position) = words.number() else {
         return Ok(None);
     };
-    match asked {
-        "expression" => tell_of_expression(alloc, function, Handle::from_index(place)),
-        "statement" => tell_of_statement(alloc, function, place),
+    match queried {
+        "expression" => render_expression(alloc, function, Handle::from_index(position)),
+        "statement" => render_statement(alloc, function, position),
         _ => Ok(None),
     }
 }
 
-/// The function that the next word is the number of.
+/// Returns the function with the number in the next word.
 pub fn next_function<'a>(words: &mut Words<'_>, module: &'a Module) -> Option<&'a Function> {
-    let handle = Handle::from_index(words.number()?);
-    if module.functions.contains_handle(handle) {
-        Some(&module.functions[handle])
-    } else {
-        None
-    }
+    module
+        .functions
+        .try_get(Handle::from_index(words.number()?))
 }

@@ -1,10 +1,10 @@
-//! Questions about why values may differ among invocations: `origins LINK`, where `f1.2` is expression 2 of function 1, `f1` what that gives
-//! back, and so `e0.2` and `e0` of entry point 0.
+//! Questions about sources of non-uniformity: `origins LINK`, where `f1.2` is expression 2 of function 1, `f1` its result, and likewise
+//! `e0.2` and `e0` for entry point 0.
 use crate::words::Words;
 use shader_arena::Handle;
 use shader_ir::Module;
-use shader_origins::{FunctionPlace, Link, Reasons, why_non_uniform};
 use shader_resolve::check_module;
+use shader_uniformity_trace::{FunctionLocation, Link, Reasons, why_non_uniform};
 use std::alloc::{AllocError, Global};
 
 fn number(word: &str) -> Option<u32> {
@@ -14,48 +14,48 @@ fn number(word: &str) -> Option<u32> {
     }
 }
 
-fn place_from_word(word: &str) -> Option<FunctionPlace> {
-    if let Some(place) = word.strip_prefix('f') {
-        return Some(FunctionPlace::Function(Handle::from_index(number(place)?)));
+fn location_from_word(word: &str) -> Option<FunctionLocation> {
+    if let Some(location) = word.strip_prefix('f') {
+        return Some(FunctionLocation::Function(Handle::from_index(number(location)?)));
     }
-    Some(FunctionPlace::EntryPoint(number(word.strip_prefix('e')?)? as usize))
+    Some(FunctionLocation::EntryPoint(number(word.strip_prefix('e')?)? as usize))
 }
 
 fn link_from_word(word: &str) -> Option<Link> {
     match word.split_once('.') {
-        Some((place, expression)) => {
+        Some((location, expression)) => {
             let expression = Handle::from_index(number(expression)?);
-            Some(Link::Expression(place_from_word(place)?, expression))
+            Some(Link::Expression(location_from_word(location)?, expression))
         }
-        None => Some(Link::Result(place_from_word(word)?)),
+        None => Some(Link::Result(location_from_word(word)?)),
     }
 }
 
-fn add_place(text: &mut String, place: FunctionPlace) -> Result<(), AllocError> {
-    match place {
-        FunctionPlace::Function(handle) => write!(text, "f{}", handle.index()),
-        FunctionPlace::EntryPoint(index) => write!(text, "e{index}"),
+fn add_location(text: &mut String, location: FunctionLocation) -> Result<(), AllocError> {
+    match location {
+        FunctionLocation::Function(handle) => write!(text, "f{}", handle.index()),
+        FunctionLocation::EntryPoint(index) => write!(text, "e{index}"),
     }
 }
 
 fn add_link(text: &mut String, link: &Link) -> Result<(), AllocError> {
     match link {
-        Link::Expression(place, expression) => {
-            add_place(text, *place)?;
+        Link::Expression(location, expression) => {
+            add_location(text, *location)?;
             write!(text, ".{}", expression.index())
         }
-        Link::Result(place) => add_place(text, *place),
+        Link::Result(location) => add_location(text, *location),
     }
 }
 
-/// The steps of a chain, or `-` where there is none.
+/// Returns the steps of a trace, or `-` if there is none.
 fn chain_text(alloc: Global, chain: &Option<Vec<Link>>) -> Result<String, AllocError> {
     let Some(links) = chain else {
         return "-".to_string(alloc);
     };
     let mut text = String::new(alloc);
-    for (place, link) in links.iter().enumerate() {
-        if place > 0 {
+    for (location, link) in links.iter().enumerate() {
+        if location > 0 {
             text.push_str(" ")?;
         }
         add_link(&mut text, link)?;
@@ -63,8 +63,9 @@ fn chain_text(alloc: Global, chain: &Option<Vec<Link>>) -> Result<String, AllocE
     Ok(text)
 }
 
-/// The chain from the link of a well-formed module, asked by itself and of what is found once, which have to be alike.
-fn told(alloc: Global, module: &Module, link: Link) -> Result<Option<String>, AllocError> {
+/// Returns the trace from the link of a well-formed module, computed for the link alone and from results computed once, which must be
+/// equal.
+fn report(alloc: Global, module: &Module, link: Link) -> Result<Option<String>, AllocError> {
     if check_module(module).is_err() {
         return Ok(None);
     }
@@ -79,7 +80,7 @@ fn told(alloc: Global, module: &Module, link: Link) -> Result<Option<String>, Al
     Ok(Some(chain_text(alloc, &chain)?))
 }
 
-/// What is replied to the question that the words are, if they are one and it can be asked of this module.
+/// Returns the reply to the question, if the words are one and it applies to this module.
 pub fn reply(
     alloc: Global,
     words: Words<'_>,
@@ -87,7 +88,7 @@ pub fn reply(
 ) -> Result<Option<String>, AllocError> {
     let mut words = words;
     match link_from_word(words.next_word()) {
-        Some(link) if words.is_done() => told(alloc, module, link),
+        Some(link) if words.is_done() => report(alloc, module, link),
         _ => Ok(None),
     }
 }

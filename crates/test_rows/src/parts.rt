@@ -1,13 +1,13 @@
-//! Questions about what a module is made of: `part` and then
+//! Questions about the items of a module: `part`, followed by
 //!
-//! - `constant N`, `override N`, `global N`: the name or `-`, the type, the initial expression, and the space of a global;
-//! - `function N`, `entry N`: the name, how many arguments, locals and expressions it has, its names of expressions, and what its
-//!   body holds; of an entry point the number of its stage before;
+//! - `constant N`, `override N`, `global N`: the name or `-`, the type, the initial expression, and the address space of a global variable;
+//! - `function N`, `entry N`: the name, the numbers of arguments, locals and expressions, the names of expressions, and the contents of the
+//!   body; for an entry point the number of its stage comes first;
 //! - `argument F N`, `local F N`: the name, the type, and the binding or the initial expression;
 //! - `special`: the special types;
-//! - `counts`: how many types, constants, overrides, global expressions, globals, functions, entry points and filters there are.
+//! - `counts`: the numbers of types, constants, overrides, global expressions, globals, functions, entry points and filters.
 use crate::operands::next_function;
-use crate::told::Reply;
+use crate::render::Reply;
 use crate::words::Words;
 use shader_arena::Handle;
 use shader_ir::{Block, Function, Module, Name, SpecialTypes, Statement, SwitchCase, SwitchValue};
@@ -20,32 +20,29 @@ fn name_of(name: &Option<Name>) -> &str {
     }
 }
 
-fn tell_constant(alloc: Global, place: u32, module: &Module) -> Reply {
-    let handle = Handle::from_index(place);
-    if !module.constants.contains_handle(handle) {
+fn render_constant(alloc: Global, position: u32, module: &Module) -> Reply {
+    let Some(constant) = module.constants.try_get(Handle::from_index(position)) else {
         return Ok(None);
-    }
-    let constant = &module.constants[handle];
+    };
     let name = name_of(&constant.name);
     format!(in alloc; "{name} {:?} {:?}", constant.ty, constant.init).map(Some)
 }
 
-fn tell_override(alloc: Global, place: u32, module: &Module) -> Reply {
-    let handle = Handle::from_index(place);
-    if !module.overrides.contains_handle(handle) {
+fn render_override(alloc: Global, position: u32, module: &Module) -> Reply {
+    let Some(sizer) = module.overrides.try_get(Handle::from_index(position)) else {
         return Ok(None);
-    }
-    let sizer = &module.overrides[handle];
+    };
     let name = name_of(&sizer.name);
     format!(in alloc; "{name} {:?} {:?}", sizer.ty, sizer.init).map(Some)
 }
 
-fn tell_global(alloc: Global, place: u32, module: &Module) -> Reply {
-    let handle = Handle::from_index(place);
-    if !module.global_variables.contains_handle(handle) {
+fn render_global(alloc: Global, position: u32, module: &Module) -> Reply {
+    let Some(global) = module
+        .global_variables
+        .try_get(Handle::from_index(position))
+    else {
         return Ok(None);
-    }
-    let global = &module.global_variables[handle];
+    };
     let name = name_of(&global.name);
     format!(in alloc;
         "{name} {:?} {:?} {:?}",
@@ -54,8 +51,8 @@ fn tell_global(alloc: Global, place: u32, module: &Module) -> Reply {
     .map(Some)
 }
 
-fn tell_argument(alloc: Global, function: &Function, place: u32) -> Reply {
-    match function.arguments.as_slice().get(place as usize) {
+fn render_argument(alloc: Global, function: &Function, position: u32) -> Reply {
+    match function.arguments.as_slice().get(position as usize) {
         Some(argument) => {
             let name = name_of(&argument.name);
             format!(in alloc; "{name} {:?} {:?}", argument.ty, argument.binding).map(Some)
@@ -64,17 +61,18 @@ fn tell_argument(alloc: Global, function: &Function, place: u32) -> Reply {
     }
 }
 
-fn tell_local(alloc: Global, function: &Function, place: u32) -> Reply {
-    let handle = Handle::from_index(place);
-    if !function.local_variables.contains_handle(handle) {
+fn render_local(alloc: Global, function: &Function, position: u32) -> Reply {
+    let Some(local) = function
+        .local_variables
+        .try_get(Handle::from_index(position))
+    else {
         return Ok(None);
-    }
-    let local = &function.local_variables[handle];
+    };
     let name = name_of(&local.name);
     format!(in alloc; "{name} {:?} {:?}", local.ty, local.init).map(Some)
 }
 
-fn tell_special(alloc: Global, special: &SpecialTypes) -> Reply {
+fn render_special(alloc: Global, special: &SpecialTypes) -> Reply {
     let mut text = String::new(alloc);
     write!(
         text,
@@ -102,7 +100,7 @@ fn add_case(text: &mut String, case: &SwitchCase) -> Result<(), AllocError> {
     text.push_str(if case.fall_through { " falls" } else { "" })
 }
 
-/// Adds a statement, by its name where it steers the flow.
+/// Adds a statement, by its name if it controls the flow.
 #[cycle(add)]
 fn add_statement(text: &mut String, statement: &Statement) -> Result<(), AllocError> {
     match statement {
@@ -156,14 +154,14 @@ fn add_function(text: &mut String, function: &Function) -> Result<(), AllocError
     add_block(text, &function.body)
 }
 
-fn tell_function(alloc: Global, function: &Function) -> Reply {
+fn render_function(alloc: Global, function: &Function) -> Reply {
     let mut text = String::new(alloc);
     add_function(&mut text, function)?;
     Ok(Some(text))
 }
 
-fn tell_entry(alloc: Global, place: u32, module: &Module) -> Reply {
-    match module.entry_points.as_slice().get(place as usize) {
+fn render_entry(alloc: Global, position: u32, module: &Module) -> Reply {
+    match module.entry_points.as_slice().get(position as usize) {
         Some(entry) => {
             let mut text = String::new(alloc);
             write!(text, "{} {} ", entry.stage as u8, entry.name.as_str())?;
@@ -174,7 +172,7 @@ fn tell_entry(alloc: Global, place: u32, module: &Module) -> Reply {
     }
 }
 
-fn tell_counts(alloc: Global, module: &Module) -> Reply {
+fn render_counts(alloc: Global, module: &Module) -> Reply {
     let ctx = module.to_ctx();
     let (types, constants) = (ctx.types.len(), ctx.constants.len());
     let (overrides, expressions) = (ctx.overrides.len(), ctx.global_expressions.len());
@@ -184,39 +182,39 @@ fn tell_counts(alloc: Global, module: &Module) -> Reply {
     format!(in alloc; "{lent} {globals} {functions} {entries} {filters}").map(Some)
 }
 
-/// What is told of a part of a function.
-fn reply_in_function(alloc: Global, asked: &str, mut words: Words<'_>, module: &Module) -> Reply {
+/// Returns the reply to a question about an item of a function.
+fn reply_in_function(alloc: Global, queried: &str, mut words: Words<'_>, module: &Module) -> Reply {
     let Some(function) = next_function(&mut words, module) else {
         return Ok(None);
     };
-    match (asked, words.number()) {
-        ("argument", Some(place)) => tell_argument(alloc, function, place),
-        ("local", Some(place)) => tell_local(alloc, function, place),
-        ("function", _) => tell_function(alloc, function),
+    match (queried, words.number()) {
+        ("argument", Some(position)) => render_argument(alloc, function, position),
+        ("local", Some(position)) => render_local(alloc, function, position),
+        ("function", _) => render_function(alloc, function),
         _ => Ok(None),
     }
 }
 
-/// What is replied to the question that the words are, if they are one and it can be asked of this module.
+/// Returns the reply to the question, if the words are one and it applies to this module.
 pub fn reply(alloc: Global, mut words: Words<'_>, module: &Module) -> Reply {
-    let asked = words.next_word();
-    match asked {
-        "special" => tell_special(alloc, &module.special_types),
-        "counts" => tell_counts(alloc, module),
+    let queried = words.next_word();
+    match queried {
+        "special" => render_special(alloc, &module.special_types),
+        "counts" => render_counts(alloc, module),
         "constant" | "override" | "global" | "entry" => match words.number() {
-            Some(place) => tell_declared(alloc, asked, place, module),
+            Some(position) => render_declared(alloc, queried, position, module),
             None => Ok(None),
         },
-        _ => reply_in_function(alloc, asked, words, module),
+        _ => reply_in_function(alloc, queried, words, module),
     }
 }
 
-/// What is told of a part of the module.
-fn tell_declared(alloc: Global, asked: &str, place: u32, module: &Module) -> Reply {
-    match asked {
-        "constant" => tell_constant(alloc, place, module),
-        "override" => tell_override(alloc, place, module),
-        "global" => tell_global(alloc, place, module),
-        _ => tell_entry(alloc, place, module),
+/// Returns the reply to a question about an item of the module.
+fn render_declared(alloc: Global, queried: &str, position: u32, module: &Module) -> Reply {
+    match queried {
+        "constant" => render_constant(alloc, position, module),
+        "override" => render_override(alloc, position, module),
+        "global" => render_global(alloc, position, module),
+        _ => render_entry(alloc, position, module),
     }
 }

@@ -1,10 +1,11 @@
-//! Questions about a table of types of function 0, which is empty at first: `typifier` and then steps behind commas, each with its answer.
+//! Questions about a table of types of function 0, which is empty at first: `typifier`, followed by steps separated by commas, each with
+//! its answer.
 //!
-//! - `grow N`, `invalidate N`: the table grows up to expression N, or finds its type anew: `ok`, or `refused: ` and why;
-//! - `held`: the types that are held, behind their number;
+//! - `grow N`, `invalidate N`: grows the table up to expression N, or resolves its type again: `ok`, or `refused: ` and the reason;
+//! - `stored`: the stored types, after their number;
 //! - `shape N`: the shape of the type of expression N;
-//! - `register N`: the place of that type in an arena, at first of the module's types, and how many there are then;
-//! - `reset`: forgets all types: `ok`.
+//! - `register N`: the position of that type in an arena, at first of the module's types, and then the number of types;
+//! - `reset`: removes all types: `ok`.
 mod steps;
 
 use crate::resolve::first_function;
@@ -13,22 +14,22 @@ use crate::words::Words;
 use shader_ir::Module;
 use std::alloc::{AllocError, Global};
 
-/// Takes the steps that a text tells. The answers to them, if all can be asked.
+/// Takes the steps given by a text. Returns the answers to them, if all steps apply.
 fn answers(mut table: Table<'_>, text: &str) -> Result<Option<String>, AllocError> {
-    let mut told = String::new(table.alloc);
-    for (place, step) in text.split(", ").enumerate() {
+    let mut report = String::new(table.alloc);
+    for (position, step) in text.split(", ").enumerate() {
         let Some(answer) = table.take(Words::new(step))? else {
             return Ok(None);
         };
-        if place > 0 {
-            told.push_str("; ")?;
+        if position > 0 {
+            report.push_str("; ")?;
         }
-        told.push_str(answer.as_str())?;
+        report.push_str(answer.as_str())?;
     }
-    Ok(Some(told))
+    Ok(Some(report))
 }
 
-/// What is replied to the steps that the words are, if they are and can be asked of this module.
+/// Returns the reply to the steps, if the words are steps that apply to this module.
 pub fn reply(
     alloc: Global,
     words: Words<'_>,

@@ -1,6 +1,6 @@
 //! The words of a question.
 
-/// The words that are still to be read, each behind a single space.
+/// The words that remain to be read, separated by single spaces.
 #[derive(Clone, Copy)]
 pub struct Words<'a> {
     rest: &'a str,
@@ -11,7 +11,7 @@ impl<'a> Words<'a> {
         Words { rest: text }
     }
 
-    /// The next word, which is empty where none is left.
+    /// Returns the next word, or an empty one if none remains.
     pub fn next_word(&mut self) -> &'a str {
         let rest = self.rest;
         match rest.split_once(' ') {
@@ -26,7 +26,7 @@ impl<'a> Words<'a> {
         }
     }
 
-    /// The number that the next word is, if it is one.
+    /// Returns the number that the next word spells, if any.
     pub fn number(&mut self) -> Option<u32> {
         match self.next_word().parse::<u32>() {
             Ok(number) => Some(number),
@@ -34,12 +34,12 @@ impl<'a> Words<'a> {
         }
     }
 
-    /// The words that are left.
+    /// Returns the remaining words.
     pub fn rest(self) -> &'a str {
         self.rest
     }
 
-    /// Whether no word is left.
+    /// Returns whether no words remain.
     pub fn is_done(self) -> bool {
         self.rest.is_empty()
     }

@@ -1,4 +1,4 @@
--- How a run ends.
+-- Outcomes of runs.
 use Rattle.std.specs.Prelude.{◌≡◌, ℕ, List}
 use Rattle.typer_answers.specs.declared.answer.Outcome.{Outcome}
 use Rattle.typer_answers.specs.declared.answer.Outcome.TheVariants as outcomes
@@ -8,9 +8,9 @@ use Rattle.program_io.specs.declared.reading.InputError.TheVariants as inputs
 use Rattle.typer.specs.declared.status.Status.{Status}
 use Rattle.typer.specs.declared.status.Status.TheVariants.{Done, BadLine, ReadFailed, WriteFailed, OutOfMemory, TooLong}
 
--- the most bytes that an input may have
-abbrev pub most_bytes : ℕ
-most_bytes = 1048576
+-- the most bytes that an input can have
+abbrev pub most_input_bytes : ℕ
+most_input_bytes = 1048576
 
 abbrev pub status_code : Status → ℕ
 status_code Done = 0
@@ -33,7 +33,7 @@ outcome_status outcomes.BadLine = BadLine
 abbrev pub AreAnswer : List ℕ → List ℕ → Status → Type 0
 AreAnswer input text status = (outcome : Outcome) × IsAnswer input text outcome × (status ≡ outcome_status outcome)
 
--- what a run claims of statuses 0 and 2
+-- the guarantee of a run for statuses 0 and 2
 abbrev pub OnAnswered : Status → Type 0 → Type 0
 OnAnswered Done P = P
 OnAnswered BadLine P = P
@@ -42,7 +42,7 @@ OnAnswered WriteFailed P = Unit {0}
 OnAnswered OutOfMemory P = Unit {0}
 OnAnswered TooLong P = Unit {0}
 
--- what a run claims of statuses 3, 5 and 6
+-- the guarantee of a run for statuses 3, 5 and 6
 abbrev pub OnUnanswered : Status → Type 0 → Type 0
 OnUnanswered Done P = Unit {0}
 OnUnanswered BadLine P = Unit {0}

@@ -1,14 +1,14 @@
-//! Answers lines that ask about types of shaders.
+//! The program `typer`: answers lines with requests about types of shaders.
 #![tactic(auto)]
 
-#[cfg(test)]
-mod memory;
-mod running;
+mod program;
 mod status;
+#[cfg(test)]
+mod test_devices;
 #[cfg(test)]
 mod tests;
 
-use crate::running::run;
+use crate::program::run;
 use program_io::{FromReader, ToWriter};
 use std::io;
 use std::process::ExitCode;

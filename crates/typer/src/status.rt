@@ -1,21 +1,21 @@
-//! How a run ends, and its exit status.
+//! The outcomes of a run, and their exit statuses.
 use program_io::InputError;
 use typer_answers::Outcome;
 
-/// How a run ended.
+/// The outcome of a run.
 #[derive(Clone, Copy, Debug, PartialEq, Eq)]
 pub enum Status {
     /// Each line has an answer.
     Done = 0,
-    /// A line asks nothing that is answered, and the answer ends with its number.
+    /// A line makes no request, and the answer ends with its number.
     BadLine = 2,
     /// A read of the input failed.
     ReadFailed = 3,
     /// A write of the answer failed.
     WriteFailed = 4,
-    /// Memory was refused.
+    /// An allocation failed.
     OutOfMemory = 5,
-    /// The input has more bytes than are read.
+    /// The input has more bytes than the limit.
     TooLong = 6,
 }
 
@@ -23,7 +23,7 @@ impl Status {
     ghost use Rattle.std.specs.Prelude.{◌≡◌};
     ghost use Rattle.typer.specs.Runs.{status_code};
 
-    /// The exit status of the process.
+    /// Returns the exit status of the process.
     pub fn code(self) -> u8
         ensures { result ≡ status_code self }
     {

@@ -1,18 +1,19 @@
-//! Runs over memory. The rows of lines stand in tests/samples, the ends on real devices in tests/statuses.
+//! Tests of runs over memory. The rows of lines are in tests/samples, and the runs on real devices in tests/statuses.
 
-use crate::memory::{TestSink, TestSource};
-use crate::running::run;
+use crate::program::run;
 use crate::status::Status;
+use crate::test_devices::{TestSink, TestSource};
 use std::alloc::{AllocError, Global};
 
 const INPUT: &[u8] = b"call Max u32 AbstractInt\ncall Max f32 f64\ncall Abs AbstractInt\n";
 
 const ANSWER: &[u8] = b"u32\nrefused\nAbstractInt\n";
 
-/// The bytes that a sink has at most room for in these tests.
+/// The capacity of a sink in these tests, in bytes.
 const ROOM: usize = 1000;
 
-/// Runs over a source that gives five bytes a call and fails after so many calls, and a sink that takes a byte a call and has this room.
+/// Runs the program over a source that returns five bytes per call and fails after a number of calls, and a sink that accepts one byte per
+/// call up to this capacity.
 fn run_in_memory(
     alloc: Global,
     input: &[u8],

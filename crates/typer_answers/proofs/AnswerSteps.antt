@@ -1,4 +1,4 @@
--- Answers line by line, and how many lines a text has.
+-- Answers line by line, and the number of lines of a text.
 use Rattle.std.proofs.Common.{◌≡◌, ◌∙◌, sym, subst, ap, refl, ℕ, ◌+◌, ◌≤◌, Bool, true, false, cond}
 use Rattle.std.proofs.Common.{eqb, Some, None, List, [], ◌∷◌, ◌++◌, append_assoc, length, arith}
 use Rattle.std.specs.Prelude.{codes}
@@ -31,7 +31,7 @@ length-lines_of text =
       count_by-le-length (λ b. eqb b 10) text,
     )
 
--- whatever answers the lines that are left answers the input behind the text
+-- any answer to the remaining lines answers the input after the text
 abbrev pub IsBegun : List ℕ → List ℕ → ℕ → List (List ℕ) → Type 0
 IsBegun input text number lines = (later : List ℕ) (outcome : Outcome) → IsAnswerFrom number lines later outcome →
     IsAnswer input (text ++ later) outcome
@@ -39,15 +39,15 @@ IsBegun input text number lines = (later : List ℕ) (outcome : Outcome) → IsA
 pub one_reply : (input text new : List ℕ) (number : ℕ) (line : List ℕ) (left lines : List (List ℕ)) (reply : Reply) →
     IsBegun input text number left → left ≡ line ∷ lines
     → IsReplyTo line (Some reply) → new ≡ text ++ (reply_text reply ++ codes "\n") → IsBegun input new (number + 1) lines
-one_reply input text new number line left lines reply begun is told written later outcome rest =
+one_reply input text new number line left lines reply begun is reported written later outcome rest =
     let answer = reply_text reply ++ codes "\n" ++ later in
     let joined : text ++ answer ≡ new ++ later =
     sym (append_assoc text (reply_text reply ++ codes "\n") later) ∙ ap (λ (bytes : List ℕ). bytes ++ later) (sym written) in
     let line_answer : IsAnswerFrom number (line ∷ lines) answer outcome =
-    subst (λ made. IsLineAnswer number made (IsAnswerFrom (number + 1) lines) answer outcome) (sym told.1) (
+    subst (λ built. IsLineAnswer number built (IsAnswerFrom (number + 1) lines) answer outcome) (sym reported.1) (
       reply,
       later,
-      told.2,
+      reported.2,
       rest,
       refl,
     ) in
@@ -59,7 +59,7 @@ pub no_reply : (input text new : List ℕ) (number : ℕ) (line : List ℕ) (lef
     → IsReplyTo line None → new ≡ text ++ bad_line number → IsAnswer input new BadLine
 no_reply input text new number line left lines begun is none written =
     let line_answer : IsAnswerFrom number (line ∷ lines) (bad_line number) BadLine =
-    subst (λ made. IsLineAnswer number made (IsAnswerFrom (number + 1) lines) (bad_line number) BadLine) (sym none) (refl, refl) in
+    subst (λ built. IsLineAnswer number built (IsAnswerFrom (number + 1) lines) (bad_line number) BadLine) (sym none) (refl, refl) in
     subst (λ bytes. IsAnswer input bytes BadLine) (sym written)
     (begun (bad_line number) BadLine (subst (λ ls. IsAnswerFrom number ls (bad_line number) BadLine) (sym is) line_answer))
 

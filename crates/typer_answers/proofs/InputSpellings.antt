@@ -1,4 +1,4 @@
--- Whole inputs by what they spell.
+-- Whole inputs by their spelling.
 use Rattle.std.proofs.Common.{◌≡◌, ◌≢◌, ◌↔◌, ℕ, ◌+◌, ◌<◌, Bool, true, false, cond, eqb, Option, Some, None, List}
 use Rattle.std.proofs.Common.{[], ◌∷◌, ◌++◌, length, refl, sym, subst, ap, ◌∙◌, append_assoc, add-zero, arith}
 use Rattle.std.specs.Prelude.{codes}
@@ -12,28 +12,28 @@ use Rattle.typer_answers.specs.Laws.{AreReplyLines, AreWritable, BadLinesEndAnsw
 use Rattle.typer_answers.specs.Laws.{RequestsAreAnswered, request_lines}
 use Rattle.typer_answers.specs.Lines.{lines_of, without_empty_last}
 use Rattle.typer_answers.specs.Requests.{IsWritableRequest, request_of, request_text}
-use Rattle.typer_answers.proofs.LineSteps.{has_piece, kept}
+use Rattle.typer_answers.proofs.LineSteps.{has_piece, retained}
 use Rattle.typer_answers.proofs.RequestSpellings.{request_is, request_line, request_named}
-use Rattle.shader_text.proofs.Separators.{is_end, split_front}
+use Rattle.shader_type_text.proofs.Separators.{is_end, split_front}
 
 -- the first line of a text
 first_line : (line rest : List ℕ) → list_any is_end line ≡ false → lines_of (line ++ 10 ∷ rest) ≡ line ∷ lines_of rest
 first_line line rest none =
-    ap without_empty_last (split_front 10 line rest none refl) ∙ kept line (slice_split is_end rest) (has_piece is_end rest)
+    ap without_empty_last (split_front 10 line rest none refl) ∙ retained line (slice_split is_end rest) (has_piece is_end rest)
 
--- what a line asks for, and how lines that begin with it are answered
+-- the request of a line, and the answer to lines that begin with it
 module _ (number : ℕ) (text : List ℕ) (outcome : Outcome) where
-  line_answers : (line rest : List ℕ) (made : Option Request) → list_any is_end line ≡ false → request_of line ≡ made →
+  line_answers : (line rest : List ℕ) (built : Option Request) → list_any is_end line ≡ false → request_of line ≡ built →
       IsAnswerFrom number (lines_of (line ++ 10 ∷ rest)) text outcome
-      ↔ IsLineAnswer number made (IsAnswerFrom (number + 1) (lines_of rest)) text outcome
-  line_answers line rest made none is =
+      ↔ IsLineAnswer number built (IsAnswerFrom (number + 1) (lines_of rest)) text outcome
+  line_answers line rest built none is =
       let lines : lines_of (line ++ 10 ∷ rest) ≡ line ∷ lines_of rest = first_line line rest none in
       let IsLine : Option Request → Type 0 = λ m. IsLineAnswer number m (IsAnswerFrom (number + 1) (lines_of rest)) text outcome in (
         λ h. subst IsLine is (subst (λ ls. IsAnswerFrom number ls text outcome) lines h),
         λ h. subst (λ ls. IsAnswerFrom number ls text outcome) (sym lines) (subst IsLine (sym is) h),
       )
 
-  -- the answer to a request and to what follows it
+  -- the answer to a request and to the rest
   request_answers : (request : Request) (rest : List ℕ) → IsWritableRequest request →
       IsAnswerFrom number (lines_of (request_text request ++ 10 ∷ rest)) text outcome
       ↔ IsLineAnswer number (Some request) (IsAnswerFrom (number + 1) (lines_of rest)) text outcome
@@ -43,7 +43,7 @@ module _ (number : ℕ) (text : List ℕ) (outcome : Outcome) where
 joined_line : (a b : List ℕ) → (a ++ 10 ∷ []) ++ b ≡ a ++ 10 ∷ b
 joined_line a b = append_assoc a (10 ∷ []) b
 
--- replies to the requests, and the answer to what follows
+-- replies to the requests, and the answer to the rest
 abbrev AreReplied : ℕ → List Request → List ℕ → List ℕ → Outcome → Type 0
 AreReplied number requests rest text outcome =
     (replies : List ℕ) × (later : List ℕ) × AreReplyLines requests replies ×
@@ -107,7 +107,7 @@ requests_are_answered requests text outcome writable =
           (requests_from 1 requests [] text outcome writable (text, [], h.0, (refl, h.1), sym (append-nil text))),
     )
 
-no_request : (bad : List ℕ) (made : Option Request) → request_of bad ≡ made
+no_request : (bad : List ℕ) (built : Option Request) → request_of bad ≡ built
     → ((request : Request) → IsWritableRequest request → bad ≢ request_text request) → request_of bad ≡ None
 no_request bad None is none = is
 no_request bad (Some request) is none =
@@ -144,11 +144,11 @@ ends_full : (text : List ℕ) (last : ℕ) → eqb last 10 ≡ false → EndsFul
 ends_full [] last other = rw other (omega arith)
 ends_full (x ∷ text) last other = full_onto (is_end x) x (slice_split is_end (text ++ last ∷ [])) (ends_full text last other)
 
-full_kept : (pieces : List (List ℕ)) → EndsFull pieces → without_empty_last pieces ≡ pieces
-full_kept [] full = absurd full
-full_kept (piece ∷ []) full =
+full_retained : (pieces : List (List ℕ)) → EndsFull pieces → without_empty_last pieces ≡ pieces
+full_retained [] full = absurd full
+full_retained (piece ∷ []) full =
     let some : eqb (length piece) 0 ≡ false = ne_eqb (length piece) 0 (λ e. omega (arith, e)) in rw some refl
-full_kept (piece ∷ next ∷ more) full = ap (λ (ps : List (List ℕ)). piece ∷ ps) (full_kept (next ∷ more) full)
+full_retained (piece ∷ next ∷ more) full = ap (λ (ps : List (List ℕ)). piece ∷ ps) (full_retained (next ∷ more) full)
 
 without_more : (pieces : List (List ℕ)) → without_empty_last (pieces ++ [] ∷ []) ≡ pieces
 without_more [] = refl
@@ -173,6 +173,6 @@ last_lines_may_lack_ends input last different text outcome =
     let other : eqb last 10 ≡ false = ne_eqb last 10 different in
     let pieces = slice_split is_end (input ++ last ∷ []) in
     let same : lines_of (input ++ last ∷ []) ≡ lines_of (input ++ last ∷ 10 ∷ []) =
-    full_kept pieces (ends_full input last other) ∙ sym (without_more pieces)
+    full_retained pieces (ends_full input last other) ∙ sym (without_more pieces)
     ∙ sym (ap without_empty_last (one_piece_more input last other)) in
     (subst (λ lines. IsAnswerFrom 1 lines text outcome) same, subst (λ lines. IsAnswerFrom 1 lines text outcome) (sym same))

@@ -2,7 +2,7 @@ mod AnswerSteps
 mod InputSpellings
 mod Laying
 mod LineSteps
-mod PlacedTrees
+mod InsertedTrees
 mod RequestSpellings
 mod SampleFaults
 mod Supplied

@@ -9,25 +9,25 @@ use Rattle.typer_answers.specs.declared.request.Kind.{Kind}
 use Rattle.typer_answers.specs.declared.request.Kind.TheVariants as kinds
 use Rattle.typer_answers.specs.declared.request.Request.{Request}
 use Rattle.typer_answers.specs.declared.request.Request.TheVariants.{Call, Rules, Layout, Convert, Module}
-use Rattle.shader_samples.specs.Names.{name_text, sample_named, all_samples}
+use Rattle.shader_samples.specs.Names.{sample_text, sample_named, all_samples}
 use Rattle.shader_samples.specs.declared.sample.Sample.{Sample}
 use Rattle.shader_samples.specs.declared.sample.Sample.TheVariants as s
 use Rattle.shader_samples.proofs.NameFacts.{named_back}
-use Rattle.shader_text.specs.declared.types.SpelledType.{SpelledType}
-use Rattle.shader_text.specs.Builtins.{builtin_of, builtin_text}
+use Rattle.shader_type_text.specs.declared.types.SpelledType.{SpelledType}
+use Rattle.shader_type_text.specs.Builtins.{builtin_of, builtin_text}
 use Rattle.typer_answers.specs.Laws.{RequestsAreSpelled}
 use Rattle.typer_answers.specs.Requests.{AreWritableTypes, IsWritableRequest, all_kinds, call_from, call_with, convert_from}
 use Rattle.typer_answers.specs.Requests.{request_kind, request_kind_text, layout_from, module_from, named_from, request_from, request_of}
 use Rattle.typer_answers.specs.Requests.{request_text, request_with, request_words, rules_from, types_of}
-use Rattle.shader_text.specs.Types.{type_of, type_text}
-use Rattle.shader_text.proofs.BuiltinFacts.{builtin_facts, name_is}
-use Rattle.shader_text.proofs.Found.{found_is, mapped}
-use Rattle.shader_text.proofs.Separators.{AreSolid, is_break, is_end, is_space, no_end, no_space, quiet_append, split_joined}
-use Rattle.shader_text.proofs.TypeSpellings.{type_is, type_named, type_quiet}
+use Rattle.shader_type_text.specs.Types.{type_of, type_text}
+use Rattle.shader_type_text.proofs.BuiltinFacts.{builtin_facts, name_is}
+use Rattle.shader_type_text.proofs.LookupLemmas.{found_is, mapped}
+use Rattle.shader_type_text.proofs.Separators.{AreSolid, is_break, is_end, is_space, no_end, no_space, quiet_append, split_joined}
+use Rattle.shader_type_text.proofs.TypeSpellings.{type_is, type_named, type_quiet}
 
 -- ---- words without spaces and ends of lines
 
--- no word has a space or an end of line
+-- no word contains a space or an end of line
 abbrev AreUnbroken : List (List ℕ) → Type 0
 AreUnbroken [] = Unit {0}
 AreUnbroken (word ∷ words) = (list_any is_break word ≡ false) × AreUnbroken words
@@ -42,9 +42,9 @@ unbroken_line (word ∷ []) unbroken = no_end word unbroken.0
 unbroken_line (word ∷ next ∷ words) unbroken =
     quiet_append is_end word (32 ∷ join_with_byte 32 (next ∷ words)) (no_end word unbroken.0) (unbroken_line (next ∷ words) unbroken.1)
 
--- ---- what words ask for
+-- ---- the request of words
 
--- the words behind the kind are the request's
+-- the words after the kind are the request's
 abbrev AreWordsOf : Kind → List (List ℕ) → Request → Type 0
 AreWordsOf kind words request = (request_words request ≡ request_kind_text kind ∷ words) × IsWritableRequest request
 
@@ -76,7 +76,7 @@ module_is : (words : List (List ℕ)) (request : Request) → module_from words 
 module_is [] request e = cc
 module_is (name ∷ []) request e =
     let m = mapped Module (sample_named name) request e in
-    let named : name ≡ name_text m.0 = found_is name_text all_samples name m.0 m.1 in
+    let named : name ≡ sample_text m.0 = found_is sample_text all_samples name m.0 m.1 in
     subst (AreWordsOf kinds.Module (name ∷ [])) m.2 (ap (λ (x : List ℕ). request_kind_text kinds.Module ∷ x ∷ []) (sym named), tt)
 module_is (name ∷ other ∷ words) request e = cc
 
@@ -96,7 +96,7 @@ types_are (word ∷ words) types e =
     ap (λ (w : List ℕ). w ∷ map type_text m.0) (sym h.0) ∙ ap (λ (ws : List (List ℕ)). word ∷ ws) k.0 in
     subst (AreTypesOf (word ∷ words)) m.2 (spelled, (h.1, k.1)))
 
--- a builtin and types whose texts are the words
+-- a built-in function and types whose texts are the words
 abbrev AreNamedOf : List (List ℕ) → MathFunction × List SpelledType → Type 0
 AreNamedOf words named = (builtin_text named.0 ∷ map type_text named.1 ≡ words) × AreWritableTypes named.1
 
@@ -163,7 +163,7 @@ types_unbroken : (types : List SpelledType) → AreWritableTypes types → AreUn
 types_unbroken [] writable = tt
 types_unbroken (t ∷ types) writable = (type_quiet t writable.0, types_unbroken types writable.1)
 
-name_unbroken : (sample : Sample) → list_any is_break (name_text sample) ≡ false
+name_unbroken : (sample : Sample) → list_any is_break (sample_text sample) ≡ false
 name_unbroken s.Named = refl
 name_unbroken s.Stored = refl
 name_unbroken s.Sampling = refl
@@ -182,7 +182,7 @@ request_unbroken (Layout t) writable = (refl, (type_quiet t writable, tt))
 request_unbroken (Convert from to) writable = (refl, (type_quiet from writable.0, (type_quiet to writable.1, tt)))
 request_unbroken (Module sample) writable = (refl, (name_unbroken sample, tt))
 
--- the text of a request has no end of line
+-- the text of a request contains no end of line
 pub request_line : (request : Request) → IsWritableRequest request → list_any is_end (request_text request) ≡ false
 request_line request writable = unbroken_line (request_words request) (request_unbroken request writable)
 
@@ -213,7 +213,7 @@ words_cut (Convert from to) writable =
     split_joined 32 (request_kind_text kinds.Convert) (type_text from ∷ type_text to ∷ []) refl
     (unbroken_solid (request_words (Convert from to)) (request_unbroken (Convert from to) writable))
 words_cut (Module sample) writable =
-    split_joined 32 (request_kind_text kinds.Module) (name_text sample ∷ []) refl
+    split_joined 32 (request_kind_text kinds.Module) (sample_text sample ∷ []) refl
     (unbroken_solid (request_words (Module sample)) (request_unbroken (Module sample) writable))
 
 pub request_named : (request : Request) → IsWritableRequest request → request_of (request_text request) ≡ Some request

@@ -1,4 +1,4 @@
--- The faults of the sample modules are all of one kind, so a sample has one report.
+-- The violations in the sample modules are all of one kind, so a sample has exactly one report.
 use Rattle.std.proofs.Common.{◌≡◌, ◌∙◌, sym, subst, ap, refl, ℕ, zero, suc, ◌+◌, ◌<◌, ◌≤◌, ◌^◌, Bool, true, false, ◌&&◌}
 use Rattle.std.proofs.Common.{not, List, [], ◌∷◌, Option, Some, None, length, nat_eq, nat_lt, slice_get, cond, arith}
 use Rattle.std.specs.List.{Contains, list_all, range_with_len}
@@ -8,30 +8,30 @@ use Rattle.std.proofs.lemmas.List.FromFn.{get_or-range_with_len, length-range_wi
 use Rattle.std.proofs.lemmas.Option.{option_and_then_some, same_Some, slice_get-get_or, slice_get_read, slice_get_within}
 use Rattle.shader_ir.specs.declared.expression.Expression.TheVariants as form
 use Rattle.shader_ir.specs.declared.proc.type_resolution.TypeResolution.{TypeResolution}
-use Rattle.shader_chains.specs.Counts.{count_of, times}
-use Rattle.shader_chains.specs.Derivable.{Answers, Derives, by_one, by_two, function_context, given, plain}
-use Rattle.shader_chains.specs.Faults.{Cause, IsFault, ModuleFault, Passes, Settings, Site, bad_element, count_full}
-use Rattle.shader_chains.specs.Faults.{in_entry_point, in_expression, in_function, misplaced, no_capability, no_image_passed}
-use Rattle.shader_chains.specs.Faults.{no_image_place, no_sampler_passed, no_sampler_place, untyped}
-use Rattle.shader_chains.specs.Pairs.{place, sampled}
-use Rattle.shader_chains.specs.Program.{Call, Expression, Function, Label, Leaf, Module, Step, occurrences, statements}
-use Rattle.shader_chains.proofs.TypeLemmas.{types_are_unique}
-use Rattle.shader_info.specs.declared.error.AnalysisPlace.{AnalysisPlace}
+use Rattle.shader_analysis_spec.specs.Counts.{count_of, times}
+use Rattle.shader_analysis_spec.specs.Derivable.{Answers, Derives, by_one, by_two, function_context, given, plain}
+use Rattle.shader_analysis_spec.specs.Faults.{Cause, IsFault, ModuleFault, PassesArgument, Settings, Site, bad_element, count_full}
+use Rattle.shader_analysis_spec.specs.Faults.{in_entry_point, in_expression, in_function, flow_violation, no_capability, no_image_passed}
+use Rattle.shader_analysis_spec.specs.Faults.{no_image_resource, no_sampler_passed, no_sampler_resource, untyped}
+use Rattle.shader_analysis_spec.specs.Pairs.{resource, sampled_operands}
+use Rattle.shader_analysis_spec.specs.Program.{Call, Expression, Function, Label, Leaf, Module, Step, occurrences, statements}
+use Rattle.shader_analysis_spec.proofs.TypeLemmas.{types_are_unique}
+use Rattle.shader_info.specs.declared.error.AnalysisLocation.{AnalysisLocation}
 use Rattle.shader_overloads.proofs.AgreementLemmas.{all_at}
-use Rattle.shader_reports.specs.Laws.{ReportAlike}
-use Rattle.shader_reports.specs.Reports.{IsModuleReport, kind_of_cause}
-use Rattle.shader_reports.specs.declared.report.FaultKind.{FaultKind}
-use Rattle.shader_reports.specs.declared.report.FaultKind.TheVariants.{NonUniformControlFlow}
-use Rattle.shader_reports.specs.declared.report.ModuleReport.{ModuleReport}
-use Rattle.shader_reports.specs.declared.report.ModuleReport.TheVariants.{Accepted, Refused}
-use Rattle.shader_reports.proofs.Unique.{reports_are_unique}
+use Rattle.sample_reports.specs.Laws.{ReportsAgree}
+use Rattle.sample_reports.specs.Reports.{IsModuleReport, kind_of_cause}
+use Rattle.sample_reports.specs.declared.report.FaultKind.{FaultKind}
+use Rattle.sample_reports.specs.declared.report.FaultKind.TheVariants.{NonUniformControlFlow}
+use Rattle.sample_reports.specs.declared.report.ModuleReport.{ModuleReport}
+use Rattle.sample_reports.specs.declared.report.ModuleReport.TheVariants.{Accepted, Refused}
+use Rattle.sample_reports.proofs.Unique.{reports_are_unique}
 use Rattle.shader_resolve.specs.Outcome.{Given, Outcome, Refused as Refusing}
-use Rattle.shader_resolve.specs.Rows.{One, Plain, Row, Two, row}
+use Rattle.shader_resolve.specs.TypingRules.{One, Plain, TypingRule, Two, typing_rule}
 use Rattle.shader_samples.specs.Samples.{sample_module}
 use Rattle.shader_samples.specs.declared.sample.Sample.{Sample}
 use Rattle.shader_samples.specs.declared.sample.Sample.TheVariants as s
-use Rattle.shader_text.proofs.Found.{mapped}
-use Rattle.shader_typing.specs.Processed.{site_of}
+use Rattle.shader_type_text.proofs.LookupLemmas.{mapped}
+use Rattle.shader_analysis.specs.Processed.{site_of}
 use Rattle.typer_answers.specs.Laws.{SamplesHaveOneReport}
 use Rattle.typer_answers.specs.Samples.{flow_checked}
 
@@ -55,51 +55,55 @@ abbrev given_of : Outcome → Option TypeResolution
 given_of (Given resolution) = Some resolution
 given_of (Refusing refusal) = None
 
-abbrev outcome_by : (ℕ → Option TypeResolution) → Row → Option Outcome
-outcome_by told (Plain outcome) = Some outcome
-outcome_by told (One operand answer) = option_map answer (told operand)
-outcome_by told (Two left right answer) = option_and_then (λ first. option_map (answer first) (told right)) (told left)
+abbrev outcome_by : (ℕ → Option TypeResolution) → TypingRule → Option Outcome
+outcome_by reported (Plain outcome) = Some outcome
+outcome_by reported (One operand answer) = option_map answer (reported operand)
+outcome_by reported (Two left right answer) = option_and_then (λ first. option_map (answer first) (reported right)) (reported left)
 
 given_is : (outcome : Outcome) (r : TypeResolution) → given_of outcome ≡ Some r → outcome ≡ Given r
 given_is (Given resolution) r h = ap Given (same_Some resolution r h)
 given_is (Refusing refusal) r h = cc
 
 module _ (m : Module) (f : Function) where
-  -- the type of an expression whose operands go so deep
+  -- the type of an expression whose operands nest to this depth
   abbrev type_at : ℕ → ℕ → Option TypeResolution
   type_at zero e = None
-  type_at (suc n) e = option_and_then given_of (option_and_then (λ x. outcome_by (type_at n) (row (function_context m f) x))
+  type_at (suc n) e = option_and_then given_of (option_and_then (λ x. outcome_by (type_at n) (typing_rule (function_context m f) x))
       (slice_get f.expressions e))
 
   abbrev AreDerived : (ℕ → Option TypeResolution) → Type 0
-  AreDerived told = (e : ℕ) (r : TypeResolution) → told e ≡ Some r → Derives (function_context m f) f.expressions e r
+  AreDerived reported = (e : ℕ) (r : TypeResolution) → reported e ≡ Some r → Derives (function_context m f) f.expressions e r
 
-  answers : (told : ℕ → Option TypeResolution) (e : ℕ) (x : Expression) (r : Row) (outcome : Outcome) → AreDerived told →
+  answers : (reported : ℕ → Option TypeResolution) (e : ℕ) (x : Expression) (r : TypingRule) (outcome : Outcome) → AreDerived reported →
       slice_get f.expressions e ≡ Some x →
-      row (function_context m f) x ≡ r → outcome_by told r ≡ Some outcome → Answers (function_context m f) f.expressions e outcome
-  answers told e x (Plain o) outcome derived stands is found =
-      subst (Answers (function_context m f) f.expressions e) (same_Some o outcome found) (plain stands is)
-  answers told e x (One operand answer) outcome derived stands is found =
-      let t = mapped answer (told operand) outcome found in
-      subst (Answers (function_context m f) f.expressions e) t.2 (by_one stands is (derived operand t.0 t.1))
-  answers told e x (Two left right answer) outcome derived stands is found =
-      option_and_then_some {P = Answers (function_context m f) f.expressions e outcome} (λ first. option_map (answer first) (told right))
-      (told left) outcome found (λ first first_is inner.
-      let second = mapped (answer first) (told right) outcome inner in
+      typing_rule (function_context m f) x ≡ r → outcome_by reported r ≡ Some outcome →
+      Answers (function_context m f) f.expressions e outcome
+  answers reported e x (Plain o) outcome derived is_there is found =
+      subst (Answers (function_context m f) f.expressions e) (same_Some o outcome found) (plain is_there is)
+  answers reported e x (One operand answer) outcome derived is_there is found =
+      let t = mapped answer (reported operand) outcome found in
+      subst (Answers (function_context m f) f.expressions e) t.2 (by_one is_there is (derived operand t.0 t.1))
+  answers reported e x (Two left right answer) outcome derived is_there is found =
+      option_and_then_some {P =
+      Answers (function_context m f) f.expressions e outcome} (λ first. option_map (answer first) (reported right))
+      (reported left) outcome found (λ first first_is inner.
+      let second = mapped (answer first) (reported right) outcome inner in
       subst (Answers (function_context m f) f.expressions e) second.2
-      (by_two stands is (derived left first first_is) (derived right second.0 second.1)))
+      (by_two is_there is (derived left first first_is) (derived right second.0 second.1)))
 
   derived_at : (n : ℕ) → AreDerived (type_at n)
   derived_at zero e r h = cc
   derived_at (suc n) e r h =
       option_and_then_some {P = Derives (function_context m f) f.expressions e r} given_of
-      (option_and_then (λ x. outcome_by (type_at n) (row (function_context m f) x)) (slice_get f.expressions e)) r h (λ outcome found gives.
+      (option_and_then (λ x. outcome_by (type_at n) (typing_rule (function_context m f) x)) (slice_get f.expressions e)) r h
+      (λ outcome found gives.
       option_and_then_some {P = Derives (function_context m f) f.expressions e r}
-      (λ x. outcome_by (type_at n) (row (function_context m f) x)) (slice_get f.expressions e) outcome found
-      (λ x stands inner.
-      given (answers (type_at n) e x (row (function_context m f) x) outcome (derived_at n) stands refl inner) (given_is outcome r gives)))
+      (λ x. outcome_by (type_at n) (typing_rule (function_context m f) x)) (slice_get f.expressions e) outcome found
+      (λ x is_there inner.
+      given (answers (type_at n) e x (typing_rule (function_context m f) x) outcome (derived_at n) is_there refl inner)
+      (given_is outcome r gives)))
 
-  -- ---- what is tested of a function
+  -- ---- tests of a function
 
   abbrev is_typed : ℕ → Bool
   is_typed e = is_some (type_at 4 e)
@@ -108,16 +112,16 @@ module _ (m : Module) (f : Function) where
   is_access (form.Access base index) = true
   is_access _ = false
 
-  abbrev is_placed : ℕ → Bool
-  is_placed e = is_some (place f e)
+  abbrev has_resource : ℕ → Bool
+  has_resource e = is_some (resource f e)
 
-  abbrev are_placed : Option (ℕ × ℕ) → Bool
-  are_placed None = true
-  are_placed (Some operands) = is_placed operands.0 && is_placed operands.1
+  abbrev have_resources : Option (ℕ × ℕ) → Bool
+  have_resources None = true
+  have_resources (Some operands) = has_resource operands.0 && has_resource operands.1
 
-  abbrev passes_placed : Step → Bool
-  passes_placed (Leaf (Call callee arguments result)) = list_all is_placed arguments
-  passes_placed _ = true
+  abbrev passes_resources : Step → Bool
+  passes_resources (Leaf (Call callee arguments result)) = list_all has_resource arguments
+  passes_resources _ = true
 
   abbrev all_typed : Bool
   all_typed = list_all is_typed (range_with_len 0 (length f.expressions))
@@ -126,10 +130,10 @@ module _ (m : Module) (f : Function) where
   none_indexes = list_all (λ x. not (is_access x)) f.expressions
 
   abbrev all_sampled : Bool
-  all_sampled = list_all (λ x. are_placed (sampled x)) f.expressions
+  all_sampled = list_all (λ x. have_resources (sampled_operands x)) f.expressions
 
   abbrev all_passed : Bool
-  all_passed = list_all passes_placed (statements f.body)
+  all_passed = list_all passes_resources (statements f.body)
 
   abbrev are_few : Bool
   are_few = nat_lt (length (occurrences f)) 100
@@ -137,44 +141,44 @@ module _ (m : Module) (f : Function) where
   abbrev pub is_simple : Bool
   is_simple = all_typed && (none_indexes && (all_sampled && (all_passed && are_few)))
 
-  -- ---- what follows
+  -- ---- consequences
 
   typed : all_typed ≡ true → (e : ℕ) (x : Expression) → slice_get f.expressions e ≡ Some x →
       (r : TypeResolution) × Derives (function_context m f) f.expressions e r
-  typed all e x stands =
+  typed all e x is_there =
       let count = length f.expressions in
       let within : e < length (range_with_len 0 count) =
-      subst (λ n. e < n) (sym (length-range_with_len 0 count)) (slice_get_within f.expressions e x stands) in
+      subst (λ n. e < n) (sym (length-range_with_len 0 count)) (slice_get_within f.expressions e x is_there) in
       let at : slice_get (range_with_len 0 count) e ≡ Some e =
       slice_get-get_or (range_with_len 0 count) e 0 within ∙ ap Some
-      (get_or-range_with_len 0 count e 0 (slice_get_within f.expressions e x stands) ∙ add_nothing e) in
+      (get_or-range_with_len 0 count e 0 (slice_get_within f.expressions e x is_there) ∙ add_nothing e) in
       let r = some_of (type_at 4 e) (all_at is_typed (range_with_len 0 count) e e all at) in
       (r.0, derived_at 4 e r.0 r.1)
 
   indexes_nothing : none_indexes ≡ true → (e base index : ℕ) → slice_get f.expressions e ≡ Some (form.Access base index) → ⊥
-  indexes_nothing none e base index stands =
+  indexes_nothing none e base index is_there =
       let h : not (is_access (form.Access base index)) ≡ true =
-      all_at (λ x. not (is_access x)) f.expressions e (form.Access base index) none stands in cc
+      all_at (λ x. not (is_access x)) f.expressions e (form.Access base index) none is_there in cc
 
-  placed_here : (e : ℕ) → is_placed e ≡ true → place f e ≡ None → ⊥
-  placed_here e h none = let p = some_of (place f e) h in let is : Some p.0 ≡ None = sym p.1 ∙ none in cc
+  resource_here : (e : ℕ) → has_resource e ≡ true → resource f e ≡ None → ⊥
+  resource_here e h none = let p = some_of (resource f e) h in let is : Some p.0 ≡ None = sym p.1 ∙ none in cc
 
-  samples_placed : all_sampled ≡ true → (e image sampler : ℕ) →
-      option_and_then sampled (slice_get f.expressions e) ≡ Some (image, sampler) →
-      (is_placed image ≡ true) × (is_placed sampler ≡ true)
-  samples_placed all e image sampler h =
-      option_and_then_some {P = (is_placed image ≡ true) × (is_placed sampler ≡ true)} sampled (slice_get f.expressions e) (
+  samples_resources : all_sampled ≡ true → (e image sampler : ℕ) →
+      option_and_then sampled_operands (slice_get f.expressions e) ≡ Some (image, sampler) →
+      (has_resource image ≡ true) × (has_resource sampler ≡ true)
+  samples_resources all e image sampler h =
+      option_and_then_some {P = (has_resource image ≡ true) × (has_resource sampler ≡ true)} sampled_operands (slice_get f.expressions e) (
         image,
         sampler,
-      ) h (λ x stands is.
-      both_of (is_placed image) (is_placed sampler)
-      (subst (λ o. are_placed o ≡ true) is (all_at (λ x. are_placed (sampled x)) f.expressions e x all stands)))
+      ) h (λ x is_there is.
+      both_of (has_resource image) (has_resource sampler)
+      (subst (λ o. have_resources o ≡ true) is (all_at (λ x. have_resources (sampled_operands x)) f.expressions e x all is_there)))
 
-  passes_only_placed : all_passed ≡ true → (c i e : ℕ) → Passes f c i e → is_placed e ≡ true
-  passes_only_placed all c i e passes =
-      let each : list_all is_placed passes.arguments ≡ true =
-      all_contained passes_placed (statements f.body) (Leaf (Call c passes.arguments passes.result)) all passes.holds in
-      all_at is_placed passes.arguments i e each passes.passed
+  passes_only_resources : all_passed ≡ true → (c i e : ℕ) → PassesArgument f c i e → has_resource e ≡ true
+  passes_only_resources all c i e passes =
+      let each : list_all has_resource passes.arguments ≡ true =
+      all_contained passes_resources (statements f.body) (Leaf (Call c passes.arguments passes.result)) all passes.holds in
+      all_at has_resource passes.arguments i e each passes.passed_argument
 
 one_le : (b : Bool) → cond b 1 0 ≤ 1
 one_le true = omega arith
@@ -191,24 +195,24 @@ fault_kind : (m : Module) (f : Function) (settings : Settings) (cause : Cause) �
     all_sampled m f ≡ true →
     all_passed m f ≡ true → are_few m f ≡ true → IsFault m f settings cause → kind_of_cause cause ≡ NonUniformControlFlow
 fault_kind m f settings _ types indexes sample pass few (untyped {e = e} {refusal = refusal} refused) =
-    let t = typed m f types e refused.expression refused.stands in
+    let t = typed m f types e refused.expression refused.is_there in
     absurd ((types_are_unique (function_context m f) f.expressions e t.0 t.1).1 refusal refused)
 fault_kind m f settings _ types indexes sample pass few (no_capability {e = e} {index = index} at capability origin refused) =
-    absurd (indexes_nothing m f indexes e at.base index at.stands)
+    absurd (indexes_nothing m f indexes e at.base index at.is_there)
 fault_kind m f settings _ types indexes sample pass few (bad_element {e = e} {index = index} at other) =
-    absurd (indexes_nothing m f indexes e at.base index at.stands)
-fault_kind m f settings _ types indexes sample pass few (no_image_place {e = e} {image = i} {sampler = k} is none) =
-    absurd (placed_here m f i (samples_placed m f sample e i k is).0 none)
-fault_kind m f settings _ types indexes sample pass few (no_sampler_place {e = e} {image = i} {sampler = k} is none) =
-    absurd (placed_here m f k (samples_placed m f sample e i k is).1 none)
+    absurd (indexes_nothing m f indexes e at.base index at.is_there)
+fault_kind m f settings _ types indexes sample pass few (no_image_resource {e = e} {image = i} {sampler = k} is none) =
+    absurd (resource_here m f i (samples_resources m f sample e i k is).0 none)
+fault_kind m f settings _ types indexes sample pass few (no_sampler_resource {e = e} {image = i} {sampler = k} is none) =
+    absurd (resource_here m f k (samples_resources m f sample e i k is).1 none)
 fault_kind m f settings _ types indexes sample pass few (no_image_passed {e = e} {c = c} {i = i} passes none pair) =
-    absurd (placed_here m f e (passes_only_placed m f pass c i e passes) none)
+    absurd (resource_here m f e (passes_only_resources m f pass c i e passes) none)
 fault_kind m f settings _ types indexes sample pass few (no_sampler_passed {e = e} {c = c} {i = i} passes none pair) =
-    absurd (placed_here m f e (passes_only_placed m f pass c i e passes) none)
-fault_kind m f settings _ types indexes sample pass few (misplaced checks governs at) = refl
+    absurd (resource_here m f e (passes_only_resources m f pass c i e passes) none)
+fault_kind m f settings _ types indexes sample pass few (flow_violation checks governs at) = refl
 fault_kind m f settings _ types indexes sample pass few (count_full {e = e} full) = absurd (few_named f e few full)
 
--- the faults of a simple function are in its flow
+-- the violations in a simple function are in its control flow
 flow_alone : (m : Module) (f : Function) (settings : Settings) (cause : Cause) → is_simple m f ≡ true → IsFault m f settings cause →
     kind_of_cause cause ≡ NonUniformControlFlow
 flow_alone m f settings cause simple fault =
@@ -218,7 +222,7 @@ flow_alone m f settings cause simple fault =
     let d = both_of (all_passed m f) (are_few m f) c.1 in
     fault_kind m f settings cause a.0 b.0 c.0 d.0 d.1 fault
 
--- a module of simple functions alone
+-- a module of simple functions only
 record AreSimple (m : Module) : Type 0 where
   expressions : m.global_expressions ≡ []
   entry_points : m.entry_points ≡ []
@@ -231,7 +235,7 @@ nothing_at (y ∷ ys) i x e at = cc
 flow_in : (m : Module) (settings : Settings) (site : Site) (cause : Cause) → AreSimple m → ModuleFault m settings site cause →
     kind_of_cause cause ≡ NonUniformControlFlow
 flow_in m settings _ _ simple (in_expression {e = e} refused) =
-    absurd (nothing_at m.global_expressions e refused.expression simple.expressions refused.stands)
+    absurd (nothing_at m.global_expressions e refused.expression simple.expressions refused.is_there)
 flow_in m settings _ cause simple (in_function {i = i} {f = f} at fault) =
     flow_alone m f settings cause (all_at (is_simple m) m.functions i f simple.functions at) fault
 flow_in m settings _ _ simple (in_entry_point {i = i} {entry = entry} at fault) =
@@ -249,16 +253,16 @@ samples_are_simple s.DerivativeUniform = record { expressions = refl; entry_poin
 samples_are_simple s.Derivative = record { expressions = refl; entry_points = refl; functions = refl }
 samples_are_simple s.DerivativeOff = record { expressions = refl; entry_points = refl; functions = refl }
 
--- what is told of such a module
+-- the report on such a module is unique
 one_report : (m : Module) (a b : ModuleReport) → AreSimple m → IsModuleReport m flow_checked a → IsModuleReport m flow_checked b →
-    ReportAlike a b → a ≡ b
+    ReportsAgree a b → a ≡ b
 one_report m (Accepted xs) (Accepted ys) simple x y alike = ap Accepted alike
 one_report m (Accepted xs) (Refused at kind) simple x y alike = absurd alike
 one_report m (Refused at kind) (Accepted ys) simple x y alike = absurd alike
-one_report m (Refused at kind) (Refused other told) simple x y alike =
-    let first : kind ≡ NonUniformControlFlow = x.kind ∙ flow_in m flow_checked (site_of at) x.cause simple x.first.stands in
-    let second : told ≡ NonUniformControlFlow = y.kind ∙ flow_in m flow_checked (site_of other) y.cause simple y.first.stands in
-    ap (λ (p : AnalysisPlace). Refused p kind) alike ∙ ap (λ (k : FaultKind). Refused other k) (first ∙ sym second)
+one_report m (Refused at kind) (Refused other reported) simple x y alike =
+    let first : kind ≡ NonUniformControlFlow = x.kind ∙ flow_in m flow_checked (site_of at) x.cause simple x.first.is_there in
+    let second : reported ≡ NonUniformControlFlow = y.kind ∙ flow_in m flow_checked (site_of other) y.cause simple y.first.is_there in
+    ap (λ (p : AnalysisLocation). Refused p kind) alike ∙ ap (λ (k : FaultKind). Refused other k) (first ∙ sym second)
 
 pub samples_have_one_report : SamplesHaveOneReport
 samples_have_one_report sample a b x y =

@@ -1,4 +1,4 @@
--- The rules that are left of a builtin, argument by argument.
+-- The remaining rules of a built-in function, argument by argument.
 use Rattle.std.proofs.Common.{◌≡◌, ℕ, ◌+◌, ◌<◌, Bool, ◌&&◌, List, []}
 use Rattle.std.proofs.Common.{◌∷◌, length, map, drop, get_or, refl, sym, ap, ◌∙◌}
 use Rattle.std.specs.List.{filter, list_all}
@@ -8,18 +8,18 @@ use Rattle.shader_overloads.specs.declared.rule.Rule.{Rule}
 use Rattle.shader_overloads.specs.Builtins.{acceptance_of, rules_of}
 use Rattle.shader_overloads.specs.Remaining.{passes}
 use Rattle.shader_overloads.proofs.NarrowLemmas.{filter-filter}
-use Rattle.shader_text.specs.declared.types.PlainType.{PlainType}
-use Rattle.shader_text.specs.declared.types.SpelledType.{SpelledType}
-use Rattle.shader_text.specs.declared.types.SpelledType.TheVariants.{Plain}
+use Rattle.shader_type_text.specs.declared.types.PlainType.{PlainType}
+use Rattle.shader_type_text.specs.declared.types.SpelledType.{SpelledType}
+use Rattle.shader_type_text.specs.declared.types.SpelledType.TheVariants.{Plain}
 use Rattle.typer_answers.specs.Calls.{takes_all, takes_argument}
 use Rattle.typer_answers.specs.Laws.{RulesLeftRemain, calls_from}
 
--- no argument is left
-pub none_left : (function : MathFunction) (place : ℕ) (rules : List Rule) → filter (takes_all function place []) rules ≡ rules
-none_left function place [] = refl
-none_left function place (rule ∷ rules) = ap (λ (rs : List Rule). rule ∷ rs) (none_left function place rules)
+-- no arguments remain
+pub none_left : (function : MathFunction) (position : ℕ) (rules : List Rule) → filter (takes_all function position []) rules ≡ rules
+none_left function position [] = refl
+none_left function position (rule ∷ rules) = ap (λ (rs : List Rule). rule ∷ rs) (none_left function position rules)
 
--- one argument more: what the others leave is what they and it leave of the rules before it
+-- one more argument: the others leave of the new rules what all leave of the rules before
 pub supplied : (function : MathFunction) (arguments : List SpelledType) (k : ℕ) (d argument : SpelledType) (before after all : List Rule)
     → k < length arguments → get_or arguments k d ≡ argument → after ≡ filter (takes_argument function k argument) before
     → filter (takes_all function k (drop k arguments)) before ≡ all →
@@ -37,11 +37,12 @@ filter_same : (p q : Rule → Bool) (rules : List Rule) → ((rule : Rule) → p
 filter_same p q [] same = refl
 filter_same p q (rule ∷ rules) same = rw (same rule, filter_same p q rules same) refl
 
-takes_same : (function : MathFunction) (place : ℕ) (arguments : List PlainType) (rule : Rule)
-    → takes_all function place (map Plain arguments) rule ≡ list_all (passes (acceptance_of function) [] rule) (calls_from place arguments)
-takes_same function place [] rule = refl
-takes_same function place (argument ∷ arguments) rule =
-    ap (λ (b : Bool). takes_argument function place (Plain argument) rule && b) (takes_same function (place + 1) arguments rule)
+takes_same : (function : MathFunction) (position : ℕ) (arguments : List PlainType) (rule : Rule)
+    → takes_all function position (map Plain arguments) rule
+    ≡ list_all (passes (acceptance_of function) [] rule) (calls_from position arguments)
+takes_same function position [] rule = refl
+takes_same function position (argument ∷ arguments) rule =
+    ap (λ (b : Bool). takes_argument function position (Plain argument) rule && b) (takes_same function (position + 1) arguments rule)
 
 pub rules_left_remain : RulesLeftRemain
 rules_left_remain function arguments = filter_same _ _ (rules_of function) (takes_same function 0 arguments)

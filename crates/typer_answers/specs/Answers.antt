@@ -1,4 +1,4 @@
--- What is said to each line, and to a whole input.
+-- The reply to each line, and the answer to a whole input.
 use Rattle.std.specs.Prelude.{◌≡◌, ◌+◌, ℕ, List, [], ◌∷◌, ◌++◌, Option, Some, None, codes}
 use Rattle.std.specs.List.{join_by}
 use Rattle.std.specs.Fmt.{decimal}
@@ -19,10 +19,10 @@ use Rattle.typer_answers.specs.Layouts.{layout_of_spelled}
 use Rattle.typer_answers.specs.Lines.{lines_of}
 use Rattle.typer_answers.specs.Requests.{request_of}
 use Rattle.typer_answers.specs.Samples.{IsSampleReport}
-use Rattle.shader_reports.specs.Texts.{report_text}
-use Rattle.shader_reports.specs.declared.report.ModuleReport.{ModuleReport}
-use Rattle.shader_text.specs.Scalars.{scalar_text}
-use Rattle.shader_text.specs.Texts.{conclusion_text, rule_text}
+use Rattle.sample_reports.specs.Texts.{report_text}
+use Rattle.sample_reports.specs.declared.report.ModuleReport.{ModuleReport}
+use Rattle.shader_type_text.specs.Scalars.{scalar_text}
+use Rattle.shader_type_text.specs.Texts.{conclusion_text, rule_text}
 
 abbrev pub reply_text : Reply → List ℕ
 reply_text (replies.Conclusion conclusion) = conclusion_text conclusion
@@ -50,7 +50,7 @@ abbrev pub rules_reply : List Rule → Reply
 rules_reply [] = replies.Refused
 rules_reply (rule ∷ rules) = replies.Rules (rule ∷ rules)
 
--- the reply to a request; that to a sample is what is told of its module, over all chains of calls
+-- the reply to a request; for a sample, the interprocedural report on its module
 abbrev pub IsReply : Request → Reply → Type 0
 IsReply (Call function arguments) reply = reply ≡ conclusion_reply (call_conclusion function arguments)
 IsReply (Rules function arguments) reply = reply ≡ rules_reply (rules_left function arguments)
@@ -58,7 +58,7 @@ IsReply (Layout t) reply = reply ≡ laid_out (layout_of_spelled t)
 IsReply (Convert from to) reply = reply ≡ converted (conversion_of from to)
 IsReply (Module sample) reply = (report : ModuleReport) × IsSampleReport sample report × (reply ≡ replies.Module report)
 
--- the reply to a line, if it asks for something
+-- the reply to a line, if it makes a request
 abbrev pub IsReplyTo : List ℕ → Option Reply → Type 0
 IsReplyTo line None = request_of line ≡ None
 IsReplyTo line (Some reply) = (request : Request) × (request_of line ≡ Some request) × IsReply request reply
@@ -66,7 +66,7 @@ IsReplyTo line (Some reply) = (request : Request) × (request_of line ≡ Some r
 abbrev pub bad_line : ℕ → List ℕ
 bad_line number = codes "bad line " ++ decimal number ++ codes "\n"
 
--- a reply and what comes after it, or the end at a bad line
+-- a reply and the rest of the answer, or the end at a bad line
 abbrev pub IsLineAnswer : ℕ → Option Request → (List ℕ → Outcome → Type 0) → List ℕ → Outcome → Type 0
 IsLineAnswer number None IsLater text outcome = (text ≡ bad_line number) × (outcome ≡ BadLine)
 IsLineAnswer number (Some request) IsLater text outcome =

@@ -5,19 +5,19 @@ use Rattle.shader_ir.specs.declared.types.ArraySize.TheVariants.{Constant}
 use Rattle.shader_ir.specs.declared.types.TypeInner.TheVariants as inner
 use Rattle.shader_ir.specs.Conversion.{conversion}
 use Rattle.shader_ir.specs.TypeTree.{TypeTree, Node, NoTree, OneTree}
-use Rattle.shader_text.specs.declared.types.SpelledType.{SpelledType}
-use Rattle.shader_text.specs.declared.types.SpelledType.TheVariants.{Plain, Array}
-use Rattle.shader_text.specs.declared.types.PlainType.{PlainType}
-use Rattle.shader_text.specs.Types.{plain_inner}
+use Rattle.shader_type_text.specs.declared.types.SpelledType.{SpelledType}
+use Rattle.shader_type_text.specs.declared.types.SpelledType.TheVariants.{Plain, Array}
+use Rattle.shader_type_text.specs.declared.types.PlainType.{PlainType}
+use Rattle.shader_type_text.specs.Types.{plain_inner}
 
 abbrev pub plain_tree : PlainType → TypeTree
 plain_tree plain = Node (plain_inner plain) NoTree
 
--- the tree of a type; where the base of an array stands doesn't matter
+-- the tree of a type; the position of an array's base doesn't matter
 abbrev pub tree_of_spelled : SpelledType → TypeTree
 tree_of_spelled (Plain plain) = plain_tree plain
 tree_of_spelled (Array base count stride) = Node (inner.Array 0 (Constant count) stride) (OneTree (plain_tree base) NoTree)
 
--- the leaf scalars, where the first type converts to the second
+-- the leaf scalars, if the first type converts to the second
 abbrev pub conversion_of : SpelledType → SpelledType → Option (Scalar × Scalar)
 conversion_of from to = conversion (tree_of_spelled from) (tree_of_spelled to)

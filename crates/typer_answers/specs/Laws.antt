@@ -1,4 +1,4 @@
--- Laws of requests, of whole inputs by what they spell, and of the rules that are left.
+-- Laws on requests, on whole inputs and their spelling, and on remaining rules.
 use Rattle.std.specs.Prelude.{◌≡◌, ◌≢◌, ◌==◌, ◌↔◌, ◌+◌, ℕ, false, List, [], ◌∷◌, ◌++◌, length, map, Some, codes}
 use Rattle.std.specs.List.{flat_map, list_any}
 use Rattle.shader_ir.specs.declared.operators.MathFunction.{MathFunction}
@@ -6,9 +6,9 @@ use Rattle.shader_overloads.specs.declared.overload_set.SetCall.{SetCall}
 use Rattle.shader_overloads.specs.declared.overload_set.SetCall.TheVariants.{Arg}
 use Rattle.shader_overloads.specs.Builtins.{acceptance_of, rules_of}
 use Rattle.shader_overloads.specs.Remaining.{remaining}
-use Rattle.shader_text.specs.declared.types.PlainType.{PlainType}
-use Rattle.shader_text.specs.declared.types.SpelledType.TheVariants.{Plain}
-use Rattle.shader_text.specs.Types.{plain_inner}
+use Rattle.shader_type_text.specs.declared.types.PlainType.{PlainType}
+use Rattle.shader_type_text.specs.declared.types.SpelledType.TheVariants.{Plain}
+use Rattle.shader_type_text.specs.Types.{plain_inner}
 use Rattle.typer_answers.specs.declared.answer.Outcome.{Outcome}
 use Rattle.typer_answers.specs.declared.answer.Outcome.TheVariants.{Done, BadLine}
 use Rattle.typer_answers.specs.declared.reply.Reply.{Reply}
@@ -17,10 +17,10 @@ use Rattle.typer_answers.specs.Answers.{reply_text, bad_line, IsAnswer, IsReply}
 use Rattle.typer_answers.specs.Calls.{rules_left}
 use Rattle.typer_answers.specs.Requests.{request_text, request_of, IsWritableRequest}
 use Rattle.typer_answers.specs.Samples.{IsSampleReport}
-use Rattle.shader_reports.specs.declared.report.ModuleReport.{ModuleReport}
+use Rattle.sample_reports.specs.declared.report.ModuleReport.{ModuleReport}
 use Rattle.shader_samples.specs.declared.sample.Sample.{Sample}
 
--- a line makes a request exactly where it is the request's text
+-- a line makes a request exactly if it is the request's text
 abbrev pub RequestsAreSpelled : Type 0
 RequestsAreSpelled = (line : List ℕ) (request : Request)
     → (request_of line ≡ Some request → (line ≡ request_text request) × IsWritableRequest request)
@@ -31,11 +31,11 @@ abbrev pub AreWritable : List Request → Type 0
 AreWritable [] = Unit {0}
 AreWritable (request ∷ requests) = IsWritableRequest request × AreWritable requests
 
--- the requests, a line each
+-- the requests, one per line
 abbrev pub request_lines : List Request → List ℕ
 request_lines requests = flat_map (λ request. request_text request ++ codes "\n") requests
 
--- the text is of replies to the requests, a line each
+-- the text consists of replies to the requests, one per line
 abbrev pub AreReplyLines : List Request → List ℕ → Type 0
 AreReplyLines [] text = text ≡ []
 AreReplyLines (request ∷ requests) text =
@@ -47,7 +47,7 @@ abbrev pub RequestsAreAnswered : Type 0
 RequestsAreAnswered = (requests : List Request) (text : List ℕ) (outcome : Outcome) → AreWritable requests →
     IsAnswer (request_lines requests) text outcome ↔ (AreReplyLines requests text × (outcome ≡ Done))
 
--- a line that makes no request ends the answer, whatever follows it
+-- a line without a request ends the answer, whatever follows it
 abbrev pub BadLinesEndAnswers : Type 0
 BadLinesEndAnswers = (requests : List Request) (bad rest : List ℕ) → AreWritable requests
     → list_any (λ b. b == 10) bad ≡ false
@@ -55,26 +55,26 @@ BadLinesEndAnswers = (requests : List Request) (bad rest : List ℕ) → AreWrit
     → (text : List ℕ) (outcome : Outcome) → IsAnswer (request_lines requests ++ (bad ++ 10 ∷ rest)) text outcome
     ↔ ((replies : List ℕ) × AreReplyLines requests replies × (text ≡ replies ++ bad_line (length requests + 1)) × (outcome ≡ BadLine))
 
--- the last line may lack its end
+-- the last line needs no line feed
 abbrev pub LastLinesMayLackEnds : Type 0
 LastLinesMayLackEnds = (input : List ℕ) (last : ℕ) → last ≢ 10 → (text : List ℕ) (outcome : Outcome)
     → IsAnswer (input ++ last ∷ []) text outcome ↔ IsAnswer (input ++ last ∷ 10 ∷ []) text outcome
 
--- a sample has one report
+-- a sample has exactly one report
 abbrev pub SamplesHaveOneReport : Type 0
 SamplesHaveOneReport = (sample : Sample) (a b : ModuleReport) → IsSampleReport sample a → IsSampleReport sample b → a ≡ b
 
--- an input has one answer
+-- an input has exactly one answer
 abbrev pub AnswersAreUnique : Type 0
-AnswersAreUnique = (input text other : List ℕ) (outcome told : Outcome) → IsAnswer input text outcome → IsAnswer input other told →
-    (text ≡ other) × (outcome ≡ told)
+AnswersAreUnique = (input text other : List ℕ) (outcome reported : Outcome) → IsAnswer input text outcome → IsAnswer input other reported →
+    (text ≡ other) × (outcome ≡ reported)
 
--- calls that supply the types, the first as the argument of the place
+-- calls that supply the types, the first as the argument at the position
 abbrev pub calls_from : ℕ → List PlainType → List SetCall
-calls_from place [] = []
-calls_from place (plain ∷ plains) = Arg place (plain_inner plain) ∷ calls_from (place + 1) plains
+calls_from position [] = []
+calls_from position (plain ∷ plains) = Arg position (plain_inner plain) ∷ calls_from (position + 1) plains
 
--- the rules that are left of a builtin are those that remain of its set after the arguments are supplied
+-- the rules in a reply are the rules of the function's set that remain after the arguments are supplied
 abbrev pub RulesLeftRemain : Type 0
 RulesLeftRemain = (function : MathFunction) (arguments : List PlainType)
     → rules_left function (map Plain arguments) ≡ remaining (acceptance_of function) [] (calls_from 0 arguments) (rules_of function)

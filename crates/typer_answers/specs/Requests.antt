@@ -1,4 +1,4 @@
--- What lines ask for, and how it is written.
+-- Requests in lines, and their texts.
 use Rattle.std.specs.Prelude.{◌==◌, ◌<◌, ℕ, List, [], ◌∷◌, length, map, codes, Option, Some, None, find}
 use Rattle.std.specs.Option.{option_map, option_and_then}
 use Rattle.std.specs.List.{slice_split, join_with_byte}
@@ -8,12 +8,12 @@ use Rattle.typer_answers.specs.declared.request.Kind.{Kind}
 use Rattle.typer_answers.specs.declared.request.Kind.TheVariants as kinds
 use Rattle.typer_answers.specs.declared.request.Request.{Request}
 use Rattle.typer_answers.specs.declared.request.Request.TheVariants.{Call, Rules, Layout, Convert, Module}
-use Rattle.shader_samples.specs.Names.{name_text, sample_named}
-use Rattle.shader_text.specs.declared.types.SpelledType.{SpelledType}
-use Rattle.shader_text.specs.Builtins.{builtin_of, builtin_text}
-use Rattle.shader_text.specs.Types.{type_text, type_of, IsWritable}
+use Rattle.shader_samples.specs.Names.{sample_text, sample_named}
+use Rattle.shader_type_text.specs.declared.types.SpelledType.{SpelledType}
+use Rattle.shader_type_text.specs.Builtins.{builtin_of, builtin_text}
+use Rattle.shader_type_text.specs.Types.{type_text, type_of, IsWritable}
 
--- ---- how requests are written
+-- ---- texts of requests
 
 abbrev pub request_kind_text : Kind → List ℕ
 request_kind_text kinds.Call = codes "call"
@@ -27,9 +27,9 @@ request_words (Call function arguments) = request_kind_text kinds.Call ∷ built
 request_words (Rules function arguments) = request_kind_text kinds.Rules ∷ builtin_text function ∷ map type_text arguments
 request_words (Layout t) = request_kind_text kinds.Layout ∷ type_text t ∷ []
 request_words (Convert from to) = request_kind_text kinds.Convert ∷ type_text from ∷ type_text to ∷ []
-request_words (Module sample) = request_kind_text kinds.Module ∷ name_text sample ∷ []
+request_words (Module sample) = request_kind_text kinds.Module ∷ sample_text sample ∷ []
 
--- the words, with one space between each two
+-- the words, separated by single spaces
 abbrev pub request_text : Request → List ℕ
 request_text request = join_with_byte 32 (request_words request)
 
@@ -45,7 +45,7 @@ IsWritableRequest (Layout t) = IsWritable t
 IsWritableRequest (Convert from to) = IsWritable from × IsWritable to
 IsWritableRequest (Module sample) = Unit {0}
 
--- ---- what a line asks for
+-- ---- the request of a line
 
 abbrev pub all_kinds : List Kind
 all_kinds = kinds.Call ∷ kinds.Rules ∷ kinds.Layout ∷ kinds.Convert ∷ kinds.Module ∷ []
@@ -70,7 +70,7 @@ abbrev pub types_of : List (List ℕ) → Option (List SpelledType)
 types_of [] = Some []
 types_of (word ∷ words) = option_and_then (λ t. option_map (λ types. t ∷ types) (types_of words)) (type_of word)
 
--- the builtin that the first word names, and the types that the others spell
+-- the built-in function that the first word names, and the types that the others spell
 abbrev pub named_from : List (List ℕ) → Option (MathFunction × List SpelledType)
 named_from [] = None
 named_from (name ∷ words) = option_and_then (λ function. option_map (λ types. (function, types)) (types_of words)) (builtin_of name)
@@ -86,7 +86,7 @@ call_from words = option_and_then (λ (named : MathFunction × List SpelledType)
 abbrev pub rules_from : List (List ℕ) → Option Request
 rules_from words = option_map (λ (named : MathFunction × List SpelledType). Rules named.0 named.1) (named_from words)
 
--- what words ask for behind the one that names the kind
+-- the request of the words after the one that names the kind
 abbrev pub request_with : Kind → List (List ℕ) → Option Request
 request_with kinds.Call words = call_from words
 request_with kinds.Rules words = rules_from words
@@ -98,6 +98,6 @@ abbrev pub request_from : List (List ℕ) → Option Request
 request_from [] = None
 request_from (kind ∷ words) = option_and_then (λ k. request_with k words) (request_kind kind)
 
--- what a line asks for, if it asks for anything
+-- the request of a line, if any
 abbrev pub request_of : List ℕ → Option Request
 request_of line = request_from (slice_split (λ b. b == 32) line)

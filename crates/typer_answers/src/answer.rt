@@ -4,12 +4,12 @@ use crate::lines::Lines;
 use crate::reply::Reply;
 use std::alloc::{AllocError, Global};
 
-/// Whether each line asked for something.
+/// Whether each line made a request.
 #[derive(Clone, Copy, Debug, PartialEq, Eq)]
 pub enum Outcome {
-    /// Each line did.
+    /// Each line made a request.
     Done,
-    /// One did not, and the answer ends there.
+    /// A line made none, and the answer ends there.
     BadLine,
 }
 
@@ -24,7 +24,7 @@ impl Answer {
     ghost use Rattle.std.specs.Prelude.{◌<◌, ◌^◌, length, IfOk, string_bytes};
     ghost use Rattle.typer_answers.specs.Answers.{IsAnswer};
 
-    /// The answer to all lines of the input.
+    /// Returns the answer to all lines of the input.
     pub fn to(alloc: Global, input: &[u8]) -> Result<Answer, AllocError>
         requires { length input.now < 2 ^ 32 }
         ensures { IfOk result (λ a. IsAnswer input.now (string_bytes a.text) a.outcome) }

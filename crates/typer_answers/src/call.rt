@@ -1,19 +1,19 @@
-//! Calls of builtins.
+//! Requests for calls of built-in functions.
 
 ghost use Rattle.std.specs.Prelude.{◌≡◌, List, IfOk, filter};
 ghost use Rattle.shader_ir.specs.declared.types.«Type».{«Type»};
 ghost use Rattle.shader_overloads.specs.AnySet.{acceptance_in, rules_in};
 ghost use Rattle.shader_overloads.specs.Remaining.{RulesFit};
-ghost use Rattle.shader_text.specs.Placements.{own_inner, own_types};
+ghost use Rattle.shader_type_text.specs.Insertions.{own_inner, own_types};
 ghost use Rattle.typer_answers.specs.Calls.{call_conclusion, rules_left};
 
 use shader_arena::{Arena, UniqueArena};
 use shader_ir::{GlobalCtx, Items, MathFunction};
 use shader_overloads::{AnyOverloadSet, Conclusion, MathOverloads, OverloadSet, Rule};
-use shader_text::{SpelledType, place};
+use shader_type_text::{SpelledType, insert_type};
 use std::alloc::{AllocError, Global};
 
-/// The rules that take the type as argument `i`.
+/// Returns the rules that accept the type as argument `i`.
 fn supply(
     alloc: Global,
     set: &AnyOverloadSet,
@@ -26,11 +26,11 @@ fn supply(
     ensures kind { IfOk result (λ left. acceptance_in left ≡ acceptance_in set.now) }
 {
     let mut types = UniqueArena::new(alloc);
-    let inner = place(&mut types, argument)?;
+    let inner = insert_type(&mut types, argument)?;
     set.arg(alloc, i, &inner, &types)
 }
 
-/// The rules that take all arguments.
+/// Returns the rules that accept all arguments.
 fn supply_all(
     alloc: Global,
     function: MathFunction,
@@ -45,7 +45,7 @@ fn supply_all(
     Ok(left)
 }
 
-/// The conclusion of the preferred rule, where one takes all arguments.
+/// Returns the conclusion of the preferred rule, if a rule accepts all arguments.
 pub fn conclusion(
     alloc: Global,
     function: MathFunction,
@@ -61,7 +61,7 @@ pub fn conclusion(
     Ok(Some(rule.conclusion))
 }
 
-/// All rules that take the arguments.
+/// Returns all rules that accept the arguments.
 pub fn remaining_rules(
     alloc: Global,
     function: MathFunction,

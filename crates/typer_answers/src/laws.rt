@@ -1,39 +1,40 @@
-//! Laws of requests, of whole inputs by what they spell, of answers, and of the rules that are left.
+//! Laws on requests, answers, whole inputs and their spelling, and remaining rules. Each law is the contract of a function that does
+//! nothing.
 
 ghost use Rattle.typer_answers.specs.Laws.{AnswersAreUnique, BadLinesEndAnswers, LastLinesMayLackEnds, RequestsAreAnswered};
 ghost use Rattle.typer_answers.specs.Laws.{RequestsAreSpelled, RulesLeftRemain, SamplesHaveOneReport};
 
-/// A line makes a request exactly where it is the request's text.
+/// States that a line makes a request exactly if it is the request's text.
 pub fn requests_are_spelled()
     ensures { RequestsAreSpelled }
 {}
 
-/// An input of requests is answered by replies to them.
+/// States that an input of requests is answered by replies to them.
 pub fn requests_are_answered()
     ensures { RequestsAreAnswered }
 {}
 
-/// A line that makes no request ends the answer.
+/// States that a line without a request ends the answer.
 pub fn bad_lines_end_answers()
     ensures { BadLinesEndAnswers }
 {}
 
-/// The last line may lack its end.
+/// States that the last line needs no line feed.
 pub fn last_lines_may_lack_ends()
     ensures { LastLinesMayLackEnds }
 {}
 
-/// A sample has one report.
+/// States that a sample has exactly one report.
 pub fn samples_have_one_report()
     ensures { SamplesHaveOneReport }
 {}
 
-/// An input has one answer.
+/// States that an input has exactly one answer.
 pub fn answers_are_unique()
     ensures { AnswersAreUnique }
 {}
 
-/// The rules that are left of a builtin are those that remain of its set after the arguments are supplied.
+/// States that the rules in a reply are the rules of the function's set that remain after the arguments are supplied.
 pub fn rules_left_remain()
     ensures { RulesLeftRemain }
 {}

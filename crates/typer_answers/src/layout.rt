@@ -1,4 +1,4 @@
-//! Layouts of spelled types.
+//! Requests for layouts of spelled types.
 
 ghost use Rattle.std.specs.Prelude.{◌≡◌, IfOk, IfSome};
 ghost use Rattle.shader_ir.specs.Layout.{HasStride};
@@ -6,16 +6,16 @@ ghost use Rattle.typer_answers.specs.Layouts.{layout_of_spelled};
 
 use shader_arena::{Arena, UniqueArena};
 use shader_ir::{GlobalCtx, Layouter, Type, TypeLayout, UpdateError};
-use shader_text::{SpelledType, place};
+use shader_type_text::{SpelledType, insert_type};
 use std::alloc::{AllocError, Global};
 
-/// The layout of the type, where it has one.
+/// Returns the layout of the type, if it has one.
 pub fn layout(alloc: Global, spelled: SpelledType) -> Result<Option<TypeLayout>, AllocError>
     ensures layout { IfOk result (λ layout. layout ≡ layout_of_spelled spelled) }
     ensures stride { IfOk result (λ layout. IfSome layout HasStride) }
 {
     let mut types = UniqueArena::new(alloc);
-    let inner = place(&mut types, spelled)?;
+    let inner = insert_type(&mut types, spelled)?;
     let handle = types.insert(Type { name: None, inner })?;
     let constants = Arena::new(alloc);
     let overrides = Arena::new(alloc);

@@ -1,4 +1,4 @@
-//! What the lines of an input ask for, and the answer to them.
+//! The requests in the lines of an input, and the answer to them.
 #![tactic(auto)]
 
 mod answer;

@@ -1,7 +1,7 @@
-//! Texts cut at the ends of lines.
-use shader_text::index_of;
+//! Texts split into lines.
+use shader_type_text::index_of;
 
-/// The lines of a text, from the first on. The last may lack its end.
+/// An iterator over the lines of a text. The last line needs no line feed.
 #[derive(Drop)]
 pub struct Lines<'a> {
     rest: &'a [u8],

@@ -1,23 +1,23 @@
-//! What is said to a line.
+//! Replies to single lines.
 
 use crate::call::{conclusion, remaining_rules};
 use crate::conversion::conversion;
 use crate::layout::layout;
 use crate::request::{Request, parse_request};
 use crate::samples::sample_report;
+use sample_reports::ModuleReport;
 use shader_ir::{Alignment, Items, Scalar, TypeLayout};
 use shader_overloads::{Conclusion, Rule};
-use shader_reports::ModuleReport;
-use shader_text::{ConclusionText, RulesText, ScalarText};
+use shader_type_text::{ConclusionText, RulesText, ScalarText};
 use std::alloc::{AllocError, Global};
 use std::fmt;
 
-/// What is said to a line that asks for something.
+/// The reply to a line that makes a request.
 #[derive(Drop)]
 pub enum Reply {
     /// The type of a call.
     Conclusion(Conclusion),
-    /// The rules that are left, one at least.
+    /// The remaining rules, at least one.
     Rules(Items<Rule>),
     /// The size and the alignment of a type and the stride of an array of it, in bytes.
     Layout {
@@ -27,7 +27,7 @@ pub enum Reply {
     },
     /// The leaf scalars of a conversion, from and to.
     Conversion(Scalar, Scalar),
-    /// What is found of a module, or where it has a fault.
+    /// The analysis results for a module, or the location of its violation.
     Module(ModuleReport),
     /// Nothing answers the request.
     Refused,
@@ -103,7 +103,7 @@ impl Reply {
         Reply::Rules(rules)
     }
 
-    /// The reply to a request.
+    /// Returns the reply to a request.
     fn to_request(alloc: Global, request: Request) -> Result<Reply, AllocError>
         ensures { IfOk result (IsReply request) }
     {
@@ -125,7 +125,7 @@ impl Reply {
         }
     }
 
-    /// The reply to a line, if it asks for something.
+    /// Returns the reply to a line, if it makes a request.
     pub fn to(alloc: Global, line: &[u8]) -> Result<Option<Reply>, AllocError>
         ensures { IfOk result (IsReplyTo line.now) }
     {

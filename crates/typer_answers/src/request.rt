@@ -1,4 +1,4 @@
-//! What a line asks for.
+//! Requests in lines of an input.
 
 ghost use Rattle.std.specs.Prelude.{◌≡◌, IfOk};
 ghost use Rattle.std.specs.Option.{option_map};
@@ -7,17 +7,17 @@ ghost use Rattle.typer_answers.specs.Requests.{named_from, request_of, rules_fro
 
 use shader_ir::{Items, MathFunction};
 use shader_samples::Sample;
-use shader_text::{Pieces, SpelledType, builtin_from_word};
+use shader_type_text::{Pieces, SpelledType, builtin_from_word};
 use std::alloc::{AllocError, Global};
 
-/// What a line asks for, by its first word.
+/// The kind of a request, by its first word.
 #[derive(Clone, Copy, Debug, PartialEq, Eq)]
 pub enum Kind {
     /// `call`: the type of a call.
     Call,
-    /// `rules`: the rules that are left.
+    /// `rules`: the remaining rules.
     Rules,
-    /// `layout`: bytes of a type.
+    /// `layout`: the size, the alignment and the stride of a type.
     Layout,
     /// `convert`: the scalars of a conversion.
     Convert,
@@ -25,18 +25,18 @@ pub enum Kind {
     Module,
 }
 
-/// A line that asks for something.
+/// A request in a line of an input.
 #[derive(Drop)]
 pub enum Request {
-    /// The type of a call with these arguments, of which there is one at least.
+    /// The type of a call with these arguments, of which there is at least one.
     Call(MathFunction, Items<SpelledType>),
-    /// The rules of a builtin that take these arguments.
+    /// The rules of a built-in function that accept these arguments.
     Rules(MathFunction, Items<SpelledType>),
     /// The size, the alignment and the stride of a type.
     Layout(SpelledType),
-    /// The scalars by which a value of the first type becomes one of the second.
+    /// The scalars by which a value of the first type is converted to the second.
     Convert(SpelledType, SpelledType),
-    /// What the analysis finds of a sample module.
+    /// The analysis results for a sample module.
     Module(Sample),
 }
 
@@ -63,7 +63,7 @@ impl Kind {
         }
     }
 
-    /// The kind that the word names.
+    /// Returns the kind that the word names.
     fn from_word(word: &[u8]) -> Option<Kind>
         ensures { result ≡ request_kind word.now }
     {
@@ -74,7 +74,7 @@ impl Kind {
     }
 }
 
-/// The request for a layout, if the words spell one type.
+/// Returns the request for a layout, if the words spell one type.
 fn parse_layout(mut words: Pieces<'_>) -> Option<Request>
     ensures { result ≡ layout_from words.entry }
 {
@@ -85,7 +85,7 @@ fn parse_layout(mut words: Pieces<'_>) -> Option<Request>
     SpelledType::from_word(word).map(Request::Layout)
 }
 
-/// The request for a conversion between two types, if the words spell two.
+/// Returns the request for a conversion between two types, if the words spell two.
 fn parse_convert(mut words: Pieces<'_>) -> Option<Request>
     ensures { result ≡ convert_from words.entry }
 {
@@ -99,7 +99,7 @@ fn parse_convert(mut words: Pieces<'_>) -> Option<Request>
     Some(Request::Convert(from, to))
 }
 
-/// The request for what is found of a sample, if the words are the name of one.
+/// Returns the request for the report on a sample, if the words are the name of one.
 fn parse_module(mut words: Pieces<'_>) -> Option<Request>
     ensures { result ≡ module_from words.entry }
 {
@@ -110,7 +110,7 @@ fn parse_module(mut words: Pieces<'_>) -> Option<Request>
     Sample::from_name(name).map(Request::Module)
 }
 
-/// The types that the words spell, if each spells one.
+/// Returns the types that the words spell, if each spells one.
 fn parse_types(alloc: Global, words: Pieces<'_>) -> Result<Option<Vec<SpelledType>>, AllocError>
     ensures { IfOk result (λ types. option_map (λ v. v.items) types ≡ types_of words.entry) }
 {
@@ -124,7 +124,7 @@ fn parse_types(alloc: Global, words: Pieces<'_>) -> Result<Option<Vec<SpelledTyp
     Ok(Some(types))
 }
 
-/// The builtin that the first word names, and the types that the others spell.
+/// Returns the built-in function that the first word names, and the types that the others spell.
 fn parse_arguments(
     alloc: Global,
     mut words: Pieces<'_>,
@@ -140,7 +140,8 @@ fn parse_arguments(
     }
 }
 
-/// The request for a call's type, if the words name a builtin and spell a type at least.
+/// Returns the request for a call's type, if the words name a built-in function and spell at least
+/// one type.
 fn parse_call(alloc: Global, words: Pieces<'_>) -> Result<Option<Request>, AllocError>
     ensures { IfOk result (λ request. request ≡ call_from words.entry) }
 {
@@ -153,7 +154,7 @@ fn parse_call(alloc: Global, words: Pieces<'_>) -> Result<Option<Request>, Alloc
     Ok(Some(Request::Call(function, Items::from(arguments))))
 }
 
-/// The request for rules, if the words name a builtin and spell types.
+/// Returns the request for rules, if the words name a built-in function and spell types.
 fn parse_rules(alloc: Global, words: Pieces<'_>) -> Result<Option<Request>, AllocError>
     ensures { IfOk result (λ request. request ≡ rules_from words.entry) }
 {
@@ -163,7 +164,7 @@ fn parse_rules(alloc: Global, words: Pieces<'_>) -> Result<Option<Request>, Allo
     Ok(Some(Request::Rules(function, Items::from(arguments))))
 }
 
-/// The request that a line makes, if it makes one.
+/// Returns the request that a line makes, if any.
 pub fn parse_request(alloc: Global, line: &[u8]) -> Result<Option<Request>, AllocError>
     ensures { IfOk result (λ request. request ≡ request_of line.now) }
 {

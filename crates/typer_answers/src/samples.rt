@@ -1,14 +1,14 @@
-//! Reports of the sample modules.
+//! Reports on the sample modules.
 
 ghost use Rattle.std.specs.Prelude.{IfOk};
 ghost use Rattle.typer_answers.specs.Samples.{IsSampleReport};
 
-use shader_reports::{ModuleReport, report_module};
+use sample_reports::{ModuleReport, report_module};
+use shader_info::{Capabilities, ValidationFlags};
 use shader_samples::Sample;
-use shader_typing::valid::{Capabilities, ValidationFlags};
 use std::alloc::{AllocError, Global};
 
-/// What is told of a sample, where control flow is checked and no capability is given.
+/// Returns the report on a sample, with control flow checked and without capabilities.
 pub fn sample_report(alloc: Global, sample: Sample) -> Result<ModuleReport, AllocError>
     ensures { IfOk result (IsSampleReport sample) }
 {

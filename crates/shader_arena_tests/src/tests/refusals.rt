@@ -1,9 +1,8 @@
-//! Each growth refused once: what was given comes back, the list stays, and the call made again
-//! goes on as with memory.
+//! Tests of allocation failure: if a growth fails, the value passed comes back, the list is unchanged, and the same call succeeds when it
+//! is repeated.
 //!
-//! With ample memory nothing is refused. Where the allocator refuses the Nth request of a test's
-//! process, the test passes still, and prints a line with `was refused`. The first N at which no
-//! test prints one is past all requests.
+//! With enough memory nothing fails. Under fault injection, where the allocator refuses the Nth request of a test's process, the test still
+//! passes and prints a line with `was refused`. The first N at which no test prints one is beyond all requests.
 ghost use Rattle.std.specs.Prelude.{◌≡◌, IfOk, length};
 
 use crate::tests::Item;
@@ -64,7 +63,7 @@ fn insert_again_if_refused<R: Abort + Print>(
     Ok(arena.insert(refused)?)
 }
 
-/// Inserts a number that isn't there, and then again, which needs no memory and so is never refused.
+/// Inserts a new number, and then the same one again, which allocates nothing and so never fails.
 fn insert_twice<R: Abort + Print>(
     rt: &R,
     arena: &mut UniqueArena<u32, Item>,
@@ -96,7 +95,7 @@ fn of_insert_in_a_unique_arena(rt: HostRuntime) -> Result<(), Fail> {
     Ok(())
 }
 
-/// Adds a value for the next handle, which is handed back and added again where it was refused.
+/// Adds a value for the next handle; if that fails, takes it back and adds it again.
 fn add_to_table<R: Abort + Print>(
     rt: &R,
     table: &mut HandleVec<Item, u32>,

@@ -1,7 +1,7 @@
 //! Copies of expressions.
 ghost use Rattle.std.specs.Prelude.{◌≡◌, IfOk, IsOk};
-ghost use Rattle.shader_ir.specs.Forms.{AppliesOperator, HoldsNoList, IsCooperative, IsResult, NamesDeclared};
-ghost use Rattle.shader_ir.specs.Forms.{ReadsImage, SamplesImage, SelectsOrCalls, TakesPart};
+ghost use Rattle.shader_ir.specs.ExpressionKinds.{AppliesOperator, HoldsNoList, IsCooperative, IsResult, NamesDeclared};
+ghost use Rattle.shader_ir.specs.ExpressionKinds.{ReadsImage, SamplesImage, SelectsOrCalls, TakesPart};
 
 use crate::{Expression, TryCopy};
 use std::alloc::{AllocError, Global};
@@ -11,7 +11,7 @@ impl Expression {
     ///
     /// # Errors
     ///
-    /// `AllocError` if memory for the components of a Compose is refused.
+    /// `AllocError` if allocating the components of a `Compose` fails.
     pub fn copy(&self, alloc: Global) -> Result<Expression, AllocError>
         ensures copy { IfOk result (λ copy. copy ≡ self.now) }
         ensures ok { HoldsNoList self.now → IsOk result }
@@ -49,7 +49,7 @@ impl Expression {
         }
     }
 
-    /// Copies an expression that is a literal or names what is declared.
+    /// Copies an expression that is a literal or names a declared item.
     fn copy_of_declared(&self) -> Expression
         requires { NamesDeclared self.now }
         ensures { result ≡ self.now }
@@ -66,7 +66,7 @@ impl Expression {
         }
     }
 
-    /// Copies an expression that takes or spreads parts of a value.
+    /// Copies an expression that accesses or spreads components of a value.
     fn copy_of_part(&self) -> Expression
         requires { TakesPart self.now }
         ensures { result ≡ self.now }
@@ -194,7 +194,7 @@ impl Expression {
         }
     }
 
-    /// Copies an expression that selects or calls a builtin function.
+    /// Copies an expression that selects or calls a built-in function.
     fn copy_of_choice(&self) -> Expression
         requires { SelectsOrCalls self.now }
         ensures { result ≡ self.now }
@@ -226,7 +226,7 @@ impl Expression {
         }
     }
 
-    /// Copies an expression that stands for what a statement gives or a ray query holds.
+    /// Copies an expression that stands for the result of a statement or the state of a ray query.
     fn copy_of_result(&self) -> Expression
         requires { IsResult self.now }
         ensures { result ≡ self.now }
@@ -258,7 +258,7 @@ impl Expression {
         }
     }
 
-    /// Copies an expression that is a cooperative matrix.
+    /// Copies an expression that yields a cooperative matrix.
     fn copy_of_cooperative(&self) -> Expression
         requires { IsCooperative self.now }
         ensures { result ≡ self.now }

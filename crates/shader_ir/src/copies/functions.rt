@@ -13,7 +13,7 @@ impl LocalVariable {
     ///
     /// # Errors
     ///
-    /// `AllocError` if memory for the name is refused.
+    /// `AllocError` if allocating the name fails.
     pub fn copy(&self, alloc: Global) -> Result<LocalVariable, AllocError>
         ensures { IfOk result (λ copy. copy ≡ self.now) }
     {
@@ -36,7 +36,7 @@ impl FunctionArgument {
     ///
     /// # Errors
     ///
-    /// `AllocError` if memory for the name is refused.
+    /// `AllocError` if allocating the name fails.
     pub fn copy(&self, alloc: Global) -> Result<FunctionArgument, AllocError>
         ensures { IfOk result (λ copy. copy ≡ self.now) }
     {
@@ -59,7 +59,7 @@ impl Function {
     ///
     /// # Errors
     ///
-    /// `AllocError` if memory is refused.
+    /// `AllocError` if allocation fails.
     pub fn copy(&self, alloc: Global) -> Result<Function, AllocError>
         ensures { IfOk result (λ copy. copy ≡ self.now) }
     {
@@ -119,7 +119,7 @@ impl EntryPoint {
     ///
     /// # Errors
     ///
-    /// `AllocError` if memory is refused.
+    /// `AllocError` if allocation fails.
     pub fn copy(&self, alloc: Global) -> Result<EntryPoint, AllocError>
         ensures { IfOk result (λ copy. copy ≡ self.now) }
     {

@@ -1,4 +1,4 @@
-//! Copies of modules and of what they declare.
+//! Copies of modules and of the items they declare.
 ghost use Rattle.std.specs.Prelude.{◌≡◌, IfOk, OnOk};
 
 use crate::{
@@ -30,7 +30,7 @@ impl Constant {
     ///
     /// # Errors
     ///
-    /// `AllocError` if memory for the name is refused.
+    /// `AllocError` if allocating the name fails.
     pub fn copy(&self, alloc: Global) -> Result<Constant, AllocError>
         ensures { IfOk result (λ copy. copy ≡ self.now) }
     {
@@ -53,7 +53,7 @@ impl Override {
     ///
     /// # Errors
     ///
-    /// `AllocError` if memory for the name is refused.
+    /// `AllocError` if allocating the name fails.
     pub fn copy(&self, alloc: Global) -> Result<Override, AllocError>
         ensures { IfOk result (λ copy. copy ≡ self.now) }
     {
@@ -76,7 +76,7 @@ impl GlobalVariable {
     ///
     /// # Errors
     ///
-    /// `AllocError` if memory for the name is refused.
+    /// `AllocError` if allocating the name fails.
     pub fn copy(&self, alloc: Global) -> Result<GlobalVariable, AllocError>
         ensures { IfOk result (λ copy. copy ≡ self.now) }
     {
@@ -100,7 +100,7 @@ impl SpecialTypes {
     ///
     /// # Errors
     ///
-    /// `AllocError` if memory for the map is refused.
+    /// `AllocError` if allocating the map fails.
     pub fn copy(&self, alloc: Global) -> Result<SpecialTypes, AllocError>
         ensures { IfOk result (λ copy. copy ≡ self.now) }
     {
@@ -117,7 +117,7 @@ impl Module {
     ///
     /// # Errors
     ///
-    /// `AllocError` if memory is refused.
+    /// `AllocError` if allocation fails.
     pub fn copy(&self, alloc: Global) -> Result<Module, AllocError>
         ensures { IfOk result (λ copy. copy ≡ self.now) }
     {
@@ -126,7 +126,9 @@ impl Module {
         Ok(copy)
     }
 
-    /// Makes this the other module again. After an error some parts may be.
+    /// Makes this module equal to `other`.
+    ///
+    /// After an error, only some of its fields may be equal.
     fn copy_from(&mut self, alloc: Global, other: &Module) -> Result<(), AllocError>
         ensures { OnOk result (self.new ≡ other.now) }
     {

@@ -1,7 +1,7 @@
 //! Copies of statements, blocks and cases.
 ghost use Rattle.std.specs.Prelude.{◌≡◌, IfOk, IsOk};
 ghost use Rattle.shader_ir.specs.BodyOf.{step_of};
-ghost use Rattle.shader_ir.specs.Forms.{AccessesMemory, HoldsNoBlock, HoldsNoBlockOrList, SharesInSubgroup, SteersFlow};
+ghost use Rattle.shader_ir.specs.ExpressionKinds.{AccessesMemory, HoldsNoBlock, HoldsNoBlockOrList, SharesInSubgroup, SteersFlow};
 ghost use Rattle.shader_ir.specs.Operands.{WritesTexel};
 
 use crate::{Block, Statement, SwitchCase};
@@ -12,7 +12,7 @@ impl Block {
     ///
     /// # Errors
     ///
-    /// `AllocError` if memory is refused.
+    /// `AllocError` if allocation fails.
     #[cycle(copy)]
     pub fn copy(&self, alloc: Global) -> Result<Block, AllocError>
         ensures { IfOk result (λ copy. copy ≡ self.now) }
@@ -30,7 +30,7 @@ impl SwitchCase {
     ///
     /// # Errors
     ///
-    /// `AllocError` if memory for the body is refused.
+    /// `AllocError` if allocating the body fails.
     #[cycle(copy)]
     pub fn copy(&self, alloc: Global) -> Result<SwitchCase, AllocError>
         ensures { IfOk result (λ copy. copy ≡ self.now) }
@@ -44,11 +44,11 @@ impl SwitchCase {
 }
 
 impl Statement {
-    /// Returns an equal statement: the same step of the tree that contracts see in a block.
+    /// Returns an equal statement: contracts see the same step in the tree of a block.
     ///
     /// # Errors
     ///
-    /// `AllocError` if memory for blocks, cases or the arguments of a call is refused.
+    /// `AllocError` if allocating blocks, cases or the arguments of a call fails.
     #[cycle(copy)]
     pub fn copy(&self, alloc: Global) -> Result<Statement, AllocError>
         ensures copy { IfOk result (λ copy. step_of copy ≡ step_of self.now) }
@@ -88,7 +88,7 @@ impl Statement {
         }
     }
 
-    /// Copies a statement that holds no block.
+    /// Copies a statement that contains no block.
     fn copy_of_leaf(&self, alloc: Global) -> Result<Statement, AllocError>
         requires { HoldsNoBlock (step_of self.now) }
         ensures copy { IfOk result (λ copy. step_of copy ≡ step_of self.now) }
@@ -127,7 +127,7 @@ impl Statement {
         }
     }
 
-    /// Copies a statement that steers the flow or emits expressions.
+    /// Copies a statement that controls the flow or emits expressions.
     fn copy_of_flow(&self) -> Statement
         requires { SteersFlow (step_of self.now) }
         ensures { step_of result ≡ step_of self.now }
@@ -144,7 +144,7 @@ impl Statement {
         }
     }
 
-    /// Copies a statement that reads or writes memory or works on a ray.
+    /// Copies a statement that accesses memory or works on a ray.
     fn copy_of_access(&self) -> Statement
         requires { AccessesMemory (step_of self.now) }
         ensures { step_of result ≡ step_of self.now }
@@ -216,7 +216,7 @@ impl Statement {
         }
     }
 
-    /// Copies a statement in which a subgroup shares values.
+    /// Copies a statement in which the invocations of a subgroup share values.
     fn copy_of_subgroup(&self) -> Statement
         requires { SharesInSubgroup (step_of self.now) }
         ensures { step_of result ≡ step_of self.now }

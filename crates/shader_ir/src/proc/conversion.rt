@@ -1,4 +1,4 @@
-//! Which types convert to which on their own.
+//! Automatic conversions between types.
 ghost use Rattle.std.specs.Prelude.{◌≡◌, length, Some};
 ghost use Rattle.shader_ir.specs.Conversion.{conversion, same_array_size, scalar_conversion};
 ghost use Rattle.shader_ir.specs.TypeTree.{IsBackward, PointsBelow, Node, NoTree, tree_of};
@@ -7,7 +7,7 @@ use crate::{ArraySize, Scalar, ScalarKind, Type, TypeInner, mark};
 use shader_arena::UniqueArena;
 
 impl Scalar {
-    /// The two scalars, where the first converts to the second.
+    /// Returns both scalars if the first converts to the second.
     #[inline(always)]
     fn pair_with(self, goal: Scalar) -> Option<(Scalar, Scalar)>
         ensures { result ≡ scalar_conversion (Some self) (Some goal) }
@@ -25,7 +25,7 @@ impl Scalar {
 }
 
 impl ArraySize {
-    /// Whether both are the same number, the same override's, or unknown.
+    /// Returns whether both are the same number or the same override, or both are runtime-sized.
     #[inline]
     fn is_equal_size(self, other: ArraySize) -> bool
         ensures { result ≡ same_array_size self other }
@@ -35,10 +35,9 @@ impl ArraySize {
 }
 
 impl TypeInner {
-    /// The leaf scalars of this type and of `goal`, where a value of this type converts to `goal` by
-    /// WGSL's automatic conversions: the types are alike but for their scalars and the strides of
-    /// arrays, and the scalars are equal or the first is abstract and of a kind that becomes the
-    /// second's. Widths don't count, and equal types give their own scalar twice.
+    /// Returns the leaf scalars of this type and of `goal` if a value of this type converts to `goal` by WGSL's automatic conversions: the
+    /// types differ at most in their scalars and in the strides of arrays, and the scalars are equal or the first is abstract and its kind
+    /// converts to the second's. Widths don't matter, and equal types give their own scalar twice.
     pub fn automatically_converts_to(
         &self,
         goal: &TypeInner,
@@ -69,7 +68,7 @@ impl TypeInner {
         }
     }
 
-    /// The same, where neither type is an array.
+    /// Returns the leaf scalars as `automatically_converts_to` does, for types that aren't arrays.
     #[inline(always)]
     fn leaf_converts_to(&self, goal: &TypeInner) -> Option<(Scalar, Scalar)>
         ensures { result ≡ conversion (Node self.now NoTree) (Node goal.now NoTree) }

@@ -5,7 +5,7 @@ ghost use Rattle.std.specs.Int.{next_multiple_of};
 use crate::proc::sizes::MAX_TYPE_SIZE;
 use crate::{Alignment, GlobalCtx, Scalar, StructMember, TypeInner, mark};
 use shader_arena::{Handle, HandleVec};
-use std::alloc::{AllocFailed, Global};
+use std::alloc::{AllocError, AllocFailed, Global};
 use std::fmt;
 use std::marker::Model;
 use std::ops::Index;
@@ -19,9 +19,9 @@ pub struct TypeLayout {
 }
 
 impl TypeLayout {
-    /// The stride in bytes of an array of this type: the size, rounded up to the alignment.
+    /// Returns the stride in bytes of an array of this type: the size, rounded up to the alignment.
     ///
-    /// The layouts of a `Layouter` have one.
+    /// The layouts in a `Layouter` always have one.
     pub fn to_stride(&self) -> u32
         requires { HasStride self.now }
         ensures { result ≡ next_multiple_of self.now.size self.now.alignment }
@@ -30,17 +30,17 @@ impl TypeLayout {
     }
 }
 
-/// Why a type has no layout.
+/// The reason why a type has no layout.
 #[derive(Clone, Copy, Debug, PartialEq, Error)]
 pub enum LayoutErrorInner {
     /// The element type of an array isn't earlier than the array.
     #[error("Array element type {0:?} doesn't exist")]
     InvalidArrayElementType(Handle<mark::Type>),
-    /// The place of a member, from 0, and its type, which isn't earlier than the struct. A place above 4,294,967,295 is told
-    /// as that.
+    /// The position of a member, from 0, and its type, which isn't earlier than the struct. A position above 4,294,967,295 is reported as
+    /// 4,294,967,295.
     #[error("Struct member[{0}] type {1:?} doesn't exist")]
     InvalidStructMemberType(u32, Handle<mark::Type>),
-    /// The width of a scalar is no power of two.
+    /// The width of a scalar isn't a power of two.
     #[error("Type width must be a power of two")]
     NonPowerOfTwoWidth,
     /// A count, a product or a span is above `MAX_TYPE_SIZE`.
@@ -48,7 +48,7 @@ pub enum LayoutErrorInner {
     TooLarge,
 }
 
-/// A type that has no layout, and why.
+/// A type without a layout, and the reason.
 #[derive(Clone, Copy, Debug, PartialEq, Error)]
 #[error("Error laying out type {ty:?}: {inner}")]
 pub struct LayoutError {
@@ -56,7 +56,7 @@ pub struct LayoutError {
     pub inner: LayoutErrorInner,
 }
 
-/// Why an update stopped.
+/// The reason why an update stopped.
 #[derive(Clone, Copy, Debug, PartialEq, Error)]
 pub enum UpdateError {
     #[error("Layout")]
@@ -78,7 +78,42 @@ impl From<AllocFailed<TypeLayout>> for UpdateError {
     }
 }
 
-/// The layouts of the first types of an arena, under the handles of the types (naga's `proc::Layouter`).
+impl From<AllocError> for UpdateError {
+    ghost use Rattle.std.specs.Prelude.{◌≡◌};
+    ghost use Rattle.shader_ir.specs.declared.proc.layouter.UpdateError.TheVariants.{OutOfMemory};
+
+    ghost from_gives = { λ _ error. error ≡ OutOfMemory };
+
+    fn from(_error: AllocError) -> UpdateError {
+        UpdateError::OutOfMemory
+    }
+}
+
+impl UpdateError {
+    /// Returns what prints a sentence that says why the update stopped, where the error itself prints as the name of its variant.
+    pub fn report(self) -> UpdateReport
+        ensures { result.error ≡ self }
+    {
+        UpdateReport { error: self }
+    }
+}
+
+/// A sentence that says why an update stopped.
+#[derive(Clone, Copy)]
+pub struct UpdateReport {
+    pub error: UpdateError,
+}
+
+impl fmt::Display for UpdateReport {
+    fn fmt<W: fmt::Write>(&self, f: &mut fmt::Formatter<W>) -> fmt::Result {
+        match self.error {
+            UpdateError::Layout(error) => write!(f, "{error}"),
+            UpdateError::OutOfMemory => f.write_str("Out of memory"),
+        }
+    }
+}
+
+/// The layouts of the first types of an arena, by the handles of the types (naga's `proc::Layouter`).
 #[derive(Drop)]
 pub struct Layouter {
     layouts: HandleVec<mark::Type, TypeLayout>,
@@ -96,7 +131,7 @@ impl Model for Layouter {
     ghost invariant = { λ layouter. All HasStride layouter.layouts };
 }
 
-/// Writes how many types are laid out.
+/// Writes the number of types laid out.
 impl fmt::Debug for Layouter {
     fn fmt<W: fmt::Write>(&self, f: &mut fmt::Formatter<W>) -> fmt::Result {
         write!(f, "Layouter({} types)", self.layouts.len())
@@ -118,9 +153,9 @@ impl Index<Handle<mark::Type>> for Layouter {
 ghost use Rattle.shader_ir.specs.Sizes.{AreTypeSizesInRange, AreTypeSizesInRangeFrom, IsTypeSizeInRange};
 ghost use Rattle.shader_ir.specs.Layout.{AreFaultless, AreFirstLayouts, HasStride, IsRefusalAt};
 ghost use Rattle.shader_ir.specs.Layout.{layouts_of, member_fault, part_fault, width_fault};
-ghost use Rattle.shader_ir.specs.HeldLayouts.{AreLaidOver, faulty_or, greatest_held, held_alignment, held_layout};
+ghost use Rattle.shader_ir.specs.StoredLayouts.{AreLaidOver, faulty_or, greatest_stored, stored_alignment, stored_layout};
 
-/// The alignment of a scalar.
+/// Returns the alignment of a scalar.
 fn width_alignment(scalar: Scalar) -> Result<Alignment, LayoutErrorInner>
     ensures width { result ≡ faulty_or (width_fault scalar) scalar.width }
     ensures small { IfOk result (λ alignment. alignment < 256) }
@@ -132,18 +167,18 @@ fn width_alignment(scalar: Scalar) -> Result<Alignment, LayoutErrorInner>
     }
 }
 
-/// The greatest alignment of the members, which are laid out already.
+/// Returns the greatest alignment of the members, which are laid out already.
 fn greatest_alignment(
     members: &[StructMember],
-    place: Handle<mark::Type>,
+    position: Handle<mark::Type>,
     layouts: &HandleVec<mark::Type, TypeLayout>,
 ) -> Result<Alignment, LayoutErrorInner>
-    requires { place ≡ length layouts.now }
-    ensures { result ≡ faulty_or (member_fault place 0 members.now) (greatest_held layouts.now members.now) }
+    requires { position ≡ length layouts.now }
+    ensures { result ≡ faulty_or (member_fault position 0 members.now) (greatest_stored layouts.now members.now) }
 {
     let mut alignment = Alignment::ONE;
     for (index, member) in members.iter().enumerate() {
-        if member.ty.index() >= place.index() {
+        if member.ty.index() >= position.index() {
             let index = index.min(u32::MAX as usize) as u32;
             return Err(LayoutErrorInner::InvalidStructMemberType(index, member.ty));
         }
@@ -155,14 +190,14 @@ fn greatest_alignment(
     Ok(alignment)
 }
 
-/// The alignment of a type whose parts are laid out already.
+/// Returns the alignment of a type whose components are laid out already.
 fn alignment_over(
     inner: &TypeInner,
-    place: Handle<mark::Type>,
+    position: Handle<mark::Type>,
     layouts: &HandleVec<mark::Type, TypeLayout>,
 ) -> Result<Alignment, LayoutErrorInner>
-    requires { place ≡ length layouts.now }
-    ensures { result ≡ faulty_or (part_fault place inner.now) (held_alignment layouts.now inner.now) }
+    requires { position ≡ length layouts.now }
+    ensures { result ≡ faulty_or (part_fault position inner.now) (stored_alignment layouts.now inner.now) }
 {
     match inner {
         TypeInner::Scalar(scalar) | TypeInner::Atomic(scalar) => width_alignment(*scalar),
@@ -176,42 +211,42 @@ fn alignment_over(
             Ok(Alignment::from(*rows) * width_alignment(*scalar)?)
         }
         TypeInner::Array { base, .. } => {
-            if base.index() < place.index() {
+            if base.index() < position.index() {
                 Ok(layouts[*base].alignment)
             } else {
                 Err(LayoutErrorInner::InvalidArrayElementType(*base))
             }
         }
         TypeInner::Struct { members, .. } => {
-            greatest_alignment(members.as_slice(), place, layouts)
+            greatest_alignment(members.as_slice(), position, layouts)
         }
         _ => Ok(Alignment::ONE),
     }
 }
 
-/// The layout of a type whose parts are laid out already.
+/// Returns the layout of a type whose components are laid out already.
 #[tactic(auto, using(crate::proofs::PowerLemmas::stride_fits))]
 fn layout_over(
     inner: &TypeInner,
-    place: Handle<mark::Type>,
+    position: Handle<mark::Type>,
     layouts: &HandleVec<mark::Type, TypeLayout>,
     ctx: GlobalCtx<'_>,
 ) -> Result<TypeLayout, LayoutErrorInner>
     requires sizes { IsTypeSizeInRange ctx inner.now }
-    requires held { place ≡ length layouts.now }
-    ensures layout { result ≡ held_layout ctx.entry layouts.now place inner.now }
+    requires stored { position ≡ length layouts.now }
+    ensures layout { result ≡ stored_layout ctx.entry layouts.now position inner.now }
     ensures stride { IfOk result HasStride }
 {
     let Some(size) = inner.try_size(ctx) else {
         return Err(LayoutErrorInner::TooLarge);
     };
-    let alignment = alignment_over(inner, place, layouts)?;
+    let alignment = alignment_over(inner, position, layouts)?;
     prove!(alignment.get() <= 0x8000_0000);
     Ok(TypeLayout { size, alignment })
 }
 
 impl Layouter {
-    /// A layouter with no layouts, which takes no memory.
+    /// Returns a layouter with no layouts. Allocates nothing.
     pub fn new(alloc: Global) -> Layouter
         ensures { result ≡ [] }
     {
@@ -220,51 +255,50 @@ impl Layouter {
         }
     }
 
-    /// How many types are laid out.
+    /// Returns the number of types laid out.
     pub fn len(&self) -> usize
         ensures { result ≡ length self.now }
     {
         self.layouts.len()
     }
 
-    /// Lays out the types past the layouts that are held, each once and in order.
+    /// Lays out the types after those already laid out, each once and in order.
     ///
-    /// Type handles may point anywhere: an element type or a member type that isn't earlier is an error. The handles of
-    /// overrides that size arrays, and what those lead to, are to be in range: `sizes_in_range` tells it, and so does a
-    /// module's check of all its handles.
+    /// Type handles may point anywhere: an element type or a member type that isn't earlier is an error. The overrides that size arrays,
+    /// and the handles reached from them, must be in range: `sizes_in_range` checks this, and so does a module's check of all its handles.
     ///
     /// # Errors
     ///
-    /// `Layout` names the first type past the layouts held that has a fault, and its fault: first a size above the limit,
-    /// then a width that is no power of two, or the first part that isn't earlier. The same call again refuses alike.
-    /// `OutOfMemory` where a growth was refused for the layout of a type that has no fault. After either, the layouts made so far stay,
-    /// those of this call too, so that the next call goes on behind them.
+    /// `Layout` names the first type not yet laid out that has no layout, and the reason: a size above the limit comes first, then a width
+    /// that isn't a power of two, or the first component that isn't earlier. The same call again returns the same error. `OutOfMemory` if
+    /// allocation fails for the layout of a type that has one. After either error the layouts computed so far are kept, including those of
+    /// this call, so that the next call continues after them.
     pub fn update(&mut self, ctx: GlobalCtx<'_>) -> Result<(), UpdateError>
         requires sizes { AreTypeSizesInRange ctx }
 
-        // Whatever the layouts that are held:
-        ensures kept { take (length self.old) self.new ≡ self.old }
+        // Holds whatever the stored layouts are:
+        ensures retained { take (length self.old) self.new ≡ self.old }
         ensures added { AreLaidOver ctx.entry (length self.old) self.new }
         ensures faultless { AreFaultless ctx.entry (length self.old) (length self.new) }
         ensures whole { IfOk result (λ _. length ctx.entry.types.now ≤ length self.new) }
         ensures refused { IfErr result (IsRefusalAt ctx.entry (length self.new)) }
 
-        // Where they are those of the first types:
+        // Holds if the stored layouts are those of the first types:
         ensures laid_out { AreFirstLayouts ctx.entry self.old → AreFirstLayouts ctx.entry self.new }
         ensures all { IfOk result (λ _. AreFirstLayouts ctx.entry self.old → self.new ≡ layouts_of ctx.entry) }
     {
         self.update_added(ctx)
     }
 
-    /// The same, where no more is known than what `sizes_in_range_from` tells of the types that are to be laid out: for a
-    /// caller that goes on after each type that it adds.
+    /// Lays out the types as `update` does, but requires only `sizes_in_range_from` of the types still to be laid out, for callers that
+    /// continue after each type that they add.
     ///
     /// # Errors
     ///
-    /// Those of `update`.
+    /// The errors of `update`.
     pub fn update_added(&mut self, ctx: GlobalCtx<'_>) -> Result<(), UpdateError>
         requires sizes { AreTypeSizesInRangeFrom ctx (length self.old) }
-        ensures kept { take (length self.old) self.new ≡ self.old }
+        ensures retained { take (length self.old) self.new ≡ self.old }
         ensures added { AreLaidOver ctx.entry (length self.old) self.new }
         ensures faultless { AreFaultless ctx.entry (length self.old) (length self.new) }
         ensures whole { IfOk result (λ _. length ctx.entry.types.now ≤ length self.new) }
@@ -272,8 +306,8 @@ impl Layouter {
         ensures laid_out { AreFirstLayouts ctx.entry self.old → AreFirstLayouts ctx.entry self.new }
         ensures all { IfOk result (λ _. AreFirstLayouts ctx.entry self.old → self.new ≡ layouts_of ctx.entry) }
     {
-        for place in self.layouts.len()..ctx.types.len() {
-            let handle = Handle::from_index(place as u32);
+        for position in self.layouts.len()..ctx.types.len() {
+            let handle = Handle::from_index(position as u32);
             match layout_over(&ctx.types[handle].inner, handle, &self.layouts, ctx) {
                 Ok(layout) => self.layouts.insert(handle, layout)?,
                 Err(inner) => return Err(UpdateError::Layout(LayoutError { ty: handle, inner })),
@@ -282,7 +316,7 @@ impl Layouter {
         Ok(())
     }
 
-    /// Removes all layouts. Their memory is kept.
+    /// Removes all layouts and keeps their memory for reuse.
     pub fn clear(&mut self)
         ensures { self.new ≡ [] }
     {

@@ -1,7 +1,7 @@
-//! The expressions that an expression or a statement uses, and how.
+//! The operands of expressions and statements, and how each is used.
 ghost use Rattle.std.specs.Prelude.{◌≡◌, ◌≤◌, [], ◌∷◌, length};
 ghost use Rattle.std.specs.Iterator.{YieldsFirst, item_count};
-ghost use Rattle.shader_ir.specs.Slots.{kept, read, read_optional, reads};
+ghost use Rattle.shader_ir.specs.Slots.{retained, read, read_optional, reads};
 ghost use Rattle.shader_ir.specs.Body.{RayPipeline};
 ghost use Rattle.shader_ir.specs.Operands.{exchange_compare, expression_operands, gather_index, gradient_y, level_handle, query_level};
 ghost use Rattle.shader_ir.specs.Operands.{ray_query_operands, simple_operands, statement_operands, IsArithmetic, TakesTexels, WritesTexel};
@@ -14,30 +14,30 @@ use crate::{
 use shader_arena::Handle;
 use std::marker::Model;
 
-/// How an operand is used.
+/// The use of an operand.
 #[derive(Clone, Copy, Debug, PartialEq)]
 pub enum Label {
-    /// A part of it is named, and nothing is read or written yet.
+    /// A component of it is named; nothing is read or written yet.
     Part,
     /// The value is read.
     Read,
-    /// What the operand points to is written.
+    /// The memory that the operand points to is written.
     Write,
-    /// Read and written, in one occurrence.
+    /// The memory is read and written in one occurrence.
     ReadWrite,
-    /// Asked for its size or the like; what it holds isn't read.
+    /// The size or another property is queried; the contents aren't read.
     Query,
     /// The image of an atomic operation.
     Atomic,
 }
 
-/// An operand and its label, where there is one.
+/// An operand and its label, if any.
 type Slot = Option<(Handle<mark::Expression>, Label)>;
 
-/// How many operands stand beside a list of them at most.
+/// The most operands a variant has besides a list.
 const SLOTS: usize = 8;
 
-/// At most eight operands that are left, in order.
+/// An iterator over the remaining operands of at most eight, in order.
 #[derive(Drop)]
 struct Slots {
     slots: [Slot; SLOTS],
@@ -48,11 +48,11 @@ impl Model for Slots {
     ghost use Rattle.std.specs.Prelude.{◌≡◌, ℕ, List, drop, length};
     ghost use Rattle.shader_ir.specs.declared.proc.operands.Label.{Label};
     ghost use Rattle.shader_ir.specs.declared.proc.operands.TheConstants.{SLOTS};
-    ghost use Rattle.shader_ir.specs.Slots.{kept};
+    ghost use Rattle.shader_ir.specs.Slots.{retained};
 
     ghost Value = { List (ℕ × Label) };
 
-    ghost view = { λ operands. kept (drop operands.next operands.slots) };
+    ghost view = { λ operands. retained (drop operands.next operands.slots) };
 
     ghost invariant = { λ operands. length operands.slots ≡ SLOTS };
 }
@@ -76,18 +76,18 @@ impl Iterator for Slots {
     }
 }
 
-/// The operands that are left, in order.
+/// An iterator over the remaining operands, in order.
 #[derive(Drop)]
 pub struct Operands<'a> {
     slots: Slots,
-    // Operands that are read, after those of the slots.
+    // The operands that follow the slots. All are read.
     list: &'a [Handle<mark::Expression>],
 }
 
-/// The operands of an expression that are left, in order.
+/// An iterator over the remaining operands of an expression, in order.
 pub type ExpressionOperands<'a> = Operands<'a>;
 
-/// The operands of a statement that are left, in order.
+/// An iterator over the remaining operands of a statement, in order.
 pub type StatementOperands<'a> = Operands<'a>;
 
 impl<'a> Model for Operands<'a> {
@@ -101,10 +101,10 @@ impl<'a> Model for Operands<'a> {
 }
 
 impl<'a> Operands<'a> {
-    /// At most eight operands, without those that are absent.
+    /// Returns at most eight operands, without the absent ones.
     fn few(slots: &[Slot]) -> Operands<'a>
         requires { length slots.now ≤ SLOTS }
-        ensures { result ≡ kept slots.now }
+        ensures { result ≡ retained slots.now }
     {
         Operands {
             slots: Slots {
@@ -115,7 +115,7 @@ impl<'a> Operands<'a> {
         }
     }
 
-    /// Operands that are read.
+    /// Returns operands that are all read.
     fn many(list: &'a [Handle<mark::Expression>]) -> Operands<'a>
         ensures { result ≡ reads list.now }
     {
@@ -146,26 +146,26 @@ impl<'a> Iterator for Operands<'a> {
     }
 }
 
-/// The slots, with empty ones behind.
+/// Returns the slots, padded with empty ones.
 fn padded(slots: &[Slot]) -> [Slot; SLOTS]
     requires { length slots.now ≤ SLOTS }
-    ensures { kept result ≡ kept slots.now }
+    ensures { retained result ≡ retained slots.now }
 {
     let mut all = [None; SLOTS];
-    for (place, slot) in slots.iter().enumerate() {
-        all[place] = *slot;
+    for (position, slot) in slots.iter().enumerate() {
+        all[position] = *slot;
     }
     all
 }
 
-/// An operand that is read.
+/// Returns an operand that is read.
 fn read(expression: Handle<mark::Expression>) -> Slot
     ensures { result ≡ read expression }
 {
     Some((expression, Label::Read))
 }
 
-/// An operand that is read, where there is one.
+/// Returns an operand that is read, if any.
 fn read_optional(expression: Option<Handle<mark::Expression>>) -> Slot
     ensures { result ≡ read_optional expression }
 {
@@ -176,7 +176,7 @@ fn read_optional(expression: Option<Handle<mark::Expression>>) -> Slot
 }
 
 impl SampleLevel {
-    /// The one handle of a level, or the first of a gradient.
+    /// Returns the one handle of a level, or the first of a gradient.
     fn handle(self) -> Option<Handle<mark::Expression>>
         ensures { result ≡ level_handle self }
     {
@@ -187,7 +187,7 @@ impl SampleLevel {
         }
     }
 
-    /// The second handle of a gradient.
+    /// Returns the second handle of a gradient.
     fn gradient_y(self) -> Option<Handle<mark::Expression>>
         ensures { result ≡ gradient_y self }
     {
@@ -199,7 +199,7 @@ impl SampleLevel {
 }
 
 impl ImageQuery {
-    /// The level whose size is asked.
+    /// Returns the level whose size is queried.
     fn level(self) -> Option<Handle<mark::Expression>>
         ensures { result ≡ query_level self }
     {
@@ -211,7 +211,7 @@ impl ImageQuery {
 }
 
 impl AtomicFunction {
-    /// What an exchange compares with.
+    /// Returns the value that an exchange compares with.
     fn compare(self) -> Option<Handle<mark::Expression>>
         ensures { result ≡ exchange_compare self }
     {
@@ -223,7 +223,7 @@ impl AtomicFunction {
 }
 
 impl GatherMode {
-    /// The handle of the mode, where it has one.
+    /// Returns the handle of the mode, if it has one.
     fn index(self) -> Option<Handle<mark::Expression>>
         ensures { result ≡ gather_index self }
     {
@@ -239,7 +239,7 @@ impl GatherMode {
     }
 }
 
-/// The operands of an expression, in order.
+/// Returns the operands of an expression, in order.
 pub fn expression_operands(expression: &Expression) -> ExpressionOperands<'_>
     ensures { result ≡ expression_operands expression.now }
 {
@@ -277,7 +277,7 @@ pub fn expression_operands(expression: &Expression) -> ExpressionOperands<'_>
     }
 }
 
-/// The operands of an expression that takes texels of an image.
+/// Returns the operands of an expression that reads texels of an image.
 fn image_operands(expression: &Expression) -> ExpressionOperands<'_>
     requires { TakesTexels expression.now }
     ensures { result ≡ expression_operands expression.now }
@@ -319,7 +319,7 @@ fn image_operands(expression: &Expression) -> ExpressionOperands<'_>
     }
 }
 
-/// The operands of an expression that computes one value from several.
+/// Returns the operands of an expression that computes one value from several.
 fn arithmetic_operands(expression: &Expression) -> ExpressionOperands<'_>
     requires { IsArithmetic expression.now }
     ensures { result ≡ expression_operands expression.now }
@@ -347,7 +347,7 @@ fn arithmetic_operands(expression: &Expression) -> ExpressionOperands<'_>
     }
 }
 
-/// The operands of a statement, in order, without those of the blocks inside.
+/// Returns the operands of a statement, in order, without those of the blocks inside.
 pub fn statement_operands(statement: &Statement) -> StatementOperands<'_>
     ensures { result ≡ statement_operands (step_of statement.now) }
 {
@@ -386,7 +386,7 @@ pub fn statement_operands(statement: &Statement) -> StatementOperands<'_>
     }
 }
 
-/// The operands of a statement that writes a texel.
+/// Returns the operands of a statement that writes a texel.
 fn texel_operands(statement: &Statement) -> StatementOperands<'_>
     requires { WritesTexel (step_of statement.now) }
     ensures { result ≡ statement_operands (step_of statement.now) }
@@ -420,13 +420,13 @@ fn texel_operands(statement: &Statement) -> StatementOperands<'_>
     }
 }
 
-/// The operands of an atomic statement.
+/// Returns the operands of an atomic statement.
 fn atomic_operands<'a>(
     pointer: Handle<mark::Expression>,
     fun: AtomicFunction,
     value: Handle<mark::Expression>,
 ) -> StatementOperands<'a>
-    ensures { result ≡ kept (Some (pointer, Label.ReadWrite) ∷ read value ∷ read_optional (exchange_compare fun) ∷ []) }
+    ensures { result ≡ retained (Some (pointer, Label.ReadWrite) ∷ read value ∷ read_optional (exchange_compare fun) ∷ []) }
 {
     Operands::few(&[
         Some((pointer, Label::ReadWrite)),
@@ -435,7 +435,7 @@ fn atomic_operands<'a>(
     ])
 }
 
-/// The operands of a statement of a ray pipeline.
+/// Returns the operands of a statement of a ray pipeline.
 fn ray_pipeline_operands<'a>(fun: RayPipelineFunction) -> StatementOperands<'a>
     ensures { result ≡ simple_operands (RayPipeline fun) }
 {
@@ -452,12 +452,12 @@ fn ray_pipeline_operands<'a>(fun: RayPipelineFunction) -> StatementOperands<'a>
     }
 }
 
-/// The operands of a statement about a query of rays.
+/// Returns the operands of a statement on a ray query.
 fn ray_query_operands<'a>(
     query: Handle<mark::Expression>,
     fun: RayQueryFunction,
 ) -> StatementOperands<'a>
-    ensures { result ≡ kept (read query ∷ ray_query_operands fun) }
+    ensures { result ≡ retained (read query ∷ ray_query_operands fun) }
 {
     match fun {
         RayQueryFunction::Initialize {

@@ -1,4 +1,4 @@
-//! Queries on scalars and on the sizes of vectors, and the lists of them.
+//! Queries on scalars and on vector sizes, and the lists of them.
 ghost use Rattle.std.specs.Prelude.{◌≡◌, ⊤};
 ghost use Rattle.std.specs.Iterator.{YieldsFirst, item_count};
 ghost use Rattle.shader_ir.specs.Scalars.{all_vector_sizes, concrete_ints, is_abstract_scalar, is_numeric, scalar, size_text};
@@ -8,7 +8,7 @@ use std::alloc::AllocError;
 use std::marker::Model;
 
 impl ScalarKind {
-    /// Whether arithmetic is done on scalars of this kind: on all but booleans.
+    /// Returns whether arithmetic is defined on scalars of this kind, as it is on all but booleans.
     pub const fn is_numeric(self) -> bool
         ensures { result ≡ is_numeric self }
     {
@@ -24,7 +24,7 @@ impl ScalarKind {
 }
 
 impl Scalar {
-    /// Whether this is a scalar of WGSL's abstract numeric types.
+    /// Returns whether this is a scalar of WGSL's abstract numeric types.
     pub const fn is_abstract(self) -> bool
         ensures { result ≡ is_abstract_scalar self }
     {
@@ -34,7 +34,7 @@ impl Scalar {
         }
     }
 
-    /// The floating-point scalar of a width in bytes.
+    /// Returns the floating-point scalar of a width in bytes.
     pub const fn float(width: u8) -> Scalar
         ensures { result ≡ scalar ScalarKind.Float width }
     {
@@ -44,21 +44,21 @@ impl Scalar {
         }
     }
 
-    /// The type of this scalar.
+    /// Returns the type of this scalar.
     pub const fn to_inner_scalar(self) -> TypeInner
         ensures { result ≡ TypeInner.Scalar self }
     {
         TypeInner::Scalar(self)
     }
 
-    /// The type of a vector of this scalar.
+    /// Returns the type of a vector of this scalar.
     pub const fn to_inner_vector(self, size: VectorSize) -> TypeInner
         ensures { result ≡ TypeInner.Vector size self }
     {
         TypeInner::Vector { size, scalar: self }
     }
 
-    /// The type of an atomic of this scalar.
+    /// Returns the type of an atomic of this scalar.
     pub const fn to_inner_atomic(self) -> TypeInner
         ensures { result ≡ TypeInner.Atomic self }
     {
@@ -66,7 +66,7 @@ impl Scalar {
     }
 }
 
-/// A vector's size as WGSL writes it behind `vec`.
+/// Returns the size of a vector as WGSL writes it after `vec`.
 pub const fn vector_size_str(size: VectorSize) -> &'static str
     ensures { result.now ≡ size_text size }
 {
@@ -88,7 +88,8 @@ static CONCRETE_INT_SCALARS: [Scalar; 6] = [
 
 static VECTOR_SIZES: [VectorSize; 3] = [VectorSize::Bi, VectorSize::Tri, VectorSize::Quad];
 
-/// The integer scalars that aren't abstract. `I32` and `U32` come first, as overloads prefer them.
+/// Returns the integer scalars that aren't abstract. `I32` and `U32` come first, as overloads
+/// prefer them.
 pub fn concrete_int_scalars() -> ConcreteIntScalars
     ensures { result ≡ concrete_ints }
 {
@@ -97,7 +98,7 @@ pub fn concrete_int_scalars() -> ConcreteIntScalars
     }
 }
 
-/// All sizes of vectors, the smallest first.
+/// Returns all vector sizes, ascending.
 pub fn vector_sizes() -> VectorSizes
     ensures { result ≡ all_vector_sizes }
 {
@@ -106,7 +107,7 @@ pub fn vector_sizes() -> VectorSizes
     }
 }
 
-/// The scalars that [`concrete_int_scalars`] has left to give.
+/// An iterator over the remaining scalars of [`concrete_int_scalars`].
 #[derive(Drop)]
 pub struct ConcreteIntScalars {
     left: &'static [Scalar],
@@ -135,7 +136,7 @@ impl Iterator for ConcreteIntScalars {
     }
 }
 
-/// The sizes that [`vector_sizes`] has left to give.
+/// An iterator over the remaining sizes of [`vector_sizes`].
 #[derive(Drop)]
 pub struct VectorSizes {
     left: &'static [VectorSize],

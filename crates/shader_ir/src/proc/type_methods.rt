@@ -1,4 +1,4 @@
-//! Queries that read a type itself, and at most the type that it names.
+//! Queries that read a type itself and at most the type that it names.
 ghost use Rattle.std.specs.Prelude.{◌≡◌, length};
 ghost use Rattle.shader_ir.specs.Queries.{HasMember, component_count, component_type, is_atomic_pointer, kind_of};
 ghost use Rattle.shader_ir.specs.Queries.{pointer_base, pointer_space, scalar_of, vector_size_and_scalar, width_of};
@@ -11,7 +11,7 @@ use crate::{
 use shader_arena::UniqueArena;
 
 impl TypeInner {
-    /// The scalar of a scalar, a vector or a matrix.
+    /// Returns the scalar of a scalar, a vector or a matrix.
     pub fn scalar(&self) -> Option<Scalar>
         ensures { result ≡ scalar_of self.now }
     {
@@ -24,21 +24,21 @@ impl TypeInner {
         }
     }
 
-    /// The kind of the type's scalar.
+    /// Returns the kind of the type's scalar.
     pub fn scalar_kind(&self) -> Option<ScalarKind>
         ensures { result ≡ kind_of self.now }
     {
         self.scalar().map(|scalar| scalar.kind)
     }
 
-    /// The width of the type's scalar, in bytes.
+    /// Returns the width of the type's scalar, in bytes.
     pub fn scalar_width(&self) -> Option<u8>
         ensures { result ≡ width_of self.now }
     {
         self.scalar().map(|scalar| scalar.width)
     }
 
-    /// The scalar of a scalar or a vector, and the vector's size.
+    /// Returns the scalar of a scalar or a vector, and the vector's size.
     pub fn vector_size_and_scalar(&self) -> Option<(Option<VectorSize>, Scalar)>
         ensures { result ≡ vector_size_and_scalar self.now }
     {
@@ -49,7 +49,7 @@ impl TypeInner {
         }
     }
 
-    /// The space that a pointer points into.
+    /// Returns the address space of a pointer.
     pub fn pointer_space(&self) -> Option<AddressSpace>
         ensures { result ≡ pointer_space self.now }
     {
@@ -60,7 +60,7 @@ impl TypeInner {
         }
     }
 
-    /// The type that a pointer points to.
+    /// Returns the type that a pointer points to.
     pub fn pointer_base_type(&self) -> Option<TypeResolution>
         ensures { result ≡ pointer_base self.now }
     {
@@ -77,7 +77,7 @@ impl TypeInner {
         }
     }
 
-    /// Whether this is a pointer to an atomic of the arena.
+    /// Returns whether this is a pointer to an atomic of the arena.
     pub fn is_atomic_pointer(&self, types: &UniqueArena<Type, mark::Type>) -> bool
         requires { PointsBelow (length types.now) self.now }
         ensures { result ≡ is_atomic_pointer types.now self.now }
@@ -88,9 +88,8 @@ impl TypeInner {
         }
     }
 
-    /// How many parts an index may name, where the type fixes that: the components of a vector, the
-    /// columns of a matrix, the elements of an array and the members of a struct, of which no more
-    /// are told than `u32` holds.
+    /// Returns the number of components that an index may select, if the type fixes it: the components of a vector, the columns of a
+    /// matrix, the elements of an array or the members of a struct, at most `u32::MAX`.
     pub fn components(&self) -> Option<u32>
         ensures { result ≡ component_count self.now }
     {
@@ -106,8 +105,8 @@ impl TypeInner {
         }
     }
 
-    /// The type of the part at an index, where [`components`](TypeInner::components) tells a number.
-    /// Of a struct the index has to be that of a member; of any other type it isn't read.
+    /// Returns the type of the component at an index, if [`components`](TypeInner::components) returns a number. For a struct the index
+    /// must be that of a member; for any other type it isn't read.
     pub fn component_type(&self, index: usize) -> Option<TypeResolution>
         requires { HasMember self.now index }
         ensures { result ≡ component_type self.now index }
@@ -132,7 +131,7 @@ impl TypeInner {
 }
 
 impl VectorSize {
-    /// How many components a vector of this size has.
+    /// Returns the number of components of a vector of this size.
     pub fn components(self) -> u32
         ensures { result ≡ vector_count self }
     {

@@ -1,4 +1,4 @@
-//! Queries that go from a type to those that it leads to.
+//! Queries that follow a type to the types that it contains.
 ghost use Rattle.std.specs.Prelude.{◌≡◌, length};
 ghost use Rattle.shader_ir.specs.Conversion.{leaf_of};
 ghost use Rattle.shader_ir.specs.TreeQueries.{is_abstract, is_constructible, is_dynamically_sized};
@@ -9,8 +9,7 @@ use crate::{ArraySize, Scalar, Type, TypeInner, mark};
 use shader_arena::UniqueArena;
 
 impl TypeInner {
-    /// The scalar that automatic conversions change: that of a scalar, a vector or a matrix, and of
-    /// an array that of its elements.
+    /// Returns the scalar that automatic conversions change: that of a scalar, a vector or a matrix, or of the elements of an array.
     pub fn scalar_for_conversions(&self, types: &UniqueArena<Type, mark::Type>) -> Option<Scalar>
         requires backward { IsBackward types.now }
         requires self_in { PointsBelow (length types.now) self.now }
@@ -25,7 +24,7 @@ impl TypeInner {
         }
     }
 
-    /// Whether this is a type of WGSL's abstract numeric types.
+    /// Returns whether this type is built from WGSL's abstract numeric types.
     pub fn is_abstract(&self, types: &UniqueArena<Type, mark::Type>) -> bool
         requires backward { IsBackward types.now }
         requires self_in { PointsBelow (length types.now) self.now }
@@ -41,7 +40,7 @@ impl TypeInner {
         }
     }
 
-    /// Whether the size is known only to a pipeline or where the shader runs.
+    /// Returns whether the size is known only when the pipeline is created or at run time.
     pub fn is_dynamically_sized(&self, types: &UniqueArena<Type, mark::Type>) -> bool
         requires backward { IsBackward types.now }
         requires self_in { PointsBelow (length types.now) self.now }
@@ -60,8 +59,7 @@ impl TypeInner {
         }
     }
 
-    /// Whether a host has to tell how many bytes a buffer of this type has, for `arrayLength` and for
-    /// checks of bounds.
+    /// Returns whether the host must supply the byte size of a buffer of this type, for `arrayLength` and for bounds checks.
     pub fn needs_host_buffer_byte_size(&self, types: &UniqueArena<Type, mark::Type>) -> bool
         requires backward { IsBackward types.now }
         requires self_in { PointsBelow (length types.now) self.now }
@@ -80,7 +78,7 @@ impl TypeInner {
         }
     }
 
-    /// Whether this is an array whose count is known only where the shader runs.
+    /// Returns whether this is an array whose length is known only at run time.
     fn is_runtime_array(&self) -> bool
         ensures { result ≡ is_runtime_array self.now }
     {
@@ -93,8 +91,8 @@ impl TypeInner {
         }
     }
 
-    /// Whether a program may make values of this type: it and all that it holds have a fixed size,
-    /// and are no atomics, pointers or resources.
+    /// Returns whether a program may construct values of this type: the type and all that it contains have a fixed size and are no atomics,
+    /// pointers or resources.
     pub fn is_constructible(&self, types: &UniqueArena<Type, mark::Type>) -> bool
         requires backward { IsBackward types.now }
         requires self_in { PointsBelow (length types.now) self.now }

@@ -1,4 +1,4 @@
-//! Rows of alignments.
+//! Tests of alignments.
 use shader_ir::{Alignment, CooperativeSize, VectorSize};
 
 #[test]

@@ -1,5 +1,5 @@
-//! Names, lists, maps, counts and sets of bits.
-use crate::tests::WANT;
+//! Tests of names, lists, maps, counts and flags.
+use crate::tests::OUT_OF_MEMORY;
 use bitflags::Flags;
 use shader_arena::Handle;
 use shader_ir::{
@@ -9,7 +9,7 @@ use std::process::Abort;
 
 #[test]
 fn a_name_gives_back_its_text(rt: HostRuntime) {
-    let text = "Pair".to_string(rt.alloc()).expect(&rt, WANT);
+    let text = "Pair".to_string(rt.alloc()).expect(&rt, OUT_OF_MEMORY);
     let name = Name::from(text);
     assert!(rt; name.as_str() == "Pair");
     assert!(rt; name.into_string().as_str() == "Pair");
@@ -17,7 +17,7 @@ fn a_name_gives_back_its_text(rt: HostRuntime) {
 
 #[test]
 fn items_give_back_what_they_were_made_of(rt: HostRuntime) {
-    let items = [1u8, 2].to_vec(rt.alloc()).expect(&rt, WANT);
+    let items = [1u8, 2].to_vec(rt.alloc()).expect(&rt, OUT_OF_MEMORY);
     let items = Items::from(items);
     assert!(rt; items.len() == 2 && !items.is_empty());
     assert!(rt; items.as_slice() == [1, 2].as_slice());
@@ -26,13 +26,14 @@ fn items_give_back_what_they_were_made_of(rt: HostRuntime) {
 
 #[test]
 fn items_are_walked_and_indexed(rt: HostRuntime) {
-    let items = [1u8, 2].to_vec(rt.alloc()).expect(&rt, WANT);
+    let items = [1u8, 2].to_vec(rt.alloc()).expect(&rt, OUT_OF_MEMORY);
     let items = Items::from(items);
     assert!(rt; items.len() == 2);
     assert!(rt; items[0] == 1 && items[1] == 2);
     let mut walk = items.iter();
     assert!(rt; walk.next() == Some(&1) && walk.next() == Some(&2));
     assert!(rt; walk.next().is_none());
+    assert!(rt; (&items).into_iter().next() == Some(&1));
     assert!(rt; Items::<u8>::new(rt.alloc()).is_empty());
 }
 
@@ -42,9 +43,9 @@ fn modf(scalar: Scalar) -> PredeclaredType {
 
 type Predeclared = Map<PredeclaredType, Handle<mark::Type>>;
 
-fn set(rt: &impl Abort, map: &mut Predeclared, place: u32) -> Option<Handle<mark::Type>> {
-    let set = map.insert(modf(Scalar::F32), Handle::from_index(place));
-    set.expect(rt, WANT)
+fn set(rt: &impl Abort, map: &mut Predeclared, position: u32) -> Option<Handle<mark::Type>> {
+    let set = map.insert(modf(Scalar::F32), Handle::from_index(position));
+    set.expect(rt, OUT_OF_MEMORY)
 }
 
 #[test]
@@ -58,9 +59,9 @@ fn a_map_keeps_the_last_value_of_a_key(rt: HostRuntime) {
     assert!(rt; map.get(&modf(Scalar::F32)) == Some(&Handle::from_index(5)));
 }
 
-fn is_entry(entry: Option<(&PredeclaredType, &Handle<mark::Type>)>, place: usize) -> bool {
+fn is_entry(entry: Option<(&PredeclaredType, &Handle<mark::Type>)>, position: usize) -> bool {
     match entry {
-        Some((key, value)) => *key == modf(Scalar::F32) && value.index() == place,
+        Some((key, value)) => *key == modf(Scalar::F32) && value.index() == position,
         None => false,
     }
 }

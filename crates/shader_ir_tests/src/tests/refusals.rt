@@ -1,10 +1,9 @@
-//! Each growth refused once: what was given comes back, nothing else changes, and the call made again
-//! goes on as with memory.
+//! Tests of allocation failure: if a growth fails, the value passed comes back, nothing else changes, and the same call succeeds when it is
+//! repeated.
 //!
-//! With ample memory nothing is refused. Where the allocator refuses the Nth request of a test's
-//! process, the test passes still, and prints a line with `was refused`. The first N at which no
-//! test prints one is past all requests.
-use crate::tests::WANT;
+//! With enough memory nothing fails. Under fault injection, where the allocator refuses the Nth request of a test's process, the test still
+//! passes and prints a line with `was refused`. The first N at which no test prints one is beyond all requests.
+use crate::tests::OUT_OF_MEMORY;
 use shader_arena::{Arena, Handle, UniqueArena};
 use shader_ir::{
     ArraySize, Count, GlobalCtx, Items, Layouter, Map, Name, Scalar, StructMember, Type, TypeInner,
@@ -16,7 +15,7 @@ use std::process::Abort;
 
 type Types = UniqueArena<Type, mark::Type>;
 
-fn tell<R: Abort + Print>(rt: &R, what: &str) {
+fn print<R: Abort + Print>(rt: &R, what: &str) {
     println!(rt; "{what} was refused").expect(rt, "standard output");
 }
 
@@ -30,9 +29,9 @@ fn insert_again_if_refused<R: Abort + Print>(
     match types.insert(ty) {
         Ok(handle) => handle,
         Err(AllocFailed { value }) => {
-            tell(rt, "insert of a type");
+            print(rt, "insert of a type");
             assert!(rt; types.len() == len);
-            types.insert(value).expect(rt, WANT)
+            types.insert(value).expect(rt, OUT_OF_MEMORY)
         }
     }
 }
@@ -43,13 +42,13 @@ fn add<R: Abort + Print>(rt: &R, types: &mut Types, inner: TypeInner) {
     assert!(rt; handle.index() == len && types.contains_handle(handle));
 }
 
-/// How many types the first call lays out: the second one makes three layouts more before their room is full.
+/// The number of types that the first call lays out; the second one adds three more layouts before their buffer is full.
 const BEFORE: u32 = 5;
 
-/// How many types there are in the end.
-const PLACES: u32 = 12;
+/// The number of types at the end.
+const POSITIONS: u32 = 12;
 
-/// An array of one item of the first type.
+/// Returns an array of one item of the first type.
 fn strided(rt: &impl Abort, stride: u32) -> TypeInner {
     TypeInner::Array {
         base: Handle::from_index(0),
@@ -58,43 +57,43 @@ fn strided(rt: &impl Abort, stride: u32) -> TypeInner {
     }
 }
 
-/// Adds arrays of one item whose stride is their place, behind a scalar.
+/// Adds arrays of one item whose stride is their position, after a scalar.
 fn add_strided<R: Abort + Print>(rt: &R, types: &mut Types, first: u32, past: u32) {
     for stride in first..past {
         add(rt, types, strided(rt, stride));
     }
 }
 
-/// The layouts held are those of a scalar and of arrays of one item, whose stride is their place.
-fn check_held(rt: &impl Abort, layouter: &Layouter) {
-    for place in 0..PLACES {
-        if (place as usize) < layouter.len() {
-            let size = if place == 0 { 4 } else { place };
-            assert!(rt; layouter[Handle::from_index(place)].size == size);
+/// Asserts that the layouts stored are those of a scalar and of arrays of one item whose stride is their position.
+fn check_stored(rt: &impl Abort, layouter: &Layouter) {
+    for position in 0..POSITIONS {
+        if (position as usize) < layouter.len() {
+            let size = if position == 0 { 4 } else { position };
+            assert!(rt; layouter[Handle::from_index(position)].size == size);
         }
     }
 }
 
-/// Whether the layouts fill their room. Only there is a call refused, and it keeps those that it has made before.
+/// Returns whether the layouts fill their buffer. Only then does a call fail, and it keeps the layouts computed before.
 fn fill_their_room(layouter: &Layouter) -> bool {
     matches!(layouter.len(), 0 | 4 | 8)
 }
 
 fn update_again_if_refused<R: Abort + Print>(rt: &R, layouter: &mut Layouter, ctx: GlobalCtx<'_>) {
     assert!(rt; sizes_in_range(ctx));
-    let held = layouter.len();
+    let stored = layouter.len();
     if layouter.update(ctx) == Err(UpdateError::OutOfMemory) {
-        tell(rt, "update");
-        assert!(rt; held <= layouter.len() && layouter.len() < ctx.types.len());
+        print(rt, "update");
+        assert!(rt; stored <= layouter.len() && layouter.len() < ctx.types.len());
         assert!(rt; fill_their_room(layouter));
-        check_held(rt, layouter);
+        check_stored(rt, layouter);
         assert!(rt; layouter.update(ctx) == Ok(()));
     }
     assert!(rt; layouter.len() == ctx.types.len());
-    check_held(rt, layouter);
+    check_stored(rt, layouter);
 }
 
-/// Updates where there is nothing but types.
+/// Updates the layouts in a module that has only types.
 fn update<R: Abort + Print>(rt: &R, alloc: Global, layouter: &mut Layouter, types: &Types) {
     let constants = Arena::new(alloc);
     let overrides = Arena::new(alloc);
@@ -115,17 +114,17 @@ fn of_update(rt: HostRuntime) {
     add_strided(&rt, &mut types, 1, BEFORE);
     let mut layouter = Layouter::new(rt.alloc());
     update(&rt, rt.alloc(), &mut layouter, &types);
-    add_strided(&rt, &mut types, BEFORE, PLACES);
+    add_strided(&rt, &mut types, BEFORE, POSITIONS);
     update(&rt, rt.alloc(), &mut layouter, &types);
-    assert!(rt; layouter.len() == PLACES as usize);
+    assert!(rt; layouter.len() == POSITIONS as usize);
 }
 
 fn set_again_if_refused<R: Abort + Print>(rt: &R, map: &mut Map<u32, u32>, number: u32) {
     let len = map.len();
     if let Err(AllocFailed { value }) = map.insert(number, number / 2) {
-        tell(rt, "insert in a map");
+        print(rt, "insert in a map");
         assert!(rt; value == (number, number / 2) && map.len() == len);
-        let old = map.insert(number, number / 2).expect(rt, WANT);
+        let old = map.insert(number, number / 2).expect(rt, OUT_OF_MEMORY);
         assert!(rt; old.is_none());
     }
 }
@@ -146,8 +145,8 @@ fn name<R: Abort + Print>(rt: &R, alloc: Global, text: &str) -> Name {
     let text = match text.to_string(alloc) {
         Ok(text) => text,
         Err(AllocError) => {
-            tell(rt, "a text");
-            text.to_string(alloc).expect(rt, WANT)
+            print(rt, "a text");
+            text.to_string(alloc).expect(rt, OUT_OF_MEMORY)
         }
     };
     Name::from(text)
@@ -162,17 +161,17 @@ fn named_member<R: Abort + Print>(rt: &R, alloc: Global) -> StructMember {
     }
 }
 
-/// A list of one member.
+/// Returns a list of one member.
 fn named_members<R: Abort + Print>(rt: &R, alloc: Global) -> Items<StructMember> {
     let mut members = Vec::new(alloc);
     if let Err(AllocFailed { value }) = members.push(named_member(rt, alloc)) {
-        tell(rt, "a list of members");
-        members.push(value).expect(rt, WANT);
+        print(rt, "a list of members");
+        members.push(value).expect(rt, OUT_OF_MEMORY);
     }
     Items::from(members)
 }
 
-/// A struct of one member.
+/// Returns a struct of one member.
 fn named_struct<R: Abort + Print>(rt: &R, alloc: Global) -> Type {
     Type {
         name: Some(name(rt, alloc, "S")),
@@ -189,8 +188,8 @@ fn of_a_copy_of_a_type(rt: HostRuntime) {
     let copy = match ty.copy(rt.alloc()) {
         Ok(copy) => copy,
         Err(AllocError) => {
-            tell(&rt, "a copy of a type");
-            ty.copy(rt.alloc()).expect(&rt, WANT)
+            print(&rt, "a copy of a type");
+            ty.copy(rt.alloc()).expect(&rt, OUT_OF_MEMORY)
         }
     };
     assert!(rt; copy == ty);
@@ -203,7 +202,7 @@ fn of_insert_of_a_struct(rt: HostRuntime) {
     let first = insert_again_if_refused(&rt, &mut types, ty);
     let ty = named_struct(&rt, rt.alloc());
     assert!(rt; types.len() == 1);
-    // An equal type needs no memory, so this is never refused.
-    let again = types.insert(ty).expect(&rt, WANT);
+    // An equal type allocates nothing, so this never fails.
+    let again = types.insert(ty).expect(&rt, OUT_OF_MEMORY);
     assert!(rt; again == first && types.len() == 1);
 }

@@ -1,8 +1,8 @@
-//! Which values are the same, of types that the arenas of rows don't hold by themselves.
+//! Tests of equality of values that the arenas of rows don't contain on their own.
 use shader_arena::Handle;
 use shader_ir::{ArraySize, PredeclaredType, Same, Scalar, StructMember, VectorSize, mark};
 
-/// A member without a name.
+/// Returns a member without a name.
 fn member(ty: Handle<mark::Type>, offset: u32) -> StructMember {
     StructMember {
         name: None,

@@ -1,5 +1,5 @@
-//! Types that are made of scalars, and the lists of scalars and of sizes.
-use crate::tests::WANT;
+//! Tests of types made of scalars, and of the lists of scalars and of sizes.
+use crate::tests::OUT_OF_MEMORY;
 use shader_ir::{
     Scalar, TypeInner, VectorSize, concrete_int_scalars, vector_size_str, vector_sizes,
 };
@@ -35,7 +35,7 @@ fn concrete_integers_come_by_preference(rt: HostRuntime) {
 fn sizes_of_vectors_come_in_order_and_a_copy_goes_on_by_itself(rt: HostRuntime) {
     let mut sizes = vector_sizes();
     assert!(rt; sizes.next() == Some(VectorSize::Bi));
-    let mut others = sizes.clone().expect(&rt, WANT);
+    let mut others = sizes.clone().expect(&rt, OUT_OF_MEMORY);
     assert!(rt; sizes.next() == Some(VectorSize::Tri));
     assert!(rt; sizes.next() == Some(VectorSize::Quad));
     assert!(rt; sizes.next() == None);

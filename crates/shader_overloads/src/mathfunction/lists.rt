@@ -1,4 +1,4 @@
-//! The builtins whose overload sets are lists.
+//! The overload sets that are lists.
 ghost use Rattle.std.specs.Prelude.{◌≡◌, IfOk, IsTrue};
 ghost use Rattle.shader_overloads.specs.Builtins.{extract_bits_rules, insert_bits_rules, ldexp_rules, mix_rules};
 ghost use Rattle.shader_overloads.specs.Builtins.{outer_rules, refract_rules, rules_of, transpose_rules};
@@ -10,7 +10,7 @@ use crate::{ConstructorSize, list};
 use shader_ir::{MathFunction, Scalar, VectorSize};
 use std::alloc::{AllocError, Global};
 
-/// The list of a builtin that has one.
+/// Returns the list of a built-in function that has one.
 #[inline(never)]
 pub fn listed_set(alloc: Global, function: MathFunction) -> Result<list::List, AllocError>
     requires { IsTrue (is_listed function) }
@@ -82,7 +82,7 @@ static MATRICES: [ConstructorSize; 9] = [
     },
 ];
 
-/// A float with an integer exponent of its shape.
+/// Returns the rules of `ldexp`: a float with an integer exponent of its shape.
 fn ldexp(alloc: Global) -> Result<list::List, AllocError>
     ensures { IfOk result (λ set. set ≡ ldexp_rules) }
 {
@@ -90,7 +90,7 @@ fn ldexp(alloc: Global) -> Result<list::List, AllocError>
     list::List::from_rules(alloc, rules)
 }
 
-/// Two vectors, of the columns' size and of the rows'.
+/// Returns the rules of the outer product: two vectors, of the columns' size and of the rows'.
 fn outer(alloc: Global) -> Result<list::List, AllocError>
     ensures { IfOk result (λ set. set ≡ outer_rules) }
 {
@@ -98,7 +98,7 @@ fn outer(alloc: Global) -> Result<list::List, AllocError>
     list::List::from_rules(alloc, rules)
 }
 
-/// Two vectors and a scalar.
+/// Returns the rules of `refract`: two vectors and a scalar.
 fn refract(alloc: Global) -> Result<list::List, AllocError>
     ensures { IfOk result (λ set. set ≡ refract_rules) }
 {
@@ -106,7 +106,7 @@ fn refract(alloc: Global) -> Result<list::List, AllocError>
     list::List::from_rules(alloc, rules)
 }
 
-/// A matrix.
+/// Returns the rules of `transpose`: a matrix.
 fn transpose(alloc: Global) -> Result<list::List, AllocError>
     ensures { IfOk result (λ set. set ≡ transpose_rules) }
 {
@@ -114,7 +114,7 @@ fn transpose(alloc: Global) -> Result<list::List, AllocError>
     list::List::from_rules(alloc, rules)
 }
 
-/// Integers, an offset and a count.
+/// Returns the rules of `extractBits`: integers, an offset and a count.
 fn extract_bits(alloc: Global) -> Result<list::List, AllocError>
     ensures { IfOk result (λ set. set ≡ extract_bits_rules) }
 {
@@ -122,7 +122,7 @@ fn extract_bits(alloc: Global) -> Result<list::List, AllocError>
     list::List::from_rules(alloc, rules)
 }
 
-/// Integers, more of them, an offset and a count.
+/// Returns the rules of `insertBits`: integers, the same once more, an offset and a count.
 fn insert_bits(alloc: Global) -> Result<list::List, AllocError>
     ensures { IfOk result (λ set. set ≡ insert_bits_rules) }
 {
@@ -130,7 +130,7 @@ fn insert_bits(alloc: Global) -> Result<list::List, AllocError>
     list::List::from_rules(alloc, rules)
 }
 
-/// Two floats of one shape, and a third of it or a scalar.
+/// Returns the rules of `mix`: two floats of one shape, and a third of that shape or a scalar.
 fn mix(alloc: Global) -> Result<list::List, AllocError>
     ensures { IfOk result (λ set. set ≡ mix_rules) }
 {

@@ -1,5 +1,5 @@
-//! Conclusions in a module.
-use crate::tests::{SCALAR, VEC2, WANT, inner};
+//! Tests of conclusions in a module.
+use crate::tests::{OUT_OF_MEMORY, SCALAR, VEC2, inner};
 use shader_arena::Handle;
 use shader_ir::{
     Items, Map, MathFunction, PredeclaredType, Scalar, SpecialTypes, StructMember, TypeInner,
@@ -26,7 +26,8 @@ fn nothing_registered(alloc: Global) -> SpecialTypes {
     }
 }
 
-/// A struct of 16 bytes with one member, of type 3, 8 bytes from the start. It needs memory to be copied: no builtin concludes one.
+/// Returns a struct of 16 bytes with one member, of type 3, 8 bytes from the start. Copying it allocates; no built-in function concludes
+/// one.
 fn structure(rt: &impl Abort, alloc: Global) -> TypeInner {
     let member = StructMember {
         name: None,
@@ -35,12 +36,12 @@ fn structure(rt: &impl Abort, alloc: Global) -> TypeInner {
         offset: 8,
     };
     TypeInner::Struct {
-        members: Items::from(vec![in alloc; member].expect(rt, WANT)),
+        members: Items::from(vec![in alloc; member].expect(rt, OUT_OF_MEMORY)),
         span: 16,
     }
 }
 
-/// Whether the conclusion is the type.
+/// Returns whether the conclusion is the type.
 fn is_value(conclusion: &Conclusion, wanted: &TypeInner) -> bool {
     match conclusion {
         Conclusion::Value(found) => *found == *wanted,
@@ -51,7 +52,7 @@ fn is_value(conclusion: &Conclusion, wanted: &TypeInner) -> bool {
 #[test]
 fn a_copy_of_a_struct_is_equal(rt: HostRuntime) {
     let conclusion = Conclusion::Value(structure(&rt, rt.alloc()));
-    let copy = conclusion.copy(rt.alloc()).expect(&rt, WANT);
+    let copy = conclusion.copy(rt.alloc()).expect(&rt, OUT_OF_MEMORY);
     let wanted = structure(&rt, rt.alloc());
     assert!(rt; is_value(&copy, &wanted) && is_value(&conclusion, &wanted));
     drop(wanted);
@@ -61,7 +62,7 @@ fn a_copy_of_a_struct_is_equal(rt: HostRuntime) {
 
 #[test]
 fn a_copy_of_a_predeclared_type_is_equal(rt: HostRuntime) {
-    let copy = modf().copy(rt.alloc()).expect(&rt, WANT);
+    let copy = modf().copy(rt.alloc()).expect(&rt, OUT_OF_MEMORY);
     assert!(rt; matches!(&copy, Conclusion::Predeclared(found) if *found == MODF));
     drop(copy);
 }
@@ -80,12 +81,12 @@ fn a_predeclared_conclusion_is_registered(rt: HostRuntime) {
         .into_resolution(&special)
         .err()
         .expect(&rt, "a type that is missing");
-    let text = format!(in rt.alloc(); "{error}").expect(&rt, WANT);
+    let text = format!(in rt.alloc(); "{error}").expect(&rt, OUT_OF_MEMORY);
     assert!(rt; text.as_str() == "Special type is not registered within the module");
     let added = special
         .predeclared_types
         .insert(MODF, Handle::from_index(4));
-    added.expect(&rt, WANT);
+    added.expect(&rt, OUT_OF_MEMORY);
     let found = modf().into_resolution(&special).ok();
     assert!(rt; found == Some(TypeResolution::Handle(Handle::from_index(4))));
 }

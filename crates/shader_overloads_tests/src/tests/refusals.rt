@@ -1,11 +1,11 @@
-//! Each growth refused once: the call answers want of memory, and made again it goes on as with memory.
+//! Tests of allocation failure: the call returns out of memory, and succeeds when it is repeated.
 //!
-//! With ample memory nothing is refused. Where the allocator refuses the Nth request of a test's process, the test passes still,
-//! and prints a line with `was refused`.
+//! With enough memory nothing fails. Under fault injection, where the allocator refuses the Nth request of a test's process, the test still
+//! passes and prints a line with `was refused`.
 ghost use Rattle.std.specs.Prelude.{All};
 ghost use Rattle.shader_overloads.specs.Remaining.{CallFits};
 
-use crate::tests::{Made, SCALAR, VEC2, counted, inner, is_rule, list_allowed, list_rules};
+use crate::tests::{Built, SCALAR, VEC2, counted, inner, is_rule, list_allowed, list_rules};
 use shader_arena::UniqueArena;
 use shader_ir::{MathFunction, Scalar, Type, mark, types_backward};
 use shader_overloads::utils::{list, rule};
@@ -14,23 +14,27 @@ use std::alloc::{AllocError, Global};
 use std::io::Print;
 use std::process::Abort;
 
-const WANT: &str = "memory, which is refused once";
+const OUT_OF_MEMORY: &str = "memory, which is refused once";
 
-/// What is asked, asked again where it was refused.
-fn again<R: Abort + Print, T, F: Fn() -> Result<T, AllocError>>(rt: &R, what: &str, ask: &F) -> T
-    requires { F.IsAlwaysCallable ask.now }
+/// Returns the result of a call, repeated if an allocation failed.
+fn again<R: Abort + Print, T, F: Fn() -> Result<T, AllocError>>(
+    rt: &R,
+    what: &str,
+    attempt: &F,
+) -> T
+    requires { F.IsAlwaysCallable attempt.now }
 {
-    match ask() {
+    match attempt() {
         Ok(answer) => answer,
         Err(AllocError) => {
             println!(rt; "{what} was refused").expect(rt, "standard output");
-            ask().expect(rt, WANT)
+            attempt().expect(rt, OUT_OF_MEMORY)
         }
     }
 }
 
-/// Asserts that what a set tells of its first argument and its preferred rule goes on after a refusal.
-fn tells_again<R: Abort + Print>(rt: &R, alloc: Global, set: &AnyOverloadSet, rules: usize) {
+/// Asserts that a set's queries about its first argument and its preferred rule succeed when repeated after a failure.
+fn reports_again<R: Abort + Print>(rt: &R, alloc: Global, set: &AnyOverloadSet, rules: usize) {
     let listed = again(rt, "overload_list", &|| list_rules(alloc, set));
     assert!(rt; counted(listed) == rules);
     let allowed = again(rt, "allowed_args", &|| list_allowed(alloc, set, 0));
@@ -46,13 +50,13 @@ fn prefers_two<R: Abort + Print>(rt: &R, alloc: Global, set: &AnyOverloadSet) {
     drop(rule);
 }
 
-/// The rules of a regular set are made when they are asked for, those of a list stand there.
+/// Tests built-in functions of both kinds: the rules of a regular set are built on demand, those of a list are stored.
 #[test]
-fn refused_builtins_can_be_asked_again(rt: HostRuntime) {
+fn refused_builtins_can_be_queried_again(rt: HostRuntime) {
     let alloc = rt.alloc();
     for (function, rules) in [(MathFunction::Dot4I8Packed, 1), (MathFunction::Cross, 4)] {
         let set = again(&rt, "overloads", &|| function.overloads(alloc));
-        tells_again(&rt, alloc, &set, rules);
+        reports_again(&rt, alloc, &set, rules);
         drop(set);
     }
     let set = again(&rt, "overloads", &|| MathFunction::Refract.overloads(alloc));
@@ -67,7 +71,7 @@ fn copied(alloc: Global, function: MathFunction) -> Result<AnyOverloadSet, Alloc
     copy
 }
 
-/// What is left of the set of a builtin after the calls.
+/// Returns the set of a built-in function that remains after the calls.
 fn left_after(
     alloc: Global,
     function: MathFunction,
@@ -84,7 +88,7 @@ fn left_after(
     }
 }
 
-/// The set of a builtin after its second argument was an integer literal, and all arguments are concrete.
+/// Returns the set of a built-in function whose second argument is an integer literal and whose arguments must all be concrete.
 fn narrowed(alloc: Global, function: MathFunction) -> Result<AnyOverloadSet, AllocError> {
     let types = UniqueArena::new(alloc);
     let calls = [
@@ -97,7 +101,7 @@ fn narrowed(alloc: Global, function: MathFunction) -> Result<AnyOverloadSet, All
 }
 
 #[test]
-fn refused_sets_can_be_made_again(rt: HostRuntime) {
+fn refused_sets_can_be_built_again(rt: HostRuntime) {
     let alloc = rt.alloc();
     for function in [MathFunction::Ldexp, MathFunction::Max] {
         let copy = again(&rt, "copy", &|| copied(alloc, function));
@@ -109,27 +113,27 @@ fn refused_sets_can_be_made_again(rt: HostRuntime) {
     }
 }
 
-const VECTOR: Made = (VEC2, Scalar::F16);
+const VECTOR: Built = (VEC2, Scalar::F16);
 
-const INDEX: Made = (SCALAR, Scalar::I32);
+const INDEX: Built = (SCALAR, Scalar::I32);
 
-fn made(alloc: Global) -> Result<Rule, AllocError> {
+fn built_rule(alloc: Global) -> Result<Rule, AllocError> {
     rule(alloc, &[inner(VECTOR), inner(INDEX)], inner(VECTOR))
 }
 
 #[test]
-fn refused_rules_can_be_made_again(rt: HostRuntime) {
+fn refused_rules_can_be_built_again(rt: HostRuntime) {
     let alloc = rt.alloc();
-    let rule = again(&rt, "rule", &|| made(alloc));
+    let rule = again(&rt, "rule", &|| built_rule(alloc));
     let copy = again(&rt, "copy of a rule", &|| rule.copy(alloc));
     assert!(rt; is_rule(&copy, &[VECTOR, INDEX], VECTOR));
     drop(copy);
     drop(rule);
 }
 
-/// A list of one rule, made by one call or the other, or none where no list can hold it.
+/// Returns a list of one rule, built by one function or the other, or `None` if no list can hold it.
 fn one_rule(alloc: Global, is_listed: bool) -> Result<Option<List>, AllocError> {
-    let rules = vec![in alloc; made(alloc)?]?;
+    let rules = vec![in alloc; built_rule(alloc)?]?;
     if !List::can_hold(rules.as_slice()) {
         return Ok(None);
     }
@@ -140,12 +144,12 @@ fn one_rule(alloc: Global, is_listed: bool) -> Result<Option<List>, AllocError> 
 }
 
 #[test]
-fn refused_lists_can_be_asked_again(rt: HostRuntime) {
+fn refused_lists_can_be_queried_again(rt: HostRuntime) {
     let alloc = rt.alloc();
     for is_listed in [false, true] {
         let list = again(&rt, "a list", &|| one_rule(alloc, is_listed));
         let set = AnyOverloadSet::List(list.expect(&rt, "a list"));
-        tells_again(&rt, alloc, &set, 1);
+        reports_again(&rt, alloc, &set, 1);
         drop(set);
     }
 }

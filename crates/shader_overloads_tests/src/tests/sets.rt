@@ -1,5 +1,5 @@
-//! Sets of bits, scalars and constructors, and what comes in turn.
-use crate::tests::{MAT3X3, SCALAR, VEC2, VEC3, WANT, inner};
+//! Tests of flags, sets of scalars and of constructors, and their iterators.
+use crate::tests::{MAT3X3, OUT_OF_MEMORY, SCALAR, VEC2, VEC3, inner};
 use bitflags::Flags;
 use shader_ir::{Scalar, TypeInner};
 use shader_overloads::utils::{
@@ -9,9 +9,11 @@ use shader_overloads::{ConstructorSet, OneBitsIter, ScalarSet};
 use std::alloc::Global;
 use std::process::Abort;
 
-/// The bits that are set, each as a number.
+/// Returns the set bits, each as a number.
 fn masks(rt: &impl Abort, alloc: Global, bits: u64) -> Vec<u64> {
-    OneBitsIter::new(bits).collect(alloc).expect(rt, WANT)
+    OneBitsIter::new(bits)
+        .collect(alloc)
+        .expect(rt, OUT_OF_MEMORY)
 }
 
 #[test]
@@ -93,12 +95,14 @@ fn constructors_tell_what_they_make(rt: HostRuntime) {
 
 const CONCRETE_FLOATS: [Scalar; 3] = [Scalar::F32, Scalar::F16, Scalar::F64];
 
-/// The scalars of a set, in the order of its bits.
+/// Returns the scalars of a set, in the order of its bits.
 fn scalars(rt: &impl Abort, alloc: Global, set: ScalarSet) -> Vec<Scalar> {
     let mut found = Vec::new(alloc);
     for scalar in set.members() {
         assert!(rt; !scalar.is_empty());
-        found.push(scalar.most_general_scalar()).expect(rt, WANT);
+        found
+            .push(scalar.most_general_scalar())
+            .expect(rt, OUT_OF_MEMORY);
     }
     found
 }
@@ -108,7 +112,7 @@ fn members_are_in_the_order_of_bits(rt: HostRuntime) {
     let found = scalars(&rt, rt.alloc(), ScalarSet::CONCRETE_FLOAT);
     assert!(rt; found.as_slice() == CONCRETE_FLOATS.as_slice());
     let squares = ConstructorSet::SQUARE_MATRICES.members();
-    let found: Vec<ConstructorSet> = squares.collect(rt.alloc()).expect(&rt, WANT);
+    let found: Vec<ConstructorSet> = squares.collect(rt.alloc()).expect(&rt, OUT_OF_MEMORY);
     let wanted = [
         ConstructorSet::MAT2X2,
         ConstructorSet::MAT3X3,
@@ -120,20 +124,20 @@ fn members_are_in_the_order_of_bits(rt: HostRuntime) {
 #[test]
 fn scalars_come_in_the_order_of_preference(rt: HostRuntime) {
     let scalars = float_scalars();
-    let copy = scalars.clone().expect(&rt, WANT);
-    let floats: Vec<Scalar> = copy.collect(rt.alloc()).expect(&rt, WANT);
+    let copy = scalars.clone().expect(&rt, OUT_OF_MEMORY);
+    let floats: Vec<Scalar> = copy.collect(rt.alloc()).expect(&rt, OUT_OF_MEMORY);
     assert!(rt; floats.first() == Some(&Scalar::ABSTRACT_FLOAT));
     assert!(rt; scalars.count() == 4);
     let scalars = float_scalars_unimplemented_abstract();
-    let floats: Vec<Scalar> = scalars.collect(rt.alloc()).expect(&rt, WANT);
+    let floats: Vec<Scalar> = scalars.collect(rt.alloc()).expect(&rt, OUT_OF_MEMORY);
     assert!(rt; floats.as_slice() == CONCRETE_FLOATS.as_slice());
 }
 
 #[test]
 fn a_scalar_comes_before_its_vectors(rt: HostRuntime) {
-    let mut made = scalar_or_vecn(Scalar::I32);
+    let mut built = scalar_or_vecn(Scalar::I32);
     for size in [SCALAR, VEC2, VEC3] {
-        let found: Option<TypeInner> = made.next();
+        let found: Option<TypeInner> = built.next();
         assert!(rt; found == Some(inner((size, Scalar::I32))));
     }
 }
@@ -142,7 +146,7 @@ fn a_scalar_comes_before_its_vectors(rt: HostRuntime) {
 fn the_first_slice_is_outermost(rt: HostRuntime) {
     let found: Vec<(u8, char)> = pairs(&[1, 2], &['a', 'b'])
         .collect(rt.alloc())
-        .expect(&rt, WANT);
+        .expect(&rt, OUT_OF_MEMORY);
     let wanted = [(1, 'a'), (1, 'b'), (2, 'a'), (2, 'b')];
     assert!(rt; found.as_slice() == wanted.as_slice());
 }
@@ -151,7 +155,7 @@ fn the_first_slice_is_outermost(rt: HostRuntime) {
 fn the_first_of_three_slices_is_outermost(rt: HostRuntime) {
     let found: Vec<(u8, char, bool)> = triples(&[1, 2], &['a'], &[true, false])
         .collect(rt.alloc())
-        .expect(&rt, WANT);
+        .expect(&rt, OUT_OF_MEMORY);
     let wanted = [
         (1, 'a', true),
         (1, 'a', false),

@@ -1,9 +1,9 @@
-//! Parts of types, and accesses to them; vectors of a scalar or of components.
+//! Accesses to components of types, and vectors built from a scalar or from components.
 ghost use Rattle.std.specs.Prelude.{◌≡◌, ◌<◌, length};
 ghost use Rattle.shader_ir.specs.TypeTree.{PointsBelow};
 ghost use Rattle.shader_resolve.specs.Outcome.{ForNothing, Meets};
-ghost use Rattle.shader_resolve.specs.Part.{checked, indexed_member, lifted, part};
-ghost use Rattle.shader_resolve.specs.Rows.{splat_type, swizzle_type};
+ghost use Rattle.shader_resolve.specs.Component.{checked, indexed_member, lifted, component};
+ghost use Rattle.shader_resolve.specs.TypingRules.{splat_type, swizzle_type};
 
 use super::Resolved;
 use super::values::vector_type;
@@ -13,9 +13,9 @@ use shader_ir::{
     AddressSpace, Scalar, StructMember, Type, TypeInner, TypeResolution, VectorSize, mark,
 };
 
-/// What an access reaches in a type.
+/// The component that an access selects in a type.
 #[derive(Clone, Copy)]
-pub enum Part {
+pub enum Component {
     /// A component of a vector.
     Scalar(Scalar),
     /// A column of a matrix.
@@ -24,99 +24,99 @@ pub enum Part {
     Type(Handle<mark::Type>),
 }
 
-/// Why an access reaches nothing.
+/// The reason why an access selects no component.
 #[derive(Clone, Copy)]
-pub enum NoPart {
-    /// The index, which is not below the count.
+pub enum BadIndex {
+    /// The index isn't below the number of components.
     PastEnd(u32),
-    /// The type has no parts, or none that this index may name.
+    /// The type has no components, or none that this index may select.
     NotIndexable,
 }
 
-impl Part {
-    ghost use Rattle.shader_resolve.specs.Part.{part_pointer, part_value};
+impl Component {
+    ghost use Rattle.shader_resolve.specs.Component.{component_pointer, component_value};
 
-    /// The type of the part itself.
+    /// Returns the type of the component itself.
     pub fn into_resolution(self) -> TypeResolution
-        ensures { result ≡ part_value self }
+        ensures { result ≡ component_value self }
     {
         match self {
-            Part::Scalar(scalar) => TypeResolution::Value(TypeInner::Scalar(scalar)),
-            Part::Vector { size, scalar } => {
+            Component::Scalar(scalar) => TypeResolution::Value(TypeInner::Scalar(scalar)),
+            Component::Vector { size, scalar } => {
                 TypeResolution::Value(TypeInner::Vector { size, scalar })
             }
-            Part::Type(handle) => TypeResolution::Handle(handle),
+            Component::Type(handle) => TypeResolution::Handle(handle),
         }
     }
 
-    /// The type of a pointer to the part.
+    /// Returns the type of a pointer to the component.
     pub fn into_pointer(self, space: AddressSpace) -> TypeInner
-        ensures { result ≡ part_pointer space self }
+        ensures { result ≡ component_pointer space self }
     {
         match self {
-            Part::Scalar(scalar) => TypeInner::ValuePointer {
+            Component::Scalar(scalar) => TypeInner::ValuePointer {
                 size: None,
                 scalar,
                 space,
             },
-            Part::Vector { size, scalar } => TypeInner::ValuePointer {
+            Component::Vector { size, scalar } => TypeInner::ValuePointer {
                 size: Some(size),
                 scalar,
                 space,
             },
-            Part::Type(base) => TypeInner::Pointer { base, space },
+            Component::Type(base) => TypeInner::Pointer { base, space },
         }
     }
 }
 
-/// The part, where the index is below the count.
-fn check_index(index: Option<u32>, count: u32, part: Part) -> Result<Part, NoPart>
-    ensures { result ≡ checked index count part }
+/// Returns the component if the index is below the count.
+fn check_index(index: Option<u32>, count: u32, component: Component) -> Result<Component, BadIndex>
+    ensures { result ≡ checked index count component }
 {
     match index {
-        Some(index) if index >= count => Err(NoPart::PastEnd(index)),
-        _ => Ok(part),
+        Some(index) if index >= count => Err(BadIndex::PastEnd(index)),
+        _ => Ok(component),
     }
 }
 
-/// The part of a type that an index reaches; a computed index is none.
-pub fn find_part(inner: &TypeInner, index: Option<u32>) -> Result<Part, NoPart>
-    ensures { result ≡ part index inner.now }
+/// Returns the component of a type that an index selects; `None` stands for a computed index.
+pub fn find_component(inner: &TypeInner, index: Option<u32>) -> Result<Component, BadIndex>
+    ensures { result ≡ component index inner.now }
 {
     match inner {
         TypeInner::Vector { size, scalar } => {
-            check_index(index, size.components(), Part::Scalar(*scalar))
+            check_index(index, size.components(), Component::Scalar(*scalar))
         }
         TypeInner::Matrix {
             columns,
             rows,
             scalar,
         } => {
-            let column = Part::Vector {
+            let column = Component::Vector {
                 size: *rows,
                 scalar: *scalar,
             };
             check_index(index, columns.components(), column)
         }
         TypeInner::Array { base, .. } | TypeInner::BindingArray { base, .. } => {
-            Ok(Part::Type(*base))
+            Ok(Component::Type(*base))
         }
         TypeInner::Struct { members, .. } => find_member(members.as_slice(), index),
-        _ => Err(NoPart::NotIndexable),
+        _ => Err(BadIndex::NotIndexable),
     }
 }
 
-fn find_member(members: &[StructMember], index: Option<u32>) -> Result<Part, NoPart>
+fn find_member(members: &[StructMember], index: Option<u32>) -> Result<Component, BadIndex>
     ensures { result ≡ indexed_member index members.now }
 {
-    let index = index.ok_or(NoPart::NotIndexable)?;
+    let index = index.ok_or(BadIndex::NotIndexable)?;
     match members.get(index as usize) {
-        Some(member) => Ok(Part::Type(member.ty)),
-        None => Err(NoPart::PastEnd(index)),
+        Some(member) => Ok(Component::Type(member.ty)),
+        None => Err(BadIndex::PastEnd(index)),
     }
 }
 
-/// The type of an access into a value or through a pointer.
+/// Returns the type of an access into a value or through a pointer.
 #[inline(always)]
 pub fn access(
     types: &UniqueArena<Type, mark::Type>,
@@ -129,46 +129,46 @@ pub fn access(
 {
     let indexed = index.is_some();
     match inner {
-        TypeInner::Pointer { base: ty, space } => match find_part(&types[*ty].inner, index) {
-            Ok(part) => Ok(TypeResolution::Value(part.into_pointer(*space))),
-            Err(NoPart::PastEnd(index)) => Err(ResolveError::OutOfBoundsIndex {
+        TypeInner::Pointer { base: ty, space } => match find_component(&types[*ty].inner, index) {
+            Ok(component) => Ok(TypeResolution::Value(component.into_pointer(*space))),
+            Err(BadIndex::PastEnd(index)) => Err(ResolveError::OutOfBoundsIndex {
                 expr: base,
                 index,
             }),
-            Err(NoPart::NotIndexable) => Err(ResolveError::InvalidSubAccess { ty: *ty, indexed }),
+            Err(BadIndex::NotIndexable) => Err(ResolveError::InvalidSubAccess { ty: *ty, indexed }),
         },
         TypeInner::ValuePointer {
             size: Some(size),
             scalar,
             space,
-        } => match check_index(index, size.components(), Part::Scalar(*scalar)) {
-            Ok(part) => Ok(TypeResolution::Value(part.into_pointer(*space))),
-            Err(no_part) => Err(no_part.into_error(base, indexed)),
+        } => match check_index(index, size.components(), Component::Scalar(*scalar)) {
+            Ok(component) => Ok(TypeResolution::Value(component.into_pointer(*space))),
+            Err(bad_index) => Err(bad_index.into_error(base, indexed)),
         },
-        _ => match find_part(inner, index) {
-            Ok(part) => Ok(part.into_resolution()),
-            Err(no_part) => Err(no_part.into_error(base, indexed)),
+        _ => match find_component(inner, index) {
+            Ok(component) => Ok(component.into_resolution()),
+            Err(bad_index) => Err(bad_index.into_error(base, indexed)),
         },
     }
 }
 
-impl NoPart {
+impl BadIndex {
     ghost use Rattle.std.specs.Prelude.{◌≡◌};
     ghost use Rattle.shader_resolve.specs.Outcome.{refusal_of};
-    ghost use Rattle.shader_resolve.specs.Part.{no_part_refusal};
+    ghost use Rattle.shader_resolve.specs.Component.{bad_index_refusal};
 
-    /// The refusal of an access into an expression.
+    /// Returns the error of an access into an expression.
     fn into_error(self, expr: Handle<mark::Expression>, indexed: bool) -> ResolveError
-        ensures { refusal_of result ≡ no_part_refusal expr indexed self }
+        ensures { refusal_of result ≡ bad_index_refusal expr indexed self }
     {
         match self {
-            NoPart::PastEnd(index) => ResolveError::OutOfBoundsIndex { expr, index },
-            NoPart::NotIndexable => ResolveError::InvalidAccess { expr, indexed },
+            BadIndex::PastEnd(index) => ResolveError::OutOfBoundsIndex { expr, index },
+            BadIndex::NotIndexable => ResolveError::InvalidAccess { expr, indexed },
         }
     }
 }
 
-/// A vector of so many copies of a scalar.
+/// Returns a vector of `size` copies of a scalar.
 pub fn splat(size: VectorSize, value: Handle<mark::Expression>, inner: &TypeInner) -> Resolved
     ensures { Meets ForNothing result (splat_type value size inner.now) }
 {
@@ -178,7 +178,7 @@ pub fn splat(size: VectorSize, value: Handle<mark::Expression>, inner: &TypeInne
     }
 }
 
-/// A vector of so many components of a vector.
+/// Returns a vector of `size` components of a vector.
 pub fn swizzle(size: VectorSize, vector: Handle<mark::Expression>, inner: &TypeInner) -> Resolved
     ensures { Meets ForNothing result (swizzle_type vector size inner.now) }
 {

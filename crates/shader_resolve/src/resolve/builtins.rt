@@ -1,4 +1,4 @@
-//! The types of calls of builtin functions.
+//! The types of calls of built-in functions.
 ghost use Rattle.std.specs.Prelude.{◌≡◌, ℕ, Bool, List, IfOk, length};
 ghost use Rattle.shader_ir.specs.TypeTree.{IsBackward, PointsBelow};
 ghost use Rattle.shader_ir.specs.declared.types.«Type».{«Type»};
@@ -17,7 +17,7 @@ use shader_ir::{MathFunction, Type, TypeInner, TypeResolution, mark};
 use shader_overloads::{AnyOverloadSet, MathOverloads, OverloadSet, Rule};
 use std::alloc::{AllocError, Global};
 
-/// The rules of a builtin that accept its first argument.
+/// Returns the rules of a built-in function that accept its first argument.
 #[inline(always)]
 fn after_one(
     alloc: Global,
@@ -36,7 +36,7 @@ fn after_one(
     Ok(left)
 }
 
-/// The rules of a builtin that accept its first two arguments.
+/// Returns the rules of a built-in function that accept its first two arguments.
 #[inline(always)]
 fn after_two(
     alloc: Global,
@@ -55,7 +55,7 @@ fn after_two(
     Ok(left)
 }
 
-/// The error of arguments that no rule accepts, under the name of the builtin.
+/// Returns the error for arguments that no rule accepts, under the name of the built-in function.
 fn invalid_arguments(name: Result<String, AllocError>) -> ResolveError
     ensures { IsRefusal ForRules BuiltinArgumentsInvalid result }
 {
@@ -73,7 +73,7 @@ impl<'a> ResolveContext<'a> {
     ghost use Rattle.shader_resolve.specs.Builtins.{concluded, first_conclusion, math_of_one, math_of_two};
     ghost use Rattle.shader_resolve.specs.Outcome.{ForRules, Meets};
 
-    /// The type of a call, by its first argument.
+    /// Returns the type of a call, by its first argument.
     #[inline(always)]
     pub(super) fn math_of_one(
         &self,
@@ -89,7 +89,7 @@ impl<'a> ResolveContext<'a> {
         self.conclude(alloc, fun, &left)
     }
 
-    /// The type of a call, by its first two arguments.
+    /// Returns the type of a call, by its first two arguments.
     #[inline(always)]
     pub(super) fn math_of_two(
         &self,
@@ -113,7 +113,8 @@ impl<'a> ResolveContext<'a> {
         self.conclude(alloc, fun, &left)
     }
 
-    /// What the first rule of a builtin's set concludes.
+    /// Returns the conclusion of the first rule of a set, or the error of the built-in function if
+    /// the set is empty.
     #[inline(always)]
     fn conclude(&self, alloc: Global, fun: MathFunction, left: &AnyOverloadSet) -> Resolved
         ensures { Meets ForRules result (first_conclusion self.now.special_types (rules_in left.now)) }

@@ -1,4 +1,4 @@
-//! What images hold, and how large they are.
+//! The contents of images and their extents.
 ghost use Rattle.std.specs.Prelude.{◌≡◌};
 ghost use Rattle.shader_resolve.specs.Images.{extent_type, format_scalar, gather_type, sample_type};
 ghost use Rattle.shader_resolve.specs.Outcome.{ForNothing, Meets};
@@ -11,7 +11,7 @@ use shader_ir::{
     ImageClass, ImageDimension, Scalar, ScalarKind, StorageFormat, TypeInner, VectorSize, mark,
 };
 
-/// The type of four texels' components.
+/// Returns the type of the gathered components of four texels.
 pub fn gather(image: Handle<mark::Expression>, inner: &TypeInner) -> Resolved
     ensures { Meets ForNothing result (gather_type image inner.now) }
 {
@@ -25,7 +25,7 @@ pub fn gather(image: Handle<mark::Expression>, inner: &TypeInner) -> Resolved
     Ok(vector_type(VectorSize::Quad, Scalar { kind, width: 4 }))
 }
 
-/// The scalar of a format's texels.
+/// Returns the scalar of a format's texels.
 fn scalar_of_format(format: StorageFormat) -> Scalar
     ensures { result ≡ format_scalar format }
 {
@@ -54,7 +54,7 @@ fn scalar_of_format(format: StorageFormat) -> Scalar
     }
 }
 
-/// The type of a texel.
+/// Returns the type of a texel.
 pub fn sample(image: Handle<mark::Expression>, inner: &TypeInner) -> Resolved
     ensures { Meets ForNothing result (sample_type image inner.now) }
 {
@@ -77,7 +77,7 @@ pub fn sample(image: Handle<mark::Expression>, inner: &TypeInner) -> Resolved
     })
 }
 
-/// The type of an image's extent.
+/// Returns the type of an image's extent.
 pub fn image_extent(image: Handle<mark::Expression>, inner: &TypeInner) -> Resolved
     ensures { Meets ForNothing result (extent_type image inner.now) }
 {

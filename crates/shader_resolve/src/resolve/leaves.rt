@@ -1,7 +1,7 @@
-//! The types of expressions that rest on no operand's.
+//! The types of expressions whose typing rules read no operand.
 ghost use Rattle.std.specs.Prelude.{◌≡◌};
 ghost use Rattle.shader_resolve.specs.Outcome.{ForNothing, Meets};
-ghost use Rattle.shader_resolve.specs.Rows.{literal_scalar, special_type};
+ghost use Rattle.shader_resolve.specs.TypingRules.{literal_scalar, special_type};
 
 use super::Resolved;
 use super::values::{scalar_type, vector_type};
@@ -11,7 +11,7 @@ use shader_ir::{
     AddressSpace, Expression, Literal, Scalar, TypeInner, TypeResolution, VectorSize, mark,
 };
 
-/// The scalar of a literal.
+/// Returns the scalar of a literal.
 fn scalar_of_literal(literal: Literal) -> Scalar
     ensures { result ≡ literal_scalar literal }
 {
@@ -31,7 +31,7 @@ fn scalar_of_literal(literal: Literal) -> Scalar
     }
 }
 
-/// The type of what a module registers, if it does.
+/// Returns a registered special type, or an error if the module hasn't registered it.
 fn special(ty: Option<Handle<mark::Type>>) -> Resolved
     ensures { Meets ForNothing result (special_type ty) }
 {
@@ -44,16 +44,17 @@ fn special(ty: Option<Handle<mark::Type>>) -> Resolved
 impl<'a> ResolveContext<'a> {
     ghost use Rattle.std.specs.Prelude.{◌≡◌, ◌<◌, length, slice_get};
     ghost use Rattle.shader_resolve.specs.Context.{IsInRange};
-    ghost use Rattle.shader_resolve.specs.Follows.{IsLeafAnswer};
+    ghost use Rattle.shader_resolve.specs.DerivesByRule.{IsLeafAnswer};
     ghost use Rattle.shader_resolve.specs.Outcome.{ForNothing, Given, Meets};
-    ghost use Rattle.shader_resolve.specs.Rows.{argument_type, call_type, global_type, local_type, row};
+    ghost use Rattle.shader_resolve.specs.TypingRules.{argument_type, call_type, global_type, local_type, typing_rule};
 
-    /// The type of an expression whose form asks no operand, if it is of one.
-    // A call that takes the whole context would keep it in memory.
+    /// Returns the type of an expression whose typing rule reads no operand, or `None` for any
+    /// other expression.
+    // Inlined, since a call that takes the whole context would keep it in memory.
     #[inline(always)]
     pub(super) fn leaf_type(&self, expr: &Expression) -> Option<Resolved>
         requires { IsInRange self.now expr.now }
-        ensures { IsLeafAnswer result expr.now (row self.now expr.now) }
+        ensures { IsLeafAnswer result expr.now (typing_rule self.now expr.now) }
     {
         Some(match expr {
             Expression::Literal(literal) => Ok(scalar_type(scalar_of_literal(*literal))),

@@ -13,13 +13,13 @@ use std::fmt::Debug;
 impl<'a> ResolveContext<'a> {
     ghost use Rattle.shader_ir.specs.Key.{FitsTypes};
     ghost use Rattle.shader_ir.specs.TypeTree.{IsBackward};
-    ghost use Rattle.shader_resolve.specs.Follows.{memory_of_binary};
+    ghost use Rattle.shader_resolve.specs.DerivesByRule.{memory_of_binary};
     ghost use Rattle.shader_resolve.specs.Operations.{left_type, product};
     ghost use Rattle.shader_resolve.specs.Outcome.{ForWords, Meets};
 
-    /// The type of a product.
+    /// Returns the type of a product.
     #[inline(always)]
-    #[tactic(auto, using(crate::proofs::CopyLemmas::held_types))]
+    #[tactic(auto, using(crate::proofs::CopyLemmas::stored_types))]
     pub(super) fn product(
         &self,
         alloc: Global,
@@ -34,14 +34,14 @@ impl<'a> ResolveContext<'a> {
         match product_of(self.inner(left), self.inner(right)) {
             Product::AsLeft => Ok(copied(alloc, left)),
             Product::AsRight => Ok(copied(alloc, right)),
-            Product::Made(inner) => Ok(TypeResolution::Value(inner)),
+            Product::Built(inner) => Ok(TypeResolution::Value(inner)),
             Product::NoProduct => Err(incompatible("Multiply".to_string(alloc))),
         }
     }
 
-    /// The type of a binary operation that asks its left side alone.
+    /// Returns the type of a binary operation that depends only on its left operand.
     #[inline(always)]
-    #[tactic(auto, using(crate::proofs::CopyLemmas::held_types))]
+    #[tactic(auto, using(crate::proofs::CopyLemmas::stored_types))]
     pub(super) fn left_type(
         &self,
         alloc: Global,
@@ -67,7 +67,7 @@ impl<'a> ResolveContext<'a> {
     }
 }
 
-/// The error of operands that don't go together, under the name of the operation.
+/// Returns the error for operands that don't fit each other, under the name of the operation.
 fn incompatible(name: Result<String, AllocError>) -> ResolveError
     ensures { IsRefusal ForWords IncompatibleOperands result }
 {
@@ -77,7 +77,7 @@ fn incompatible(name: Result<String, AllocError>) -> ResolveError
     }
 }
 
-/// The type of a test of each component.
+/// Returns the type of a test of each component.
 #[inline(always)]
 pub fn component_test(alloc: Global, operation: &impl Debug, inner: &TypeInner) -> Resolved
     ensures { Meets ForWords result (test_type inner.now) }
@@ -89,7 +89,7 @@ pub fn component_test(alloc: Global, operation: &impl Debug, inner: &TypeInner) 
     }
 }
 
-/// The type of a conjunction or a disjunction.
+/// Returns the type of a conjunction or a disjunction.
 fn logical(alloc: Global, operation: &impl Debug, inner: &TypeInner) -> Resolved
     ensures { Meets ForWords result (logical_type inner.now) }
 {
@@ -99,7 +99,7 @@ fn logical(alloc: Global, operation: &impl Debug, inner: &TypeInner) -> Resolved
     }
 }
 
-/// The type of a conversion to a kind, and to a width where one is given.
+/// Returns the type of a conversion to a kind, and to a width if one is given.
 pub fn cast(alloc: Global, kind: ScalarKind, convert: Option<u8>, inner: &TypeInner) -> Resolved
     ensures { Meets ForWords result (cast_type kind convert inner.now) }
 {
@@ -127,30 +127,30 @@ pub fn cast(alloc: Global, kind: ScalarKind, convert: Option<u8>, inner: &TypeIn
     }
 }
 
-/// The type of a product: that of a side, or a new one.
+/// The type of a product: that of an operand, or a new one.
 #[derive(Drop)]
 pub enum Product {
     AsLeft,
     AsRight,
-    Made(TypeInner),
+    Built(TypeInner),
     NoProduct,
 }
 
-/// Which type a product of operands with these shapes has.
+/// Returns the type of a product of operands with these shapes.
 #[inline(always)]
 fn product_of(left: &TypeInner, right: &TypeInner) -> Product
     ensures { result ≡ product_of left.now right.now }
 {
     match (left, right) {
         (TypeInner::Matrix { rows, scalar, .. }, TypeInner::Matrix { columns, .. }) => {
-            Product::Made(TypeInner::Matrix {
+            Product::Built(TypeInner::Matrix {
                 columns: *columns,
                 rows: *rows,
                 scalar: *scalar,
             })
         }
         (TypeInner::Matrix { rows, scalar, .. }, TypeInner::Vector { .. }) => {
-            Product::Made(TypeInner::Vector {
+            Product::Built(TypeInner::Vector {
                 size: *rows,
                 scalar: *scalar,
             })
@@ -162,7 +162,7 @@ fn product_of(left: &TypeInner, right: &TypeInner) -> Product
                 scalar,
                 ..
             },
-        ) => Product::Made(TypeInner::Vector {
+        ) => Product::Built(TypeInner::Vector {
             size: *columns,
             scalar: *scalar,
         }),
@@ -178,7 +178,7 @@ fn product_of(left: &TypeInner, right: &TypeInner) -> Product
                 ..
             },
             TypeInner::CooperativeMatrix { columns, .. },
-        ) => Product::Made(TypeInner::CooperativeMatrix {
+        ) => Product::Built(TypeInner::CooperativeMatrix {
             columns: *columns,
             rows: *rows,
             scalar: *scalar,

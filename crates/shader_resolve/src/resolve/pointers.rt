@@ -1,4 +1,4 @@
-//! What pointers point to.
+//! The types behind pointers.
 
 use super::Resolved;
 use super::values::{cooperative_type, scalar_type, vector_type};
@@ -10,9 +10,9 @@ impl<'a> ResolveContext<'a> {
     ghost use Rattle.std.specs.Prelude.{◌≡◌, length};
     ghost use Rattle.shader_ir.specs.TypeTree.{PointsBelow};
     ghost use Rattle.shader_resolve.specs.Outcome.{ForNothing, Meets};
-    ghost use Rattle.shader_resolve.specs.Rows.{load_type, pointed_scalar, tile_type};
+    ghost use Rattle.shader_resolve.specs.TypingRules.{load_type, pointed_scalar, tile_type};
 
-    /// What a pointer points to; of an atomic its scalar.
+    /// Returns the pointee's type, or its scalar if it is an atomic.
     #[inline(always)]
     pub(super) fn load(&self, pointer: Handle<mark::Expression>, inner: &TypeInner) -> Resolved
         requires { PointsBelow (length self.now.types) inner.now }
@@ -33,7 +33,7 @@ impl<'a> ResolveContext<'a> {
         }
     }
 
-    /// The scalar of what a pointer points to.
+    /// Returns the scalar of the pointee.
     #[inline(always)]
     fn pointed_scalar(&self, inner: &TypeInner) -> Option<Scalar>
         requires { PointsBelow (length self.now.types) inner.now }
@@ -46,7 +46,7 @@ impl<'a> ResolveContext<'a> {
         }
     }
 
-    /// The cooperative matrix that is loaded through a pointer.
+    /// Returns the cooperative matrix that is loaded through a pointer.
     #[inline(always)]
     pub(super) fn load_tile(
         &self,

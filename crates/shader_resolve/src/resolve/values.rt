@@ -1,6 +1,6 @@
-//! Free-standing types.
+//! Types outside the arena.
 ghost use Rattle.std.specs.Prelude.{◌≡◌};
-ghost use Rattle.shader_ir.specs.Key.{HoldsNoList};
+ghost use Rattle.shader_ir.specs.Key.{HoldsNoMembers};
 
 use shader_ir::{CooperativeRole, CooperativeSize, Scalar, TypeInner, TypeResolution, VectorSize};
 use std::alloc::Global;
@@ -43,10 +43,10 @@ pub fn cooperative_type(
     })
 }
 
-/// Returns an equal resolution, which takes no memory. Scalars and vectors, as most operands are, are copied where the call stands.
+/// Returns an equal resolution without allocating. Scalars and vectors, which most operands are, are copied inline.
 #[inline(always)]
 pub fn copied(alloc: Global, resolution: &TypeResolution) -> TypeResolution
-    requires { HoldsNoList resolution.now }
+    requires { HoldsNoMembers resolution.now }
     ensures { result ≡ resolution.now }
 {
     match resolution {

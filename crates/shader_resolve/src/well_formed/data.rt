@@ -1,4 +1,4 @@
-//! Checks of what a module holds beside its functions.
+//! Checks of a module's items other than functions and expressions.
 ghost use Rattle.std.specs.Prelude.{◌≡◌, length, nat_lt};
 ghost use Rattle.std.specs.List.{list_all};
 ghost use Rattle.shader_ir.specs.TypeTree.{type_handles};
@@ -13,7 +13,7 @@ use shader_ir::{
     ArraySize, DiagnosticFilterNode, Module, SpecialTypes, StructMember, TypeInner, mark,
 };
 
-/// The first fault outside of functions and expressions.
+/// Returns the first violation outside of functions and expressions.
 pub fn check_data(module: &Module) -> Result<(), ModuleFault>
     ensures { result ≡ check_data «module».now }
 {
@@ -25,7 +25,7 @@ pub fn check_data(module: &Module) -> Result<(), ModuleFault>
 }
 
 fn check_types(module: &Module) -> Result<(), ModuleFault>
-    ensures { result ≡ in_arena (λ place type. check_type «module».now place type.inner) «module».now.types }
+    ensures { result ≡ in_arena (λ position type. check_type «module».now position type.inner) «module».now.types }
 {
     for (handle, ty) in module.types.iter() {
         check_type(module, handle.index(), &ty.inner)?;
@@ -33,22 +33,22 @@ fn check_types(module: &Module) -> Result<(), ModuleFault>
     Ok(())
 }
 
-pub fn check_type(module: &Module, place: usize, inner: &TypeInner) -> Result<(), ModuleFault>
-    ensures { result ≡ check_type «module».now place inner.now }
+pub fn check_type(module: &Module, position: usize, inner: &TypeInner) -> Result<(), ModuleFault>
+    ensures { result ≡ check_type «module».now position inner.now }
 {
     if !bases_below(inner, module.types.len())
         || !is_optional_below(sizing_override(inner), module.overrides.len())
     {
         return Err(ModuleFault::HandleOutOfRange);
     }
-    if !bases_below(inner, place) {
+    if !bases_below(inner, position) {
         return Err(ModuleFault::TypeNotEarlier);
     }
     Ok(())
 }
 
-/// Whether the types that a type names are below a bound.
-#[tactic(auto, using(crate::proofs::Joined::mapped))]
+/// Returns whether the types that a type names are below a bound.
+#[tactic(auto, using(crate::proofs::MappedTests::mapped))]
 fn bases_below(inner: &TypeInner, bound: usize) -> bool
     ensures { result ≡ all_below bound (type_handles inner.now) }
 {
@@ -67,7 +67,7 @@ fn members_below(members: &[StructMember], bound: usize) -> bool
     members.iter().all(|member| is_below(member.ty, bound))
 }
 
-/// The override that sizes a type.
+/// Returns the override that sizes a type.
 fn sizing_override(inner: &TypeInner) -> Option<Handle<mark::Override>>
     ensures { result ≡ sizing_override inner.now }
 {
@@ -86,7 +86,8 @@ fn pending_size(size: ArraySize) -> Option<Handle<mark::Override>>
     }
 }
 
-/// Whether the handles of the special types, constants, overrides and variables are in range.
+/// Returns whether the handles of the special types, constants, overrides and variables are in
+/// range.
 fn variables_in_range(module: &Module) -> bool
     ensures { result ≡ variables_in_range «module».now }
 {
@@ -116,7 +117,7 @@ fn predeclared_in_range(module: &Module, special: &SpecialTypes) -> bool
 }
 
 fn constants_in_range(module: &Module) -> bool
-    ensures { result ≡ every (λ place constant. constant_in_range «module».now constant) «module».now.constants }
+    ensures { result ≡ every (λ position constant. constant_in_range «module».now constant) «module».now.constants }
 {
     for (_, constant) in module.constants.iter() {
         if !is_below(constant.ty, module.types.len())
@@ -129,7 +130,7 @@ fn constants_in_range(module: &Module) -> bool
 }
 
 fn overrides_in_range(module: &Module) -> bool
-    ensures { result ≡ every (λ place override. override_in_range «module».now override) «module».now.overrides }
+    ensures { result ≡ every (λ position override. override_in_range «module».now override) «module».now.overrides }
 {
     for (_, value) in module.overrides.iter() {
         if !is_below(value.ty, module.types.len())
@@ -142,7 +143,7 @@ fn overrides_in_range(module: &Module) -> bool
 }
 
 fn globals_in_range(module: &Module) -> bool
-    ensures { result ≡ every (λ place variable. global_in_range «module».now variable) «module».now.global_variables }
+    ensures { result ≡ every (λ position variable. global_in_range «module».now variable) «module».now.global_variables }
 {
     for (_, variable) in module.global_variables.iter() {
         if !is_below(variable.ty, module.types.len())
@@ -165,15 +166,15 @@ fn check_filters(module: &Module) -> Result<(), ModuleFault>
 
 pub fn check_filter(
     module: &Module,
-    place: usize,
+    position: usize,
     node: &DiagnosticFilterNode,
 ) -> Result<(), ModuleFault>
-    ensures { result ≡ check_filter «module».now place node.now }
+    ensures { result ≡ check_filter «module».now position node.now }
 {
     if !is_optional_below(node.parent, module.diagnostic_filters.len()) {
         return Err(ModuleFault::HandleOutOfRange);
     }
-    if !is_optional_below(node.parent, place) {
+    if !is_optional_below(node.parent, position) {
         return Err(ModuleFault::FilterNotEarlier);
     }
     Ok(())

@@ -7,7 +7,7 @@ use super::{Bounds, ModuleFault};
 use shader_arena::{Arena, Handle};
 use shader_ir::{Expression, Module, Operands, expression_operands, mark};
 
-/// Whether a handle is below a bound.
+/// Returns whether a handle is below a bound.
 #[inline(always)]
 pub fn is_below<T>(handle: Handle<T>, bound: usize) -> bool
     ensures { result ≡ nat_lt handle bound }
@@ -15,7 +15,7 @@ pub fn is_below<T>(handle: Handle<T>, bound: usize) -> bool
     handle.index() < bound
 }
 
-/// Whether a handle, where there is one, is below a bound.
+/// Returns whether a handle, if any, is below a bound.
 #[inline(always)]
 pub fn is_optional_below<T>(handle: Option<Handle<T>>, bound: usize) -> bool
     ensures { result ≡ is_below bound handle }
@@ -26,7 +26,7 @@ pub fn is_optional_below<T>(handle: Option<Handle<T>>, bound: usize) -> bool
     }
 }
 
-/// Whether all operands that are left are below a bound.
+/// Returns whether all remaining operands are below a bound.
 pub fn operands_below(operands: Operands<'_>, bound: usize) -> bool
     ensures { result ≡ operands_below bound operands.entry }
 {
@@ -38,7 +38,7 @@ pub fn operands_below(operands: Operands<'_>, bound: usize) -> bool
     true
 }
 
-/// Whether what an expression names beside its operands is there.
+/// Returns whether everything that an expression names besides its operands is in range.
 fn names_in_range(module: &Module, locals: usize, expression: &Expression) -> bool
     ensures { result ≡ names_in_range «module».now locals expression.now }
 {
@@ -80,7 +80,7 @@ fn names_in_range(module: &Module, locals: usize, expression: &Expression) -> bo
     }
 }
 
-/// The function whose result an expression is.
+/// Returns the function whose result an expression is.
 fn expression_callee(expression: &Expression) -> Option<Handle<mark::Function>>
     ensures { result ≡ expression_callee expression.now }
 {
@@ -90,17 +90,17 @@ fn expression_callee(expression: &Expression) -> Option<Handle<mark::Function>>
     }
 }
 
-/// The first fault of an expression. Its operands are looked at once where they are earlier, as they mostly are.
+/// Returns the first violation of an expression. If its operands are earlier, as is usual, they are visited only once.
 #[tactic(auto, using(crate::proofs::BelowLemmas::both_bounds))]
 pub fn check_expression(
     module: &Module,
     bounds: Bounds,
-    place: usize,
+    position: usize,
     expression: &Expression,
 ) -> Result<(), ModuleFault>
-    ensures { result ≡ check_expression «module».now bounds place expression.now }
+    ensures { result ≡ check_expression «module».now bounds position expression.now }
 {
-    let bound = place.min(bounds.expressions);
+    let bound = position.min(bounds.expressions);
     let is_earlier = operands_below(expression_operands(expression), bound);
     if !is_earlier && !operands_below(expression_operands(expression), bounds.expressions) {
         return Err(ModuleFault::HandleOutOfRange);
@@ -117,7 +117,7 @@ pub fn check_expression(
     Ok(())
 }
 
-/// The first fault of expressions that may name so much.
+/// Returns the first violation of expressions within these bounds.
 pub fn check_expressions(
     module: &Module,
     bounds: Bounds,

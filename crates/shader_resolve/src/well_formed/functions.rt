@@ -10,7 +10,7 @@ use super::{Bounds, ModuleFault};
 use shader_arena::Handle;
 use shader_ir::{Function, FunctionArgument, FunctionResult, Module, TypeInner, mark};
 
-/// The first fault of a function that has so many earlier ones.
+/// Returns the first violation of a function with this many earlier ones.
 pub fn check_function(
     module: &Module,
     earlier: usize,
@@ -31,7 +31,7 @@ pub fn check_function(
     check_block(&function.body, module, bounds)
 }
 
-/// Whether the handles of a function are in range, those of its arguments, expressions and statements aside.
+/// Returns whether the handles of a function are in range, except those of its arguments, expressions and statements.
 pub fn function_in_range(module: &Module, function: &Function) -> bool
     ensures { result ≡ function_in_range «module».now function.now }
 {
@@ -86,7 +86,7 @@ fn named_in_range(function: &Function) -> bool
 }
 
 fn locals_in_range(module: &Module, function: &Function) -> bool
-    ensures { result ≡ every (λ place variable. local_in_range «module».now function.now variable) function.now.local_variables }
+    ensures { result ≡ every (λ position variable. local_in_range «module».now function.now variable) function.now.local_variables }
 {
     for (_, variable) in function.local_variables.iter() {
         if !is_below(variable.ty, module.types.len())

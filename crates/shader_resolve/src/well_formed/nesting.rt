@@ -1,4 +1,4 @@
-//! How deep the blocks of a module nest, asked before it is walked.
+//! The nesting depth of a module's blocks, for a check before any recursion.
 ghost use Rattle.std.specs.Prelude.{◌≡◌, ◌↔◌, IsTrue, nat_le};
 ghost use Rattle.std.specs.List.{list_all};
 ghost use Rattle.shader_ir.specs.BodyOf.{step_of};
@@ -7,16 +7,15 @@ ghost use Rattle.shader_resolve.specs.Nesting.{NestsWithin, depth, step_depth};
 
 use shader_ir::{Block, EntryPoint, Module, Statement};
 
-/// A depth that `check_module`, the analysis and the drop of a module go through with room to spare.
+/// A nesting depth that `check_module`, the analysis and the drop of a module can handle with room to spare.
 ///
-/// They take some 340 bytes of stack a level at most: here a sixth of a stack of 8 MB, and less than one of 2 MB.
+/// They use at most about 340 bytes of stack per level: at this depth a sixth of a stack of 8 MB, and less than one of 2 MB.
 pub const MOST_LEVELS: usize = 4_000;
 
-/// Whether the blocks of each body nest at most so many levels deep, the body itself the first level.
+/// Returns whether the blocks of each body nest at most `levels` deep, where the body itself is the first level.
 ///
-/// `check_module`, the analysis and the drop of a module go down its blocks by recursion. This does
-/// too, but never deeper than `levels`, whatever the module: so of a module from outside, ask it
-/// first, with `MOST_LEVELS`.
+/// `check_module`, the analysis and the drop of a module recurse over its blocks. So does this function, but never deeper than `levels`,
+/// whatever the module is. For a module from an untrusted source, call it first, with `MOST_LEVELS`.
 pub fn nests_within(module: &Module, levels: usize) -> bool
     ensures { IsTrue result ↔ NestsWithin levels «module».now }
 {
@@ -25,7 +24,7 @@ pub fn nests_within(module: &Module, levels: usize) -> bool
 }
 
 fn functions_nest_within(module: &Module, levels: usize) -> bool
-    ensures { result ≡ every (λ place function. nat_le (depth function.body) levels) «module».now.functions }
+    ensures { result ≡ every (λ position function. nat_le (depth function.body) levels) «module».now.functions }
 {
     for (_, function) in module.functions.iter() {
         if !block_nests_within(&function.body, levels) {

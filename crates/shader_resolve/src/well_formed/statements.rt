@@ -1,9 +1,9 @@
 //! Checks of statements, at any depth.
 ghost use Rattle.std.specs.Prelude.{◌≡◌, slice_get};
-ghost use Rattle.shader_arena.specs.Places.{places_between};
+ghost use Rattle.shader_arena.specs.Positions.{positions_between};
 ghost use Rattle.shader_ir.specs.BodyOf.{step_of};
 ghost use Rattle.shader_resolve.specs.ModuleTests.{all_below, check_statement, counts_match, in_body};
-ghost use Rattle.shader_resolve.specs.ModuleTests.{in_within, is_emitted, statement_in_range, takes};
+ghost use Rattle.shader_resolve.specs.ModuleTests.{in_within, is_emitted, statement_in_range, takes_arguments};
 ghost use Rattle.shader_resolve.specs.Statements.{proceed_result, statement_callee, statement_result};
 
 use super::expressions::{is_below, is_optional_below, operands_below};
@@ -11,7 +11,7 @@ use super::{Bounds, ModuleFault};
 use shader_arena::{Handle, Range};
 use shader_ir::{Block, Module, RayQueryFunction, Statement, mark, statement_operands};
 
-/// The first fault of a block's statements, each before those in its blocks.
+/// Returns the first violation in a block's statements, each statement before those in its blocks.
 #[cycle(blocks)]
 pub fn check_block(block: &Block, module: &Module, bounds: Bounds) -> Result<(), ModuleFault>
     ensures { result ≡ in_body (check_statement «module».now bounds) block.now }
@@ -23,7 +23,7 @@ pub fn check_block(block: &Block, module: &Module, bounds: Bounds) -> Result<(),
     Ok(())
 }
 
-/// The first fault in the blocks of a statement.
+/// Returns the first violation in the blocks of a statement.
 #[cycle(blocks)]
 fn check_blocks(statement: &Statement, module: &Module, bounds: Bounds) -> Result<(), ModuleFault>
     ensures { result ≡ in_within (check_statement «module».now bounds) (step_of statement.now) }
@@ -52,7 +52,7 @@ fn check_blocks(statement: &Statement, module: &Module, bounds: Bounds) -> Resul
     }
 }
 
-/// The first fault of a statement, the statements in its blocks aside.
+/// Returns the first violation of a statement, without the statements in its blocks.
 fn check_statement(
     module: &Module,
     bounds: Bounds,
@@ -75,7 +75,7 @@ fn check_statement(
     Ok(())
 }
 
-/// Whether the handles of a statement are in range, without the range of an `Emit`.
+/// Returns whether the handles of a statement are in range, except the range of an `Emit`.
 fn statement_in_range(module: &Module, expressions: usize, statement: &Statement) -> bool
     ensures { result ≡ statement_in_range «module».now expressions (step_of statement.now) }
 {
@@ -84,7 +84,7 @@ fn statement_in_range(module: &Module, expressions: usize, statement: &Statement
         && is_optional_below(statement_callee(statement), module.functions.len())
 }
 
-/// The expression that a statement's result is.
+/// Returns the expression that stands for a statement's result.
 fn statement_result(statement: &Statement) -> Option<Handle<mark::Expression>>
     ensures { result ≡ statement_result (step_of statement.now) }
 {
@@ -127,7 +127,7 @@ fn proceed_result(fun: RayQueryFunction) -> Option<Handle<mark::Expression>>
     }
 }
 
-/// The function that a statement calls.
+/// Returns the function that a statement calls.
 fn statement_callee(statement: &Statement) -> Option<Handle<mark::Function>>
     ensures { result ≡ statement_callee (step_of statement.now) }
 {
@@ -137,7 +137,7 @@ fn statement_callee(statement: &Statement) -> Option<Handle<mark::Function>>
     }
 }
 
-/// Whether a statement gives as many arguments as its callee takes, where it calls one that is there.
+/// Returns whether a statement passes as many arguments as its callee takes, if it calls a function in range.
 fn counts_match(module: &Module, statement: &Statement) -> bool
     ensures { result ≡ counts_match «module».now (step_of statement.now) }
 {
@@ -146,13 +146,13 @@ fn counts_match(module: &Module, statement: &Statement) -> bool
             function,
             arguments,
             ..
-        } => takes(module, *function, arguments.len()),
+        } => takes_arguments(module, *function, arguments.len()),
         _ => true,
     }
 }
 
-fn takes(module: &Module, callee: Handle<mark::Function>, count: usize) -> bool
-    ensures { result ≡ takes (slice_get «module».now.functions callee) count }
+fn takes_arguments(module: &Module, callee: Handle<mark::Function>, count: usize) -> bool
+    ensures { result ≡ takes_arguments (slice_get «module».now.functions callee) count }
 {
     if !module.functions.contains_handle(callee) {
         return true;
@@ -160,7 +160,7 @@ fn takes(module: &Module, callee: Handle<mark::Function>, count: usize) -> bool
     module.functions[callee].arguments.len() == count
 }
 
-/// Whether the expressions that a statement emits are below a bound.
+/// Returns whether the expressions that a statement emits are below a bound.
 fn is_emitted(expressions: usize, statement: &Statement) -> bool
     ensures { result ≡ is_emitted expressions (step_of statement.now) }
 {
@@ -170,10 +170,10 @@ fn is_emitted(expressions: usize, statement: &Statement) -> bool
     }
 }
 
-/// The last handle decides, so this takes no longer for a long range.
-#[tactic(auto, using(crate::proofs::RangeLemmas::places_below))]
+/// Returns whether a range is below a bound. The last handle decides, so the time doesn't depend on the length of the range.
+#[tactic(auto, using(crate::proofs::RangeLemmas::positions_below))]
 fn range_below(range: &Range<mark::Expression>, bound: usize) -> bool
-    ensures { result ≡ all_below bound (places_between range.now.0 range.now.1) }
+    ensures { result ≡ all_below bound (positions_between range.now.0 range.now.1) }
 {
     match range.first_and_last() {
         Some((_, last)) => is_below(last, bound),

@@ -1,13 +1,13 @@
-//! Each growth refused once: the answer is want of memory, and the call made again answers as with memory.
+//! Tests of allocation failure: the result is out of memory, and the same call succeeds when it is repeated.
 //!
-//! With ample memory nothing is refused. Where the allocator refuses the Nth request of a test's process, the test passes
-//! still, and prints a line with `was refused`. The first N at which no test prints one is past all requests.
+//! With enough memory nothing fails. Under fault injection, where the allocator refuses the Nth request of a test's process, the test still
+//! passes and prints a line with `was refused`. The first N at which no test prints one is beyond all requests.
 ghost use Rattle.std.specs.Prelude.{◌≡◌};
 
-mod held;
+mod stored;
 mod tables;
 
-use crate::tests::refusals::held::resolve_held;
+use crate::tests::refusals::stored::resolve_stored;
 use shader_arena::{Arena, Handle};
 use shader_ir::{
     BinaryOperator, Expression, MathFunction, Module, Scalar, ScalarKind, TypeInner,
@@ -21,57 +21,57 @@ use std::test::Fail;
 
 type Answer = Option<Result<TypeResolution, ResolveError>>;
 
-fn at(place: u32) -> Handle<mark::Expression>
-    ensures { result ≡ place }
+fn at(position: u32) -> Handle<mark::Expression>
+    ensures { result ≡ position }
 {
-    Handle::from_index(place)
+    Handle::from_index(position)
 }
 
-/// The answer for an expression in a context, asked again where memory was refused.
+/// Returns the result for an expression in a context, repeated if an allocation failed.
 fn answer_in<R: Abort + Print>(
     rt: &R,
     context: &ResolveContext<'_>,
     alloc: Global,
-    held: &[TypeResolution],
+    stored: &[TypeResolution],
     expr: &Expression,
 ) -> Result<Answer, Fail> {
-    let first = resolve_held(context, alloc, held, expr);
+    let first = resolve_stored(context, alloc, stored, expr);
     if !matches!(first, Some(Err(ResolveError::OutOfMemory))) {
         return Ok(first);
     }
     drop(first);
     println!(rt; "a type was refused")?;
-    Ok(resolve_held(context, alloc, held, expr))
+    Ok(resolve_stored(context, alloc, stored, expr))
 }
 
-/// The same in a module of nothing.
+/// Returns the result for an expression in an empty module.
 fn answer<R: Abort + Print>(
     rt: &R,
     alloc: Global,
-    held: [TypeResolution; 2],
+    stored: [TypeResolution; 2],
     expr: Expression,
 ) -> Result<Answer, Fail> {
     let module = Module::new(alloc);
     let locals = Arena::new(alloc);
     let context = ResolveContext::with_locals(&module, &locals, &[]);
-    let told = answer_in(rt, &context, alloc, &held, &expr);
-    drop(held);
+    let reported = answer_in(rt, &context, alloc, &stored, &expr);
+    drop(stored);
     drop(expr);
     drop(locals);
     drop(module);
-    told
+    reported
 }
 
 fn is_incompatible(answer: Answer, words: &str) -> bool {
     match answer {
-        Some(Err(ResolveError::IncompatibleOperands(told))) => told.as_str() == words,
+        Some(Err(ResolveError::IncompatibleOperands(reported))) => reported.as_str() == words,
         _ => false,
     }
 }
 
 fn is_invalid(answer: Answer, words: &str) -> bool {
     match answer {
-        Some(Err(ResolveError::BuiltinArgumentsInvalid(told))) => told.as_str() == words,
+        Some(Err(ResolveError::BuiltinArgumentsInvalid(reported))) => reported.as_str() == words,
         _ => false,
     }
 }
@@ -101,7 +101,7 @@ fn pair(scalar: Scalar) -> TypeResolution {
     })
 }
 
-/// Two operands that no operation takes.
+/// Returns two operands that no operation accepts.
 fn unlike() -> [TypeResolution; 2] {
     [
         pair(Scalar::F32),
@@ -116,35 +116,35 @@ fn of_operations(rt: HostRuntime) -> Result<(), Fail> {
         left: at(0),
         right: at(1),
     };
-    let told = answer(&rt, rt.alloc(), unlike(), product)?;
-    assert!(rt; is_incompatible(told, "Multiply"));
+    let reported = answer(&rt, rt.alloc(), unlike(), product)?;
+    assert!(rt; is_incompatible(reported, "Multiply"));
     let less = Expression::Binary {
         op: BinaryOperator::Less,
         left: at(1),
         right: at(0),
     };
-    let told = answer(&rt, rt.alloc(), unlike(), less)?;
-    assert!(rt; is_incompatible(told, "Less"));
+    let reported = answer(&rt, rt.alloc(), unlike(), less)?;
+    assert!(rt; is_incompatible(reported, "Less"));
     let cast = Expression::As {
         expr: at(1),
         kind: ScalarKind::Sint,
         convert: None,
     };
-    let told = answer(&rt, rt.alloc(), unlike(), cast)?;
-    assert!(rt; is_incompatible(told, "As"));
+    let reported = answer(&rt, rt.alloc(), unlike(), cast)?;
+    assert!(rt; is_incompatible(reported, "As"));
     Ok(())
 }
 
 #[test]
 fn of_builtins(rt: HostRuntime) -> Result<(), Fail> {
-    let held = [pair(Scalar::F32), pair(Scalar::F32)];
-    let told = answer(&rt, rt.alloc(), held, call(MathFunction::Max))?;
-    assert!(rt; is_type(told, pair(Scalar::F32)));
-    let held = [pair(Scalar::F32), pair(Scalar::F32)];
-    let told = answer(&rt, rt.alloc(), held, call(MathFunction::Cross))?;
-    assert!(rt; is_invalid(told, "Cross"));
-    let held = [pair(Scalar::F16), pair(Scalar::F16)];
-    let told = answer(&rt, rt.alloc(), held, call(MathFunction::Refract))?;
-    assert!(rt; is_type(told, pair(Scalar::F16)));
+    let stored = [pair(Scalar::F32), pair(Scalar::F32)];
+    let reported = answer(&rt, rt.alloc(), stored, call(MathFunction::Max))?;
+    assert!(rt; is_type(reported, pair(Scalar::F32)));
+    let stored = [pair(Scalar::F32), pair(Scalar::F32)];
+    let reported = answer(&rt, rt.alloc(), stored, call(MathFunction::Cross))?;
+    assert!(rt; is_invalid(reported, "Cross"));
+    let stored = [pair(Scalar::F16), pair(Scalar::F16)];
+    let reported = answer(&rt, rt.alloc(), stored, call(MathFunction::Refract))?;
+    assert!(rt; is_type(reported, pair(Scalar::F16)));
     Ok(())
 }

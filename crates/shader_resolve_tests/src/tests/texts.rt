@@ -1,4 +1,4 @@
-//! Copies of errors, and the texts of those that no question about a module is answered by.
+//! Tests of copies of errors, and of the texts of errors that no query of a module returns.
 use shader_arena::Handle;
 use shader_overloads::MissingSpecialType;
 use shader_resolve::{ModuleFault, ResolveError};
@@ -6,18 +6,18 @@ use std::alloc::Global;
 use std::fmt::Display;
 use std::process::Abort;
 
-const WANT: &str = "want of memory";
+const OUT_OF_MEMORY: &str = "want of memory";
 
 /// Asserts that a copy of an error is equal to it.
 fn is_copied(rt: &impl Abort, alloc: Global, error: ResolveError) {
-    let copy = error.copy(alloc).expect(rt, WANT);
+    let copy = error.copy(alloc).expect(rt, OUT_OF_MEMORY);
     assert!(rt; copy == error);
     drop(copy);
     drop(error)
 }
 
 fn undefined(rt: &impl Abort, alloc: Global) -> ResolveError {
-    let name = "main".to_string(alloc).expect(rt, WANT);
+    let name = "main".to_string(alloc).expect(rt, OUT_OF_MEMORY);
     ResolveError::FunctionNotDefined { name }
 }
 
@@ -25,9 +25,9 @@ fn undefined(rt: &impl Abort, alloc: Global) -> ResolveError {
 fn a_copy_of_an_error_is_equal(rt: HostRuntime) {
     let alloc = rt.alloc();
     is_copied(&rt, alloc, undefined(&rt, alloc));
-    let words = "Multiply".to_string(alloc).expect(&rt, WANT);
+    let words = "Multiply".to_string(alloc).expect(&rt, OUT_OF_MEMORY);
     is_copied(&rt, alloc, ResolveError::IncompatibleOperands(words));
-    let words = "Max".to_string(alloc).expect(&rt, WANT);
+    let words = "Max".to_string(alloc).expect(&rt, OUT_OF_MEMORY);
     is_copied(&rt, alloc, ResolveError::BuiltinArgumentsInvalid(words));
     is_copied(
         &rt,
@@ -38,23 +38,23 @@ fn a_copy_of_an_error_is_equal(rt: HostRuntime) {
 }
 
 /// Asserts the text of an error.
-fn tells<E: Display + Drop>(rt: &impl Abort, alloc: Global, error: E, text: &str) {
-    let told = error.to_string(alloc).expect(rt, WANT);
+fn shows<E: Display + Drop>(rt: &impl Abort, alloc: Global, error: E, text: &str) {
+    let reported = error.to_string(alloc).expect(rt, OUT_OF_MEMORY);
     drop(error);
-    assert!(rt; told.as_str() == text);
+    assert!(rt; reported.as_str() == text);
 }
 
 #[test]
 fn texts(rt: HostRuntime) {
     let alloc = rt.alloc();
-    tells(
+    shows(
         &rt,
         alloc,
         undefined(&rt, alloc),
         "Function main not defined",
     );
-    tells(&rt, alloc, ResolveError::OutOfMemory, "OutOfMemory");
-    tells(
+    shows(&rt, alloc, ResolveError::OutOfMemory, "OutOfMemory");
+    shows(
         &rt,
         alloc,
         ModuleFault::EmitRange,
@@ -63,6 +63,6 @@ fn texts(rt: HostRuntime) {
 }
 
 #[test]
-fn a_missing_special_type_is_told(rt: HostRuntime) {
+fn a_missing_special_type_is_reported(rt: HostRuntime) {
     assert!(rt; ResolveError::from(MissingSpecialType) == ResolveError::MissingSpecialType);
 }

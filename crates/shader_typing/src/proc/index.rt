@@ -1,9 +1,6 @@
 //! The names of naga's `proc::index`: lengths, known indexes and bounds checks.
-pub use shader_indexes::{
-    BoundsCheckPolicies, BoundsCheckPolicy, GuardedIndex, access_needs_check, find_checked_indexes,
-    length_of_base, oob_local_types,
-};
-pub use shader_lengths::{
-    IndexableLength, IndexableLengthError, IndexableLengths, ToIndexableLength, base_length,
-    known_index_among, sizes_known,
+pub use shader_bounds::{
+    BoundsCheckPolicies, BoundsCheckPolicy, GuardedIndex, IndexableLength, IndexableLengthError,
+    IndexableLengths, ToIndexableLength, access_needs_check, base_length, find_checked_indexes,
+    known_index_among, length_of_base, oob_local_types, sizes_known,
 };

@@ -1,65 +1,65 @@
-//! What is asked of an analysis.
+//! Parsing of questions about an analysis.
 use crate::words::Words;
 use shader_arena::Handle;
-use shader_typing::valid::{Capabilities, GlobalOrArgument, ValidationFlags};
+use shader_info::{Capabilities, GlobalOrArgument, ValidationFlags};
 
-/// What is asked of what is recorded of a function.
+/// A section of the results for a function.
 #[derive(Clone, Copy)]
 pub enum Part {
-    /// Why each expression may differ among invocations: the place of a source, or `-`.
+    /// The source of each expression's non-uniformity, by position, or `-`.
     Origins,
-    /// How often each expression is an operand.
+    /// The reference count of each expression.
     Counts,
-    /// What it asks of the flow, in a number.
+    /// The requirements on control flow, as a number.
     Needs,
-    /// Whether it may end an invocation while others go on.
+    /// Whether the function may end an invocation while others continue.
     Kills,
-    /// How it uses each global, in numbers.
+    /// The uses of each global variable, as numbers.
     Uses,
-    /// Why its result may differ among invocations: the place of a source, or `-`.
+    /// The source of the result's non-uniformity, by position, or `-`.
     Result,
-    /// How many pairs it has with an argument, and how many without.
+    /// The number of pairs with an argument, and of those without.
     Pairs,
-    /// Whether it samples the first with the second, of which one is an argument.
+    /// Whether the function samples the first with the second, at least one of which is an argument.
     Samples(GlobalOrArgument, GlobalOrArgument),
 }
 
-/// What is asked of a module that was analysed.
+/// A question about an analysed module.
 #[derive(Clone, Copy)]
-pub enum Asked {
-    /// What is told of each function and entry point.
+pub enum Queried {
+    /// The results for each function and entry point.
     Module,
-    /// The part of what is recorded of the function at the place.
+    /// The section of the results for the function at the position.
     Function(u32, Part),
-    /// The part of what is recorded of the entry point at the place.
+    /// The section of the results for the entry point at the position.
     EntryPoint(u32, Part),
-    /// How many functions sample the first with the second.
+    /// The number of functions that sample the first with the second.
     Samplings(GlobalOrArgument, GlobalOrArgument),
-    /// Whether the global expression at the place is a u32.
+    /// Whether the global expression at the position is a u32.
     Constant(u32),
 }
 
-/// What is asked, and what is analysed for it.
+/// A question, by the analysis that it requires.
 #[derive(Clone, Copy)]
 pub enum Question {
-    /// The whole module, where flow is checked and no capability is given.
-    Analyzed(Asked),
-    /// A part of what is recorded of the first function by itself, where flow is checked and no capability is given.
+    /// A question about the whole module, with control flow checked and without capabilities.
+    Analyzed(Queried),
+    /// A section of the results for the first function alone, with control flow checked and without capabilities.
     First(Part),
     /// Whether the first function is accepted with these flags and capabilities.
     Verdict(ValidationFlags, Capabilities),
 }
 
-fn place_from_words(words: &mut Words<'_>) -> Option<GlobalOrArgument> {
+fn resource_from_words(words: &mut Words<'_>) -> Option<GlobalOrArgument> {
     match (words.next_word(), words.number()) {
-        ("global", Some(place)) => Some(GlobalOrArgument::Global(Handle::from_index(place))),
-        ("argument", Some(place)) => Some(GlobalOrArgument::Argument(place)),
+        ("global", Some(position)) => Some(GlobalOrArgument::Global(Handle::from_index(position))),
+        ("argument", Some(position)) => Some(GlobalOrArgument::Argument(position)),
         _ => None,
     }
 }
 
 fn pair_from_words(words: &mut Words<'_>) -> Option<(GlobalOrArgument, GlobalOrArgument)> {
-    match (place_from_words(words), place_from_words(words)) {
+    match (resource_from_words(words), resource_from_words(words)) {
         (Some(image), Some(sampler)) => Some((image, sampler)),
         _ => None,
     }
@@ -82,7 +82,7 @@ fn part_from_words(word: &str, words: &mut Words<'_>) -> Option<Part> {
     })
 }
 
-/// The flags that the word stands for: whether flow is checked.
+/// Returns the flags that the word stands for: whether control flow is checked.
 fn flags_from_word(word: &str) -> Option<ValidationFlags> {
     match word {
         "checked" => Some(ValidationFlags::CONTROL_FLOW_UNIFORMITY),
@@ -97,27 +97,27 @@ fn verdict_from_words(words: &mut Words<'_>) -> Option<Question> {
     Some(Question::Verdict(flags, Capabilities(capabilities as u64)))
 }
 
-fn place_and_part_from_words(words: &mut Words<'_>) -> Option<(u32, Part)> {
-    let place = words.number()?;
+fn index_and_part_from_words(words: &mut Words<'_>) -> Option<(u32, Part)> {
+    let position = words.number()?;
     let word = words.next_word();
-    Some((place, part_from_words(word, words)?))
+    Some((position, part_from_words(word, words)?))
 }
 
-fn asked_from_words(kind: &str, words: &mut Words<'_>) -> Option<Asked> {
+fn query_from_words(kind: &str, words: &mut Words<'_>) -> Option<Queried> {
     Some(match kind {
-        "module" => Asked::Module,
+        "module" => Queried::Module,
         "function" => {
-            let (place, part) = place_and_part_from_words(words)?;
-            Asked::Function(place, part)
+            let (position, part) = index_and_part_from_words(words)?;
+            Queried::Function(position, part)
         }
         "entry" => {
-            let (place, part) = place_and_part_from_words(words)?;
-            Asked::EntryPoint(place, part)
+            let (position, part) = index_and_part_from_words(words)?;
+            Queried::EntryPoint(position, part)
         }
-        "constant" => Asked::Constant(words.number()?),
+        "constant" => Queried::Constant(words.number()?),
         "samplings" => {
             let (image, sampler) = pair_from_words(words)?;
-            Asked::Samplings(image, sampler)
+            Queried::Samplings(image, sampler)
         }
         _ => return None,
     })
@@ -133,12 +133,12 @@ fn first_from_words(words: &mut Words<'_>) -> Option<Question> {
 fn question_from_words(words: &mut Words<'_>) -> Option<Question> {
     match words.next_word() {
         "first" => first_from_words(words),
-        kind => Some(Question::Analyzed(asked_from_words(kind, words)?)),
+        kind => Some(Question::Analyzed(query_from_words(kind, words)?)),
     }
 }
 
 impl Question {
-    /// The question that the words are, if they are one.
+    /// Returns the question that the words spell, if any.
     pub fn from_words(words: Words<'_>) -> Option<Question> {
         let mut words = words;
         let question = question_from_words(&mut words)?;

@@ -1,28 +1,29 @@
-//! What is analysed for a question, and what is told of that.
+//! The analyses that questions require, and the answers from their results.
 ghost use Rattle.std.specs.Prelude.{◌≡◌, ◌<◌, length, IfOk, IfSome};
 
-use crate::analysis::question::{Asked, Part};
-use crate::analysis::telling::{add_counts, add_error, add_module, add_origins, add_uses};
+use crate::analysis::question::{Part, Queried};
+use crate::analysis::rendering::{add_counts, add_error, add_module, add_origins, add_uses};
+use shader_analysis::{ModuleInfo, analyze_module};
 use shader_arena::Handle;
+use shader_info::{
+    AnalysisError, AnalysisLocation, Capabilities, FunctionInfo, GlobalOrArgument, ValidationFlags,
+};
 use shader_ir::{Module, Scalar, TypeInner, TypeResolution, mark};
 use shader_resolve::check_module;
-use shader_typing::valid::{
-    AnalysisError, AnalysisPlace, Capabilities, FunctionInfo, GlobalOrArgument, ModuleInfo,
-    ValidationFlags, analyze_module,
-};
 use std::alloc::{AllocError, Global};
 
-/// Flow is checked.
+/// The flags that check control flow.
 const CHECKED: ValidationFlags = ValidationFlags(1);
 
-/// No capability is given.
+/// The empty set of capabilities.
 const PLAIN: Capabilities = Capabilities(0);
 
-/// What is recorded of a module that is well formed, or why it is refused.
+/// Returns the analysis result for a well-formed module: the infos, or the reason for its rejection.
 fn analyzed(alloc: Global, module: &Module) -> Option<Result<ModuleInfo, AnalysisError>>
-    ensures functions { IfSome result (λ told. IfOk told (λ info. length info.functions ≡ length «module».now.functions)) }
-    ensures entry_points { IfSome result (λ told. IfOk told (λ info. length info.entry_points ≡ length «module».now.entry_points)) }
-    ensures types { IfSome result (λ told. IfOk told (λ info. length info.global_expressions ≡ length «module».now.global_expressions)) }
+    ensures functions { IfSome result (λ reported. IfOk reported (λ info. length info.functions ≡ length «module».now.functions)) }
+    ensures entry_points { IfSome result (λ reported. IfOk reported (λ info. length info.entry_points ≡ length «module».now.entry_points)) }
+    ensures types { IfSome result
+        (λ reported. IfOk reported (λ info. length info.global_expressions ≡ length «module».now.global_expressions)) }
 {
     if check_module(module).is_err() {
         return None;
@@ -30,7 +31,7 @@ fn analyzed(alloc: Global, module: &Module) -> Option<Result<ModuleInfo, Analysi
     Some(analyze_module(alloc, module, CHECKED, PLAIN))
 }
 
-/// What is recorded of the first function of a module that is well formed, or why it is refused.
+/// Returns the analysis result for the first function of a well-formed module: the info, or the reason for its rejection.
 fn processed(
     alloc: Global,
     module: &Module,
@@ -42,9 +43,9 @@ fn processed(
         return None;
     }
     let _function = &module.functions[first];
-    let place = AnalysisPlace::Function(first);
+    let location = AnalysisLocation::Function(first);
     let infos = ModuleInfo::new(alloc);
-    let answer = infos.process_function(alloc, place, module, flags, capabilities);
+    let answer = infos.process_function(location, module, flags, capabilities);
     drop(infos);
     Some(answer)
 }
@@ -84,14 +85,14 @@ fn error_text(alloc: Global, error: &AnalysisError) -> Result<String, AllocError
     Ok(text)
 }
 
-fn samples(infos: &ModuleInfo, place: u32, pair: &(GlobalOrArgument, GlobalOrArgument)) -> bool
-    requires { place < length infos.now.functions }
+fn samples(infos: &ModuleInfo, position: u32, pair: &(GlobalOrArgument, GlobalOrArgument)) -> bool
+    requires { position < length infos.now.functions }
 {
-    let handle: Handle<mark::Function> = Handle::from_index(place);
+    let handle: Handle<mark::Function> = Handle::from_index(position);
     infos[handle].has_sampling(pair.0, pair.1)
 }
 
-/// How many functions sample the first of the pair with the second.
+/// Returns the number of functions that sample the first of the pair with the second.
 fn samplings(
     module: &Module,
     infos: &ModuleInfo,
@@ -100,8 +101,8 @@ fn samplings(
     requires { length infos.now.functions ≡ length «module».now.functions }
 {
     let mut count = 0u32;
-    for place in 0..module.functions.len() {
-        if samples(infos, place as u32, pair) {
+    for position in 0..module.functions.len() {
+        if samples(infos, position as u32, pair) {
             count = count.saturating_add(1);
         }
     }
@@ -112,12 +113,12 @@ fn function_text(
     alloc: Global,
     module: &Module,
     infos: &ModuleInfo,
-    place: u32,
+    position: u32,
     part: Part,
 ) -> Result<Option<String>, AllocError>
     requires { length infos.now.functions ≡ length «module».now.functions }
 {
-    let handle: Handle<mark::Function> = Handle::from_index(place);
+    let handle: Handle<mark::Function> = Handle::from_index(position);
     if !module.functions.contains_handle(handle) {
         return Ok(None);
     }
@@ -128,26 +129,26 @@ fn entry_point_text(
     alloc: Global,
     module: &Module,
     infos: &ModuleInfo,
-    place: usize,
+    position: usize,
     part: Part,
 ) -> Result<Option<String>, AllocError>
     requires { length infos.now.entry_points ≡ length «module».now.entry_points }
 {
-    if place >= module.entry_points.len() {
+    if position >= module.entry_points.len() {
         return Ok(None);
     }
-    Ok(Some(part_text(alloc, infos.get_entry_point(place), part)?))
+    Ok(Some(part_text(alloc, infos.get_entry_point(position), part)?))
 }
 
 fn constant_text(
     alloc: Global,
     module: &Module,
     infos: &ModuleInfo,
-    place: u32,
+    position: u32,
 ) -> Result<Option<String>, AllocError>
     requires { length infos.now.global_expressions ≡ length «module».now.global_expressions }
 {
-    let handle: Handle<mark::Expression> = Handle::from_index(place);
+    let handle: Handle<mark::Expression> = Handle::from_index(position);
     if !module.global_expressions.contains_handle(handle) {
         return Ok(None);
     }
@@ -185,34 +186,34 @@ fn text_of(
     alloc: Global,
     module: &Module,
     infos: &ModuleInfo,
-    asked: Asked,
+    queried: Queried,
 ) -> Result<Option<String>, AllocError>
     requires functions { length infos.now.functions ≡ length «module».now.functions }
     requires entry_points { length infos.now.entry_points ≡ length «module».now.entry_points }
     requires types { length infos.now.global_expressions ≡ length «module».now.global_expressions }
 {
-    match asked {
-        Asked::Module => module_text(alloc, module, infos),
-        Asked::Function(place, part) => function_text(alloc, module, infos, place, part),
-        Asked::EntryPoint(place, part) => {
-            entry_point_text(alloc, module, infos, place as usize, part)
+    match queried {
+        Queried::Module => module_text(alloc, module, infos),
+        Queried::Function(position, part) => function_text(alloc, module, infos, position, part),
+        Queried::EntryPoint(position, part) => {
+            entry_point_text(alloc, module, infos, position as usize, part)
         }
-        Asked::Samplings(image, sampler) => {
+        Queried::Samplings(image, sampler) => {
             samplings_text(alloc, module, infos, &(image, sampler))
         }
-        Asked::Constant(place) => constant_text(alloc, module, infos, place),
+        Queried::Constant(position) => constant_text(alloc, module, infos, position),
     }
 }
 
-/// What is told of the module, where flow is checked and no capability is given, or the first fault.
-pub fn told_of_module(
+/// Returns the answer about the module, with control flow checked and without capabilities, or the first violation.
+pub fn report_of_module(
     alloc: Global,
     module: &Module,
-    asked: Asked,
+    queried: Queried,
 ) -> Result<Option<String>, AllocError> {
     match analyzed(alloc, module) {
         Some(Ok(infos)) => {
-            let text = text_of(alloc, module, &infos, asked);
+            let text = text_of(alloc, module, &infos, queried);
             drop(infos);
             text
         }
@@ -221,8 +222,8 @@ pub fn told_of_module(
     }
 }
 
-/// The part of what is recorded of the first function by itself, where flow is checked and no capability is given, or its fault.
-pub fn told_of_first(
+/// Returns the section of the results for the first function alone, with control flow checked and without capabilities, or its violation.
+pub fn report_of_first(
     alloc: Global,
     module: &Module,
     part: Part,
@@ -238,7 +239,7 @@ pub fn told_of_first(
     }
 }
 
-/// Whether the first function is accepted, or why not.
+/// Returns `accepted` for the first function, or the reason for its rejection.
 pub fn verdict_on_first(
     alloc: Global,
     module: &Module,

@@ -1,38 +1,38 @@
-//! What is asked of indexes.
+//! Parsing of questions about indexes.
 use crate::words::Words;
 use shader_arena::Handle;
+use shader_bounds::{BoundsCheckPolicies, BoundsCheckPolicy, GuardedIndex};
 use shader_ir::mark;
-use shader_typing::proc::index::{BoundsCheckPolicies, BoundsCheckPolicy, GuardedIndex};
 
-/// Where a function stands.
+/// A function of a module, by the list that contains it.
 #[derive(Clone, Copy)]
-pub enum Place {
-    /// Among the functions of the module.
+pub enum Location {
+    /// A function of the module.
     Function(u32),
-    /// Among its entry points.
+    /// An entry point.
     EntryPoint(u32),
 }
 
-/// What is asked of a function, by what is recorded of it.
+/// A query of a function, given its analysis result.
 #[derive(Clone, Copy)]
-pub enum Asked {
-    /// The indexes that are checked.
+pub enum Queried {
+    /// The checked indexes.
     Checked(BoundsCheckPolicies),
-    /// The types of which a local is needed.
+    /// The types that need a local variable.
     Locals(BoundsCheckPolicies),
     /// The policy of an access to the expression.
     Policy(BoundsCheckPolicies, Handle<mark::Expression>),
-    /// The length that the index into the expression is compared with.
+    /// The length with which the index into the expression is compared.
     Compared(Handle<mark::Expression>, GuardedIndex),
 }
 
-/// What is asked.
+/// A question about indexes.
 #[derive(Clone, Copy)]
 pub enum Question {
-    /// Which policies are among these.
+    /// The policies that occur among these.
     Policies(BoundsCheckPolicies),
-    /// What is asked of the function at the place.
-    Function(Place, Asked),
+    /// A query of the function at the position.
+    Function(Location, Queried),
 }
 
 fn policy_from_word(word: &str) -> Option<BoundsCheckPolicy> {
@@ -44,7 +44,7 @@ fn policy_from_word(word: &str) -> Option<BoundsCheckPolicy> {
     }
 }
 
-/// Gives the kind of access that `KIND=POLICY` names its policy.
+/// Sets the policy of the kind of access named by `KIND=POLICY`.
 fn set_policy(policies: &mut BoundsCheckPolicies, word: &str) -> Option<()> {
     let (kind, policy) = word.split_once('=')?;
     let policy = policy_from_word(policy)?;
@@ -76,41 +76,41 @@ fn index_from_word(word: &str) -> Option<GuardedIndex> {
         };
     }
     match word.strip_prefix('e')?.parse::<u32>() {
-        Ok(place) => Some(GuardedIndex::Expression(Handle::from_index(place))),
+        Ok(position) => Some(GuardedIndex::Expression(Handle::from_index(position))),
         Err(_) => None,
     }
 }
 
-fn asked_from_words(words: &mut Words<'_>) -> Option<Asked> {
+fn query_from_words(words: &mut Words<'_>) -> Option<Queried> {
     match words.next_word() {
-        "checked" => Some(Asked::Checked(policies_from_word(words.next_word())?)),
-        "locals" => Some(Asked::Locals(policies_from_word(words.next_word())?)),
+        "checked" => Some(Queried::Checked(policies_from_word(words.next_word())?)),
+        "locals" => Some(Queried::Locals(policies_from_word(words.next_word())?)),
         "policy" => {
             let policies = policies_from_word(words.next_word())?;
-            Some(Asked::Policy(policies, Handle::from_index(words.number()?)))
+            Some(Queried::Policy(policies, Handle::from_index(words.number()?)))
         }
         "compare" => {
             let base = Handle::from_index(words.number()?);
-            Some(Asked::Compared(base, index_from_word(words.next_word())?))
+            Some(Queried::Compared(base, index_from_word(words.next_word())?))
         }
         _ => None,
     }
 }
 
 fn question_from_words(words: &mut Words<'_>) -> Option<Question> {
-    let place = match words.next_word() {
+    let location = match words.next_word() {
         "policies" => {
             return policies_from_word(words.next_word()).map(Question::Policies);
         }
-        "function" => Place::Function(words.number()?),
-        "entry" => Place::EntryPoint(words.number()?),
+        "function" => Location::Function(words.number()?),
+        "entry" => Location::EntryPoint(words.number()?),
         _ => return None,
     };
-    Some(Question::Function(place, asked_from_words(words)?))
+    Some(Question::Function(location, query_from_words(words)?))
 }
 
 impl Question {
-    /// The question that the words are, if they are one.
+    /// Returns the question that the words spell, if any.
     pub fn from_words(words: Words<'_>) -> Option<Question> {
         let mut words = words;
         let question = question_from_words(&mut words)?;

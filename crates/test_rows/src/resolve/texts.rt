@@ -1,10 +1,10 @@
-//! Types and refusals as answers.
+//! Types and errors in printed form.
 use shader_ir::{Scalar, ScalarKind, TypeInner, TypeResolution, vector_size_str};
 use shader_resolve::ResolveError;
 use std::alloc::{AllocError, Global};
 use std::fmt;
 
-/// A scalar as module texts have it, or as `Debug` prints it where they have no word for it.
+/// A scalar as in module texts, or as `Debug` prints it if these have no word for it.
 #[derive(Clone, Copy)]
 struct ScalarText(Scalar);
 
@@ -23,7 +23,7 @@ impl fmt::Display for ScalarText {
     }
 }
 
-/// A scalar, vector or matrix as module texts have it, and any other type as `Debug` prints it.
+/// A scalar, vector or matrix as in module texts, and any other type as `Debug` prints it.
 #[derive(Clone, Copy)]
 pub struct InnerText<'a>(pub &'a TypeInner);
 
@@ -47,7 +47,7 @@ impl fmt::Display for InnerText<'_> {
     }
 }
 
-/// A type of the module by its place, or a free-standing one.
+/// A type of the module by its position, or a type outside the arena.
 #[derive(Clone, Copy)]
 pub struct ResolutionText<'a>(pub &'a TypeResolution);
 
@@ -60,7 +60,7 @@ impl fmt::Display for ResolutionText<'_> {
     }
 }
 
-/// Tells why there is no type, by a copy of the refusal.
+/// Returns the reason why there is no type, from a copy of the error.
 fn refusal_text(alloc: Global, error: &ResolveError) -> Result<String, AllocError> {
     if *error == ResolveError::OutOfMemory {
         return Err(AllocError);
@@ -73,7 +73,7 @@ fn refusal_text(alloc: Global, error: &ResolveError) -> Result<String, AllocErro
     }
 }
 
-/// Tells a type, or why there is none.
+/// Returns a type as text, or the reason why there is none.
 pub fn resolved_text(
     alloc: Global,
     resolved: &Result<TypeResolution, ResolveError>,

@@ -1,15 +1,15 @@
-//! What is told of what expressions resolve to.
+//! Queries of resolutions of expressions.
 ghost use Rattle.shader_ir.specs.Key.{FitsTypes};
 ghost use Rattle.shader_ir.specs.TypeTree.{IsBackward};
 
-use crate::told::{Reply, told};
+use crate::render::{Reply, render};
 use crate::types::Types;
 use crate::words::Words;
 use shader_arena::Handle;
 use shader_ir::{TypeResolution, compare_types, mark, types_backward};
 use std::alloc::{AllocError, Global};
 
-/// The number behind a letter.
+/// Returns the number after a letter.
 fn number_behind(word: &str, letter: char) -> Option<u32> {
     match word.strip_prefix(letter) {
         Some(number) => number.parse::<u32>().ok(),
@@ -17,21 +17,20 @@ fn number_behind(word: &str, letter: char) -> Option<u32> {
     }
 }
 
-/// The type at the handle as a value, where it is there.
+/// Returns the type at the handle as a value, if it is in range.
 fn value_at(
     alloc: Global,
     types: &Types,
     handle: Handle<mark::Type>,
 ) -> Result<Option<TypeResolution>, AllocError> {
-    if types.contains_handle(handle) {
-        let inner = types[handle].inner.copy(alloc)?;
-        Ok(Some(TypeResolution::Value(inner)))
-    } else {
-        Ok(None)
+    match types.try_get(handle) {
+        Some(ty) => Ok(Some(TypeResolution::Value(ty.inner.copy(alloc)?))),
+        None => Ok(None),
     }
 }
 
-/// What an expression is said to resolve to: a handle, which may be of no type, or a value.
+/// Returns the resolution that the next word spells: a handle, which may be out of range, or a
+/// value.
 pub fn next_resolution(
     alloc: Global,
     words: &mut Words<'_>,
@@ -47,12 +46,12 @@ pub fn next_resolution(
     }
 }
 
-/// What is told of one.
-fn tell(alloc: Global, query: &str, resolution: &TypeResolution, types: &Types) -> Reply {
+/// Returns the reply to a query of one resolution.
+fn answer_query(alloc: Global, query: &str, resolution: &TypeResolution, types: &Types) -> Reply {
     match query {
-        "fits" => told(alloc, resolution.fits(types)),
-        "handle" => told(alloc, resolution.handle()),
-        "copy" => told(alloc, resolution.copy(alloc)? == *resolution),
+        "fits" => render(alloc, resolution.fits(types)),
+        "handle" => render(alloc, resolution.handle()),
+        "copy" => render(alloc, resolution.copy(alloc)? == *resolution),
         _ => {
             if resolution.fits(types) {
                 format!(in alloc; "{:?}", resolution.inner_with(types)).map(Some)
@@ -63,8 +62,8 @@ fn tell(alloc: Global, query: &str, resolution: &TypeResolution, types: &Types) 
     }
 }
 
-/// What is told of two.
-fn tell_pair(
+/// Returns the reply to a query of two resolutions.
+fn render_pair(
     alloc: Global,
     query: &str,
     left: &TypeResolution,
@@ -72,30 +71,30 @@ fn tell_pair(
     types: &Types,
 ) -> Reply {
     if query == "equal" {
-        return told(alloc, left == right);
+        return render(alloc, left == right);
     }
     if types_backward(types) && left.fits(types) && right.fits(types) {
-        told(alloc, compare_types(left, right, types))
+        render(alloc, compare_types(left, right, types))
     } else {
         Ok(None)
     }
 }
 
-/// Answers a question about the one that the words name.
+/// Answers a question about the resolution that the words name.
 pub fn reply(alloc: Global, query: &str, mut words: Words<'_>, types: &Types) -> Reply {
     match next_resolution(alloc, &mut words, types)? {
-        Some(resolution) => tell(alloc, query, &resolution, types),
+        Some(resolution) => answer_query(alloc, query, &resolution, types),
         None => Ok(None),
     }
 }
 
-/// Answers a question about the two that the words name.
+/// Answers a question about the two resolutions that the words name.
 pub fn reply_of_two(alloc: Global, query: &str, mut words: Words<'_>, types: &Types) -> Reply {
     let Some(left) = next_resolution(alloc, &mut words, types)? else {
         return Ok(None);
     };
     match next_resolution(alloc, &mut words, types)? {
-        Some(right) => tell_pair(alloc, query, &left, &right, types),
+        Some(right) => render_pair(alloc, query, &left, &right, types),
         None => Ok(None),
     }
 }

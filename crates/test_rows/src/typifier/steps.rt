@@ -9,14 +9,14 @@ use std::alloc::{AllocError, Global};
 
 type Answer = Result<Option<String>, AllocError>;
 
-/// How a table changes.
+/// A change of the table.
 #[derive(Clone, Copy)]
 enum Change {
     Grow,
     Invalidate,
 }
 
-/// A table of the types of a function, and an arena that takes them.
+/// A table of the types of a function, and an arena in which they are registered.
 #[derive(Drop)]
 pub struct Table<'a> {
     pub alloc: Global,
@@ -27,7 +27,7 @@ pub struct Table<'a> {
 }
 
 impl<'a> Table<'a> {
-    /// One that holds no types, beside a copy of the module's.
+    /// Returns an empty table with a copy of the module's arena.
     pub fn new(
         alloc: Global,
         module: &'a Module,
@@ -43,7 +43,7 @@ impl<'a> Table<'a> {
         })
     }
 
-    /// Changes the table, if that can be asked.
+    /// Changes the table, if the change applies.
     fn changed(
         &mut self,
         change: Change,
@@ -69,7 +69,7 @@ impl<'a> Table<'a> {
         })
     }
 
-    /// Tells how a change of the table ended.
+    /// Changes the table, and returns the outcome as text.
     fn change(&mut self, change: Change, handle: Handle<mark::Expression>) -> Answer {
         let text = match self.changed(change, handle) {
             Some(Ok(())) => "ok".to_string(self.alloc),
@@ -80,8 +80,8 @@ impl<'a> Table<'a> {
         text.map(Some)
     }
 
-    /// Tells which types are held.
-    fn held(&self) -> Result<String, AllocError> {
+    /// Returns the stored types as text.
+    fn stored(&self) -> Result<String, AllocError> {
         let mut text = format!(in self.alloc; "{}", self.typifier.len())?;
         for (handle, _) in self.function.expressions.iter() {
             if handle.index() < self.typifier.len() {
@@ -91,7 +91,7 @@ impl<'a> Table<'a> {
         Ok(text)
     }
 
-    /// Tells the shape of the type of an expression.
+    /// Returns the shape of the type of an expression as text.
     fn shape(&self, handle: Handle<mark::Expression>) -> Answer {
         let types = &self.module.types;
         if handle.index() < self.typifier.len() && self.typifier.fits(types) {
@@ -124,16 +124,16 @@ impl<'a> Table<'a> {
         }
     }
 
-    /// Takes the step that the words are. Its answer, if it is one that can be taken.
+    /// Takes the step that the words spell, and returns its answer if it applies.
     pub fn take(&mut self, mut words: Words<'_>) -> Answer {
         match words.next_word() {
-            "held" => self.held().map(Some),
+            "stored" => self.stored().map(Some),
             "reset" => {
                 self.typifier.reset();
                 "ok".to_string(self.alloc).map(Some)
             }
             word => match words.number() {
-                Some(place) => self.take_at(word, Handle::from_index(place)),
+                Some(position) => self.take_at(word, Handle::from_index(position)),
                 None => Ok(None),
             },
         }

@@ -2,6 +2,6 @@ use Rattle.shader_overloads.specs.AnySet.{rules_in}
 use Rattle.shader_overloads.specs.Remaining.{RulesFit}
 use Rattle.bench.proofs.calls.supply.Given as goal
 
--- the rules that are left fit the types
+-- the remaining rules fit the types
 abbrev pub invariant-loop-i : goal.invariant-loop-i
 invariant-loop-i l = RulesFit l.types (rules_in l.left)

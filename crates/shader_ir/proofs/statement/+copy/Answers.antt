@@ -4,7 +4,7 @@ use Rattle.shader_ir.specs.BodyOf.{body_of}
 use Rattle.shader_ir.proofs.CopyLemmas.{next_statement}
 use Rattle.shader_ir.proofs.statement.+copy.Goals as goal
 
--- one more statement
+-- the next statement moves to those copied
 pub Block::copy-loop-statement-preserved : goal.Block::copy-loop-statement-preserved
 Block::copy-loop-statement-preserved t c =
     let items = c.deref-statement-items.result.now in

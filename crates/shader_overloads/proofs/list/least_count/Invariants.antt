@@ -1,13 +1,13 @@
-use Rattle.shader_overloads.specs.Masks.{has_place, word_sum}
+use Rattle.shader_overloads.specs.Masks.{has_position, word_sum}
 use Rattle.shader_overloads.proofs.ListCountLemmas.{AtMost, BestSoFar}
 use Rattle.shader_overloads.proofs.TableLemmas.{IsInside}
 use Rattle.shader_overloads.proofs.list.least_count.Given as goal
 
-abbrev pub invariant-loop-row : goal.invariant-loop-row
-invariant-loop-row l = record {
-  best : BestSoFar AtMost (has_place l.fn.mask) (has_place l.left) l.rules l.least;
+abbrev pub invariant-loop-number : goal.invariant-loop-number
+invariant-loop-number l = record {
+  best : BestSoFar AtMost (has_position l.fn.mask) (has_position l.left) l.rules l.least;
   inside : IsInside l.left l.fn.mask;
 }
 
-abbrev pub decreases-loop-row : goal.decreases-loop-row
-decreases-loop-row l = word_sum l.left
+abbrev pub decreases-loop-number : goal.decreases-loop-number
+decreases-loop-number l = word_sum l.left

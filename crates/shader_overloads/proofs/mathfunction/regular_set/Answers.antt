@@ -2,7 +2,7 @@ use Rattle.std.proofs.Common.{refl, sym, ◌∙◌}
 use Rattle.shader_overloads.proofs.BuiltinLemmas.{joined}
 use Rattle.shader_overloads.proofs.mathfunction.regular_set.Goals as goal
 
--- none of the groups before has the builtin, and those after it aren't asked
+-- none of the groups before contains the function, and those after it aren't consulted
 pub returns-in-Some : goal.returns-in-Some
 returns-in-Some c =
     joined c.args.function (sym c.in-Some.is ∙ c.float_set.ensures) refl refl refl refl refl

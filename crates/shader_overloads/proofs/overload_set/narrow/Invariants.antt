@@ -2,7 +2,7 @@ use Rattle.std.proofs.Common.{◌≡◌, drop}
 use Rattle.shader_overloads.specs.Remaining.{remaining, RulesFit}
 use Rattle.shader_overloads.proofs.overload_set.narrow.Given as goal
 
--- what the other calls leave of the set is what all calls leave of the first one
+-- the remaining calls leave of the current set what all calls leave of the first one
 abbrev pub invariant-loop-call : goal.invariant-loop-call
 invariant-loop-call g l =
     let rules = g.S.OverloadSet.rules in

@@ -1,5 +1,5 @@
-//! A table of types that grows over a literal, a vector of it and a sum: where a growth is refused, the types that were held stay, and the
-//! call made again goes on behind them.
+//! Tests of a table of types that grows over a literal, a vector of it and a sum: if a growth fails, the types stored are kept, and the
+//! same call continues after them.
 ghost use Rattle.std.specs.Prelude.{◌<◌, All, length};
 ghost use Rattle.shader_ir.specs.Key.{FitsTypes};
 ghost use Rattle.shader_ir.specs.TypeTree.{IsBackward};
@@ -16,25 +16,25 @@ use std::alloc::Global;
 use std::io::Print;
 use std::process::Abort;
 
-const WANT: &str = "want of memory";
+const OUT_OF_MEMORY: &str = "want of memory";
 
 type Expressions = Arena<Expression, mark::Expression>;
 
-/// Says that memory was refused, for the sweep over refused requests.
+/// Prints that an allocation failed, for fault injection.
 fn say(rt: &impl Print, what: &str) {
     match println!(rt; "{what} was refused") {
         Ok(()) | Err(_) => {}
     }
 }
 
-/// Adds an expression last, and again where memory was refused.
+/// Adds an expression at the end, repeated if an allocation failed.
 fn add(rt: &(impl Abort + Print), expressions: &mut Expressions, expression: Expression) {
     assert!(rt; expressions.len() < 10);
     match expressions.append(expression) {
         Ok(_) => {}
         Err(failed) => {
             say(rt, "an expression");
-            expressions.append(failed.value).expect(rt, WANT);
+            expressions.append(failed.value).expect(rt, OUT_OF_MEMORY);
         }
     }
 }
@@ -53,7 +53,7 @@ fn expressions(rt: &(impl Abort + Print), alloc: Global) -> Expressions {
     expressions
 }
 
-/// Lets a table grow, and again where memory was refused.
+/// Grows a table, repeated if an allocation failed.
 fn grow(
     rt: &(impl Abort + Print),
     alloc: Global,
@@ -68,16 +68,19 @@ fn grow(
     ensures { All (FitsTypes context.now.types) typifier.new }
 {
     let before = typifier.len();
-    let told = typifier.grow(alloc, handle, expressions, context);
-    if !matches!(told, Err(TypifyError::Resolve(ResolveError::OutOfMemory))) {
-        return told;
+    let reported = typifier.grow(alloc, handle, expressions, context);
+    if !matches!(
+        reported,
+        Err(TypifyError::Resolve(ResolveError::OutOfMemory))
+    ) {
+        return reported;
     }
     say(rt, "a type");
     assert!(rt; typifier.len() >= before);
     typifier.grow(alloc, handle, expressions, context)
 }
 
-/// Registers a type, and again where memory was refused.
+/// Registers a type, repeated if an allocation failed.
 fn register(
     rt: &(impl Abort + Print),
     alloc: Global,
@@ -94,12 +97,12 @@ fn register(
             assert!(rt; types.len() == before);
             typifier
                 .register_type(alloc, handle, types)
-                .expect(rt, WANT)
+                .expect(rt, OUT_OF_MEMORY)
         }
     }
 }
 
-/// Whether a resolution is a vector of three floats.
+/// Returns whether a resolution is a vector of three floats.
 fn is_vector(resolution: &TypeResolution) -> bool {
     matches!(
         resolution,
@@ -110,7 +113,7 @@ fn is_vector(resolution: &TypeResolution) -> bool {
     )
 }
 
-/// Asserts that a table holds a float and two vectors of it.
+/// Asserts that a table contains a float and two vectors of it.
 fn holds(rt: &impl Abort, typifier: &Typifier) {
     assert!(rt; typifier.len() == 3);
     assert!(rt;
@@ -122,22 +125,22 @@ fn holds(rt: &impl Abort, typifier: &Typifier) {
     assert!(rt; is_vector(&typifier[at(1)]) && is_vector(&typifier[at(2)]));
 }
 
-/// A table of the types of all expressions, which has grown over the first, over all, and anew from the first on.
+/// Returns a table of the types of all expressions, which has grown over the first, over all, and anew from the first on.
 fn grown(rt: &(impl Abort + Print), alloc: Global, expressions: &Expressions) -> Typifier {
     let module = Module::new(alloc);
     let locals = Arena::new(alloc);
     let context = ResolveContext::with_locals(&module, &locals, &[]);
     let mut typifier = Typifier::new(alloc);
     assert!(rt; types_backward(&module.types) && expressions.len() == 3);
-    let told = grow(rt, alloc, &mut typifier, at(0), expressions, &context);
-    assert!(rt; told.is_ok() && typifier.len() == 1);
-    let told = grow(rt, alloc, &mut typifier, at(2), expressions, &context);
-    assert!(rt; told.is_ok());
+    let reported = grow(rt, alloc, &mut typifier, at(0), expressions, &context);
+    assert!(rt; reported.is_ok() && typifier.len() == 1);
+    let reported = grow(rt, alloc, &mut typifier, at(2), expressions, &context);
+    assert!(rt; reported.is_ok());
     holds(rt, &typifier);
-    let told = typifier.invalidate(alloc, at(0), expressions, &context);
-    assert!(rt; told.is_ok() && typifier.len() == 1);
-    let told = grow(rt, alloc, &mut typifier, at(2), expressions, &context);
-    assert!(rt; told.is_ok());
+    let reported = typifier.invalidate(alloc, at(0), expressions, &context);
+    assert!(rt; reported.is_ok() && typifier.len() == 1);
+    let reported = grow(rt, alloc, &mut typifier, at(2), expressions, &context);
+    assert!(rt; reported.is_ok());
     drop(locals);
     drop(module);
     typifier
@@ -149,9 +152,9 @@ fn of_grow(rt: HostRuntime) {
     let typifier = grown(&rt, rt.alloc(), &expressions);
     holds(&rt, &typifier);
     let mut types = UniqueArena::new(rt.alloc());
-    for place in 0..3 {
-        let ty = register(&rt, rt.alloc(), &typifier, at(place), &mut types);
-        assert!(rt; ty.index() == if place == 0 { 0 } else { 1 });
+    for position in 0..3 {
+        let ty = register(&rt, rt.alloc(), &typifier, at(position), &mut types);
+        assert!(rt; ty.index() == if position == 0 { 0 } else { 1 });
     }
     assert!(rt; types.len() == 2);
 }

@@ -2,8 +2,8 @@ use Rattle.std.proofs.Common.{◌≡◌, ◌∙◌, List, sym, ap, arith}
 use Rattle.std.specs.List.{filter}
 use Rattle.std.proofs.lemmas.List.{drop_all}
 use Rattle.shader_overloads.specs.AnySet.{rules_in}
-use Rattle.shader_text.specs.declared.types.SpelledType.{SpelledType}
-use Rattle.shader_text.specs.Placements.{own_inner, own_types}
+use Rattle.shader_type_text.specs.declared.types.SpelledType.{SpelledType}
+use Rattle.shader_type_text.specs.Insertions.{own_inner, own_types}
 use Rattle.typer_answers.specs.Calls.{rules_left, takes_all, takes_argument}
 use Rattle.shader_overloads.proofs.NarrowLemmas.{fewer_fit}
 use Rattle.typer_answers.proofs.Supplied.{none_left, supplied}

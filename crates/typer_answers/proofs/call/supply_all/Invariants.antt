@@ -7,7 +7,7 @@ use Rattle.shader_overloads.specs.Remaining.{RulesFit}
 use Rattle.typer_answers.specs.Calls.{rules_left, takes_all}
 use Rattle.typer_answers.proofs.call.supply_all.Given as goal
 
--- what the other arguments leave of the set is what all leave of the builtin's rules
+-- the remaining arguments leave of the current set what all leave of the function's rules
 abbrev pub invariant-loop-i : goal.invariant-loop-i
 invariant-loop-i l = record {
   rest : filter (takes_all l.fn.function l.i (drop l.i l.arguments)) (rules_in l.left) ≡ rules_left l.fn.function l.arguments;

@@ -1,5 +1,5 @@
 use Rattle.std.proofs.Common.{◌≡◌, take}
 use Rattle.shader_arena.proofs.unique_arena.UniqueArena.copy.Given as goal
 
-abbrev pub invariant-loop-place : goal.invariant-loop-place
-invariant-loop-place g l = l.copy ≡ take l.place l.self
+abbrev pub invariant-loop-position : goal.invariant-loop-position
+invariant-loop-position g l = l.copy ≡ take l.position l.self

@@ -1,7 +1,7 @@
 use Rattle.std.proofs.Common.{subst, ap, ◌∙◌}
-use Rattle.shader_arena.specs.Places.{items_of}
+use Rattle.shader_arena.specs.Positions.{items_of}
 use Rattle.shader_arena.specs.Unique.{HasNoEqualItems}
-use Rattle.shader_arena.proofs.PlacesLemmas.{items_of-enumerate_from}
+use Rattle.shader_arena.proofs.PositionsLemmas.{items_of-enumerate_from}
 use Rattle.shader_arena.proofs.UniqueLemmas.{HasNoEqualItems-from_distinct}
 use Rattle.shader_arena.proofs.unique_arena.UniqueArena.iter.Goals as goal
 

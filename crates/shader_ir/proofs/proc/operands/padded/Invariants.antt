@@ -2,5 +2,5 @@ use Rattle.std.proofs.Common.{◌≡◌, ◌++◌, ◌-◌, None, take, replicat
 use Rattle.shader_ir.proofs.proc.operands.padded.Given as goal
 
 -- the first slots are filled
-abbrev pub invariant-loop-place : goal.invariant-loop-place
-invariant-loop-place l = l.all ≡ take l.place l.slots ++ replicate (8 - l.place) None
+abbrev pub invariant-loop-position : goal.invariant-loop-position
+invariant-loop-position l = l.all ≡ take l.position l.slots ++ replicate (8 - l.position) None

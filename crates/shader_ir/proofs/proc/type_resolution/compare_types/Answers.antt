@@ -9,10 +9,10 @@ non_struct_equivalent-requires-clause-rhs_in c = c.inner_with-right.ensures.in_r
 
 pub returns-then-is_struct : goal.returns-then-is_struct
 returns-then-is_struct c =
-    let told = c.is_struct.ensures in
+    let reported = c.is_struct.ensures in
     let keys = struct_keys c.args.types.now c.args.lhs.now c.args.rhs.now c.inner_with-left.result.now c.inner_with-left.ensures.inner
     c.requires.lhs_fits
-    (λ n. let none = told.1 n in let yes = c.if-is_struct.true in absurd (cc)) in
+    (λ n. let none = reported.1 n in let yes = c.if-is_struct.true in absurd (cc)) in
     let same = c.is_same_handle.ensures in
     ((λ e. keys.0 (same.0 e)), (λ e. same.1 (keys.1 e)))
 

@@ -1,5 +1,5 @@
 use Rattle.std.proofs.Common.{arith}
-use Rattle.shader_overloads.proofs.PlaceLemmas.{taken_low, taken_middle, taken_high}
+use Rattle.shader_overloads.proofs.PositionLemmas.{taken_low, taken_middle, taken_high}
 use Rattle.shader_overloads.proofs.mask.Mask.take_first.Goals as goal
 
 pub returns-then-self-ne0-clause-first : goal.returns-then-self-ne0-clause-first

@@ -1,4 +1,4 @@
--- One step takes the lowest set bit.
+-- One step removes the lowest set bit.
 use Rattle.std.proofs.Common.{rules, ap, sym, ◌∙◌, arith, length}
 use Rattle.shader_overloads.specs.Bits.{one_bits}
 use Rattle.shader_overloads.proofs.BitLemmas.{one_bits_step, one_bits_none}

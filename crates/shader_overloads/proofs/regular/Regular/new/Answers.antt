@@ -1,6 +1,6 @@
 use Rattle.std.proofs.Common.{◌∙◌, ◌&&◌, ◌/◌, ◌%◌, ap}
 use Rattle.shader_overloads.specs.Bits.{has_bit}
-use Rattle.shader_overloads.proofs.PlaceLemmas.{high_from_below}
+use Rattle.shader_overloads.proofs.PositionLemmas.{high_from_below}
 use Rattle.shader_overloads.proofs.RegularLemmas.{masked_rules-fit, rules_of_pairs}
 use Rattle.shader_overloads.proofs.regular.Regular.new.Goals as goal
 

@@ -1,4 +1,4 @@
--- One step takes the lowest set bit.
+-- One step removes the lowest set bit.
 use Rattle.std.proofs.Common.{ap, arith, rules, length, sym, ◌∙◌, ◌∷◌, [], map}
 use Rattle.std.proofs.lemmas.Bool.{both_ways}
 use Rattle.shader_ir.specs.Scalars.{named_scalars, abstract_int}

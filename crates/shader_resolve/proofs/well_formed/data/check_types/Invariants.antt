@@ -6,5 +6,5 @@ abbrev pub invariant-loop-handle : goal.invariant-loop-handle
 invariant-loop-handle l =
     (goal.iterator-loop-handle).can_next l.handle-iterator
     × (goal.iterator-loop-handle).is_finite l.handle-iterator
-    × (in_entries (λ place type. check_type l.«module» place type.inner) l.handle-iterator
-    ≡ in_arena (λ place type. check_type l.«module» place type.inner) l.«module».types)
+    × (in_entries (λ position type. check_type l.«module» position type.inner) l.handle-iterator
+    ≡ in_arena (λ position type. check_type l.«module» position type.inner) l.«module».types)

@@ -6,5 +6,5 @@ abbrev pub invariant-loop-constant : goal.invariant-loop-constant
 invariant-loop-constant l =
     (goal.iterator-loop-constant).can_next l.constant-iterator
     × (goal.iterator-loop-constant).is_finite l.constant-iterator
-    × (every_entry (λ place constant. constant_in_range l.«module» constant) l.constant-iterator
-    ≡ every (λ place constant. constant_in_range l.«module» constant) l.«module».constants)
+    × (every_entry (λ position constant. constant_in_range l.«module» constant) l.constant-iterator
+    ≡ every (λ position constant. constant_in_range l.«module» constant) l.«module».constants)

@@ -6,5 +6,5 @@ abbrev pub invariant-loop-variable : goal.invariant-loop-variable
 invariant-loop-variable l =
     (goal.iterator-loop-variable).can_next l.variable-iterator
     × (goal.iterator-loop-variable).is_finite l.variable-iterator
-    × (every_entry (λ place variable. global_in_range l.«module» variable) l.variable-iterator
-    ≡ every (λ place variable. global_in_range l.«module» variable) l.«module».global_variables)
+    × (every_entry (λ position variable. global_in_range l.«module» variable) l.variable-iterator
+    ≡ every (λ position variable. global_in_range l.«module» variable) l.«module».global_variables)

@@ -6,5 +6,5 @@ abbrev pub invariant-loop-value : goal.invariant-loop-value
 invariant-loop-value l =
     (goal.iterator-loop-value).can_next l.value-iterator
     × (goal.iterator-loop-value).is_finite l.value-iterator
-    × (every_entry (λ place override. override_in_range l.«module» override) l.value-iterator
-    ≡ every (λ place override. override_in_range l.«module» override) l.«module».overrides)
+    × (every_entry (λ position override. override_in_range l.«module» override) l.value-iterator
+    ≡ every (λ position override. override_in_range l.«module» override) l.«module».overrides)

@@ -7,5 +7,5 @@ abbrev pub invariant-loop-function : goal.invariant-loop-function
 invariant-loop-function l =
     (goal.iterator-loop-function).can_next l.function-iterator
     × (goal.iterator-loop-function).is_finite l.function-iterator
-    × (every_entry (λ place function. nat_le (depth function.body) l.levels) l.function-iterator
-    ≡ every (λ place function. nat_le (depth function.body) l.levels) l.«module».functions)
+    × (every_entry (λ position function. nat_le (depth function.body) l.levels) l.function-iterator
+    ≡ every (λ position function. nat_le (depth function.body) l.levels) l.«module».functions)

@@ -1,7 +1,7 @@
 use Rattle.std.proofs.Common.{rules, refl, subst, inr}
-use Rattle.shader_resolve.specs.Follows.{memory_of}
-use Rattle.shader_resolve.specs.Rows.{row}
-use Rattle.shader_typifier.proofs.TypedLemmas.{Tells, follows_tells, may_ask, told_fits}
+use Rattle.shader_resolve.specs.DerivesByRule.{memory_of}
+use Rattle.shader_resolve.specs.TypingRules.{typing_rule}
+use Rattle.shader_typifier.proofs.TypedLemmas.{IsOutcomeOf, derivation_gives, may_query, reported_fits}
 use Rattle.shader_typifier.proofs.typifier.Typifier.next_type.Goals as goal
 
 pub resolve-resolved-requires : goal.resolve-resolved-requires
@@ -12,9 +12,9 @@ resolve-resolved-requires c κs = (
     (
       search rules,
       (
-        may_ask c.args.context.now c.args.expression.now c.args.self.now (search rules) _ (λ operand lt. search rules),
-        told_fits c.args.context.now c.args.expression.now c.args.self.now (search rules) c.requires.fit _
-            (λ operand told post. search rules),
+        may_query c.args.context.now c.args.expression.now c.args.self.now (search rules) _ (λ operand lt. search rules),
+        reported_fits c.args.context.now c.args.expression.now c.args.self.now (search rules) c.requires.fit _
+            (λ operand reported post. search rules),
       ),
     ),
   ),
@@ -22,30 +22,30 @@ resolve-resolved-requires c κs = (
 
 pub returns-in-Err-clause-refused : goal.returns-in-Err-clause-refused
 returns-in-Err-clause-refused c =
-    let asks = row c.args.context.now c.args.expression.now in
-    subst (Tells c.args.self.now asks) c.in-Err.is
-    (follows_tells c.args.self.now _ (memory_of c.args.expression.now) c.resolve-resolved.result asks
-    c.resolve-resolved.ensures.follows (λ operand told post. search rules))
+    let queries = typing_rule c.args.context.now c.args.expression.now in
+    subst (IsOutcomeOf c.args.self.now queries) c.in-Err.is
+    (derivation_gives c.args.self.now _ (memory_of c.args.expression.now) c.resolve-resolved.result queries
+    c.resolve-resolved.ensures.follows (λ operand reported post. search rules))
 
 pub returns-then-fits-clause-typed : goal.returns-then-fits-clause-typed
 returns-then-fits-clause-typed c =
-    let asks = row c.args.context.now c.args.expression.now in
+    let queries = typing_rule c.args.context.now c.args.expression.now in
     record {
       names = search rules;
       operands = search rules;
-      told = subst (Tells c.args.self.now asks) c.in-Ok.is
-          (follows_tells c.args.self.now _ (memory_of c.args.expression.now) c.resolve-resolved.result asks
-          c.resolve-resolved.ensures.follows (λ operand told post. search rules));
+      reported = subst (IsOutcomeOf c.args.self.now queries) c.in-Ok.is
+          (derivation_gives c.args.self.now _ (memory_of c.args.expression.now) c.resolve-resolved.result queries
+          c.resolve-resolved.ensures.follows (λ operand reported post. search rules));
       fits = search rules;
     }
 
 pub returns-else-fits-clause-refused : goal.returns-else-fits-clause-refused
 returns-else-fits-clause-refused c =
-    let asks = row c.args.context.now c.args.expression.now in
+    let queries = typing_rule c.args.context.now c.args.expression.now in
     inr (record {
       resolution = c.in-Ok.resolution;
-      told = subst (Tells c.args.self.now asks) c.in-Ok.is
-          (follows_tells c.args.self.now _ (memory_of c.args.expression.now) c.resolve-resolved.result asks
-          c.resolve-resolved.ensures.follows (λ operand told post. search rules));
+      reported = subst (IsOutcomeOf c.args.self.now queries) c.in-Ok.is
+          (derivation_gives c.args.self.now _ (memory_of c.args.expression.now) c.resolve-resolved.result queries
+          c.resolve-resolved.ensures.follows (λ operand reported post. search rules));
       unfit = λ fits. search rules;
     })

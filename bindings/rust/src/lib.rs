@@ -1,0 +1,142 @@
+//! Reports on naga's shader modules: the layouts of their types, the type and uniformity of each expression, uses of globals and pairs of
+//! image and sampler, or why a module is refused. A module goes in as the JSON in which `serde_json` prints a `naga::Module`
+//! (naga 30.0.1), and the report comes out as JSON or as text for people: the bytes that the program `report` writes.
+//!
+//! ```
+//! let module = br#"{"types":[],"special_types":{"ray_desc":null,"ray_intersection":null,"ray_vertex_return":null,
+//!     "predeclared_types":{}},"constants":[],"overrides":[],"global_variables":[],"global_expressions":[],"functions":[],
+//!     "entry_points":[],"diagnostic_filters":[],"diagnostic_filter_leaf":null,"doc_comments":null}"#;
+//! let report = pethuvazh::report_json(module, pethuvazh::Options::default())?;
+//! assert!(report.is_accepted);
+//! assert_eq!(report.text, "{\"layouts\":[],\"info\":{\"functions\":[],\"entry_points\":[],\"const_expression_types\":[]}}\n");
+//! # Ok::<(), pethuvazh::Error>(())
+//! ```
+//!
+//! The work is done by `libpethuvazh.a`, whose functions are proved; this crate declares and calls them. A call has no state, starts no
+//! thread and reads no file, so calls may run at the same time.
+
+#![deny(missing_docs, unsafe_op_in_unsafe_fn)]
+
+mod library;
+
+use library::Request;
+use std::fmt;
+
+/// What is checked of a module. The default is all that naga's validator checks for a device with no capability, and uniform control flow
+/// after WGSL.
+#[derive(Clone, Copy, Debug, Default, PartialEq, Eq, Hash)]
+pub struct Options {
+    /// Accepts what needs uniform control flow anywhere.
+    pub no_control_flow_uniformity: bool,
+    /// Decides uniform control flow as naga specifies it, and not by the definition of `shader_uniformity`.
+    pub naga_uniformity: bool,
+    /// Lets arrays of sampled textures and of samplers be indexed by non-uniform values.
+    pub non_uniform_textures: bool,
+    /// Lets arrays of storage textures be indexed by non-uniform values.
+    pub non_uniform_storage_textures: bool,
+}
+
+/// The bit for a text for people.
+const FOR_PEOPLE: u32 = 8;
+
+impl Options {
+    fn bits(self) -> u32 {
+        u32::from(self.no_control_flow_uniformity)
+            | u32::from(self.non_uniform_textures) << 1
+            | u32::from(self.non_uniform_storage_textures) << 2
+            | u32::from(self.naga_uniformity) << 4
+    }
+}
+
+/// The report on a module.
+#[derive(Clone, Debug, PartialEq, Eq)]
+pub struct Report {
+    /// A line of JSON, or lines for people: layouts and what is recorded, or a fault.
+    pub text: String,
+    /// True if the module has no fault and each type has a layout.
+    pub is_accepted: bool,
+}
+
+/// The answers to lines with questions.
+#[derive(Clone, Debug, PartialEq, Eq)]
+pub struct Answers {
+    /// A line for each question, up to the first line that is none.
+    pub text: String,
+    /// True if each line is a question; else the text ends with `bad line` and its number.
+    pub is_complete: bool,
+}
+
+/// Why there is no report.
+#[derive(Clone, Debug, PartialEq, Eq)]
+pub enum Error {
+    /// The input is no module. The text says where, in the form in which the report was asked for.
+    NotModule(String),
+    /// The lines have more than 1,048,576 bytes.
+    TooLong,
+    /// An allocation failed.
+    OutOfMemory,
+}
+
+impl fmt::Display for Error {
+    fn fmt(&self, f: &mut fmt::Formatter<'_>) -> fmt::Result {
+        match self {
+            Error::NotModule(why) => write!(f, "no module: {}", why.trim_end()),
+            Error::TooLong => f.write_str("more than 1,048,576 bytes"),
+            Error::OutOfMemory => f.write_str("out of memory"),
+        }
+    }
+}
+
+impl std::error::Error for Error {}
+
+/// Returns the report on a module as a line of JSON. The module is JSON as by `serde_json::to_vec(&module)`.
+///
+/// # Errors
+///
+/// An input that is no module, and an allocation that failed.
+pub fn report_json(module: &[u8], options: Options) -> Result<Report, Error> {
+    report(module, options.bits())
+}
+
+/// Returns the report on a module as text for people.
+///
+/// # Errors
+///
+/// Those of [`report_json`]; the text of the error is for people too.
+pub fn report_text(module: &[u8], options: Options) -> Result<Report, Error> {
+    report(module, options.bits() | FOR_PEOPLE)
+}
+
+fn report(module: &[u8], flags: u32) -> Result<Report, Error> {
+    let (status, text) = library::ask(Request::Report(flags), module)?;
+    match status {
+        0 | 1 => Ok(Report {
+            text,
+            is_accepted: status == 0,
+        }),
+        6 => Err(Error::NotModule(text)),
+        _ => unreachable!("the library says that {flags} has a bit that is no flag"),
+    }
+}
+
+/// Returns the answers to lines with questions about types, as the program `typer` gives them.
+///
+/// ```
+/// let answers = pethuvazh::answer_lines("call Max u32 AbstractInt\nlayout vec3<f32>\n")?;
+/// assert_eq!(answers.text, "u32\nsize 12 align 16 stride 16\n");
+/// # Ok::<(), pethuvazh::Error>(())
+/// ```
+///
+/// # Errors
+///
+/// More than 1,048,576 bytes, and an allocation that failed.
+pub fn answer_lines(lines: &str) -> Result<Answers, Error> {
+    let (status, text) = library::ask(Request::Answers, lines.as_bytes())?;
+    match status {
+        0 | 2 => Ok(Answers {
+            text,
+            is_complete: status == 0,
+        }),
+        _ => Err(Error::TooLong),
+    }
+}

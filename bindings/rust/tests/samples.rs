@@ -1,0 +1,135 @@
+//! Reports on the modules of `tests/samples/json`, beside what naga's own code found. That the bytes are those of the program `report` is
+//! for `tests/bindings` to say, which builds that.
+
+use pethuvazh::{answer_lines, report_json, report_text, Error, Options, Report};
+use std::fs;
+use std::path::PathBuf;
+
+fn samples() -> PathBuf {
+    PathBuf::from(env!("CARGO_MANIFEST_DIR")).join("../../tests/samples")
+}
+
+fn lines(name: &str) -> Vec<String> {
+    let path = samples().join(name);
+    let text =
+        fs::read_to_string(&path).unwrap_or_else(|error| panic!("{}: {error}", path.display()));
+    text.lines().map(str::to_owned).collect()
+}
+
+/// Returns the number behind a key of the line.
+fn number(line: &str, key: &str) -> u32 {
+    let from = line.find(&format!("\"{key}\":")).unwrap() + key.len() + 3;
+    let digits = line[from..]
+        .trim_start()
+        .chars()
+        .take_while(char::is_ascii_digit);
+    digits.collect::<String>().parse().unwrap()
+}
+
+/// Returns a line's module, and what is checked of it.
+fn case(line: &str) -> (&str, Options) {
+    let from = line.find("\"module\":").unwrap() + "\"module\":".len();
+    let capabilities = number(&line[..from], "capabilities");
+    let options = Options {
+        no_control_flow_uniformity: number(&line[..from], "flags") & 1 == 0,
+        naga_uniformity: number(&line[..from], "flags") & 1 != 0,
+        non_uniform_textures: capabilities & 1 != 0,
+        non_uniform_storage_textures: capabilities & 2 != 0,
+    };
+    (line.trim_end()[from..].strip_suffix('}').unwrap(), options)
+}
+
+#[test]
+fn modules_are_accepted_as_by_naga() {
+    let (modules, answers) = (lines("json/modules.jsonl"), lines("json/answers.jsonl"));
+    assert_eq!(modules.len(), answers.len());
+    for (index, (line, answer)) in modules.iter().zip(&answers).enumerate() {
+        let (module, options) = case(line);
+        let is_accepted = answer.contains("\"layouts\":") && answer.contains("\"info\":");
+        for report in [report_json, report_text] {
+            let report = report(module.as_bytes(), options).unwrap();
+            assert_eq!(report.is_accepted, is_accepted, "module {}", index + 1);
+        }
+    }
+}
+
+#[test]
+fn options_are_heeded() {
+    let module = fs::read(samples().join("json/real/derivative.json")).unwrap();
+    let all = Options::default();
+    let any_flow = Options {
+        no_control_flow_uniformity: true,
+        ..all
+    };
+    assert!(!report_json(&module, all).unwrap().is_accepted);
+    assert!(report_json(&module, any_flow).unwrap().is_accepted);
+}
+
+#[test]
+fn what_is_no_module_is_told() {
+    for bytes in [b"".as_slice(), b"\xff", b"[]", b"{}", b"fn main() {}"] {
+        let Err(Error::NotModule(why)) = report_json(bytes, Options::default()) else {
+            panic!("{bytes:?} is a module");
+        };
+        assert!(
+            why.starts_with("{\"error\":{") && why.ends_with("}\n"),
+            "{why}"
+        );
+        let Err(Error::NotModule(why)) = report_text(bytes, Options::default()) else {
+            panic!("{bytes:?} is a module");
+        };
+        assert!(!why.starts_with('{') && why.ends_with('\n'), "{why}");
+    }
+}
+
+#[test]
+fn lines_are_answered_as_by_naga() {
+    for name in ["call", "rules", "layout", "convert", "module"] {
+        let (asked, wanted) = (lines(&format!("{name}.in")), lines(&format!("{name}.out")));
+        for (asked, wanted) in asked.chunks(1000).zip(wanted.chunks(1000)) {
+            let answers = answer_lines(&asked.join("\n")).unwrap();
+            assert_eq!(answers.text, wanted.join("\n") + "\n");
+            assert!(answers.is_complete);
+        }
+    }
+}
+
+#[test]
+fn lines_that_are_none_are_told() {
+    let answers = answer_lines("call Abs f32\nfoo\ncall Abs f32\n").unwrap();
+    assert_eq!(answers.text, "f32\nbad line 2\n");
+    assert!(!answers.is_complete);
+    assert_eq!(answer_lines(&"\n".repeat(1_048_577)), Err(Error::TooLong));
+}
+
+#[test]
+fn threads_may_call_at_once() {
+    let modules = lines("json/modules.jsonl");
+    let cases: Vec<_> = modules.iter().map(|line| case(line)).collect();
+    let report = |(module, options): &(&str, Options)| report_json(module.as_bytes(), *options);
+    let wanted: Vec<Result<Report, Error>> = cases.iter().map(report).collect();
+    // Eight threads, each with twenty times 53 calls.
+    std::thread::scope(|scope| {
+        for _ in 0..8 {
+            scope.spawn(|| {
+                for _ in 0..20 {
+                    for (case, wanted) in cases.iter().zip(&wanted) {
+                        assert_eq!(&report(case), wanted);
+                    }
+                }
+            });
+        }
+    });
+}
+
+#[test]
+fn little_stack_is_enough() {
+    for line in lines("json/modules.jsonl") {
+        let work = move || {
+            let (module, options) = case(&line);
+            let _ = report_json(module.as_bytes(), options);
+        };
+        let thread = std::thread::Builder::new().stack_size(256 << 10);
+        thread.spawn(work).unwrap().join().unwrap();
+    }
+}

@@ -1,0 +1,4 @@
+pub mod Copies
+pub mod Flags
+pub mod Lines
+pub mod Reports

@@ -1,0 +1,7 @@
+pub mod Errors
+pub mod Forms
+pub mod Members
+pub mod Options
+pub mod Places
+pub mod Policies
+pub mod Reports

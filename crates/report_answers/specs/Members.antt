@@ -1,0 +1,34 @@
+-- The members of the JSON that words ask for.
+use Rattle.std.specs.Prelude.{◌≡◌, ◌↔◌, ◌++◌, [], ℕ, List, Option, Some, None, IfSome, IsSome, codes}
+use Rattle.shader_analysis_spec.specs.Faults.{IsAccepted, Settings}
+use Rattle.shader_analysis_spec.specs.Program.{Module}
+use Rattle.shader_bounds.specs.declared.policies.BoundsCheckPolicies.{BoundsCheckPolicies}
+use Rattle.shader_passes.specs.Causes.{settings_of}
+use Rattle.shader_report_bounds.specs.Bounds.{AreModuleBounds}
+use Rattle.shader_report_bounds.specs.Texts.{bounds_text}
+use Rattle.shader_report_bounds.specs.declared.module_bounds.ModuleBounds.{ModuleBounds}
+use Rattle.shader_resolve.specs.WellFormed.{IsWellFormed}
+use Rattle.report_answers.specs.Options.{capabilities_of, flags_of}
+use Rattle.report_answers.specs.declared.options.Options.{Options}
+
+abbrev pub member_text : Option ModuleBounds → List ℕ
+member_text (Some bounds) = codes ",\"bounds\":" ++ bounds_text bounds
+member_text None = []
+
+-- what a back end checks of an accepted module, and nothing of another one
+pub record AreBoundsFound (m : Module) (settings : Settings) (policies : BoundsCheckPolicies) (found : Option ModuleBounds) : Type 0 where
+  pub accepted : IsSome found ↔ (IsWellFormed m × IsAccepted m settings)
+  pub are : IfSome found (AreModuleBounds m policies)
+
+abbrev IsFoundFor : Option BoundsCheckPolicies → Module → Settings → Option ModuleBounds → Type 0
+IsFoundFor (Some policies) m settings found = AreBoundsFound m settings policies found
+IsFoundFor None m settings found = found ≡ None
+
+-- nothing is found unasked
+abbrev pub IsAsked : Options → Module → Option ModuleBounds → Type 0
+IsAsked options m found = IsFoundFor options.bounds m (settings_of (flags_of options) (capabilities_of options)) found
+
+pub record AreMembers (options : Options) (m : Module) (text : List ℕ) : Type 0 where
+  pub found : Option ModuleBounds
+  pub asked : IsAsked options m found
+  pub told : text ≡ member_text found

@@ -1,0 +1,157 @@
+-- The options of the command line.
+use Rattle.std.specs.Prelude.{ℕ, zero, suc, ◌+◌, Bool, true, false, ◌||◌, List, [], ◌∷◌, codes, Option, Some, None, Result, Ok, Err}
+use Rattle.std.specs.Prelude.{String, find, is_some, nat_eq, nat_lt, unwrap_or, if◌then◌else◌}
+use Rattle.std.specs.Option.{option_map, option_or}
+use Rattle.std.specs.Str.{bytes_eq}
+use Rattle.std.specs.String.{string_bytes}
+use Rattle.shader_info.specs.declared.flags.Capabilities.{Capabilities}
+use Rattle.shader_info.specs.declared.flags.ValidationFlags.{ValidationFlags}
+use Rattle.shader_bounds.specs.Policies.{unchecked}
+use Rattle.report_answers.specs.Policies.{policies_of}
+use Rattle.report_answers.specs.declared.options.Flag.{Flag}
+use Rattle.report_answers.specs.declared.options.Flag.TheVariants.{Json, NagaFlow, AnyFlow, NoFlow, IndexTextures, IndexStorageTextures}
+use Rattle.report_answers.specs.declared.options.Flag.TheVariants.{IndexBoth, IndexBothTurned, Bounds, Policies, Drawing, NoDrawing}
+use Rattle.report_answers.specs.declared.options.FlowCheck.{FlowCheck}
+use Rattle.report_answers.specs.declared.options.FlowCheck.TheVariants.{Defined, Naga, Off}
+use Rattle.report_answers.specs.declared.options.BadWord.{BadWord}
+use Rattle.report_answers.specs.declared.options.BadWord.TheVariants.{Unknown, Twice}
+use Rattle.report_answers.specs.declared.options.Options.{Options}
+
+abbrev pub flag_text : Flag → List ℕ
+flag_text Json = codes "--json"
+flag_text NagaFlow = codes "--uniformity=naga"
+flag_text AnyFlow = codes "--uniformity=off"
+flag_text NoFlow = codes "--no-control-flow-uniformity"
+flag_text IndexTextures = codes "--non-uniform-indexing=textures"
+flag_text IndexStorageTextures = codes "--non-uniform-indexing=storage-textures"
+flag_text IndexBoth = codes "--non-uniform-indexing=textures,storage-textures"
+flag_text IndexBothTurned = codes "--non-uniform-indexing=storage-textures,textures"
+flag_text Bounds = codes "--bounds-checks"
+flag_text (Policies policies) = []
+flag_text Drawing = codes "--drawing"
+flag_text NoDrawing = codes "--no-drawing"
+
+abbrev pub all_flags : List Flag
+all_flags =
+    Json ∷ NagaFlow ∷ AnyFlow ∷ NoFlow ∷ IndexTextures ∷ IndexStorageTextures ∷ IndexBoth ∷ IndexBothTurned
+    ∷ Bounds ∷ Drawing ∷ NoDrawing ∷ []
+
+abbrev pub named_flag : List ℕ → Option Flag
+named_flag word = find (λ flag. bytes_eq (flag_text flag) word) all_flags
+
+-- a word is a flag that it names, or policies of bounds checks
+abbrev pub flag_of : List ℕ → Option Flag
+flag_of word = option_or (named_flag word) (option_map (λ policies. Policies policies) (policies_of word))
+
+-- the options without any flag
+abbrev pub start : Options
+start = record {
+  is_json = false;
+  flow = Defined;
+  indexes_textures = false;
+  indexes_storage_textures = false;
+  bounds = None;
+  has_policies = false;
+  drawing = None;
+}
+
+abbrev pub indexing_both : Options → Options
+indexing_both options = record options { indexes_textures = true; indexes_storage_textures = true }
+
+-- the options with one more flag
+abbrev pub with : Options → Flag → Options
+with options Json = record options { is_json = true }
+with options NagaFlow = record options { flow = Naga }
+with options AnyFlow = record options { flow = Off }
+with options NoFlow = record options { flow = Off }
+with options IndexTextures = record options { indexes_textures = true }
+with options IndexStorageTextures = record options { indexes_storage_textures = true }
+with options IndexBoth = indexing_both options
+with options IndexBothTurned = indexing_both options
+with options Bounds = record options { bounds = Some unchecked }
+with options (Policies policies) = record options { bounds = Some policies; has_policies = true }
+with options Drawing = record options { drawing = Some true }
+with options NoDrawing = record options { drawing = Some false }
+
+-- structs are drawn as a word says, and as the caller does where none says it
+abbrev pub drawing_if : Options → Bool → Options
+drawing_if options is_drawn = record options { drawing = Some (unwrap_or options.drawing is_drawn) }
+
+abbrev indexes : Options → Bool
+indexes options = options.indexes_textures || options.indexes_storage_textures
+
+abbrev decides : FlowCheck → Bool
+decides Defined = false
+decides Naga = true
+decides Off = true
+
+-- whether what the flag sets is set already
+abbrev pub is_set : Options → Flag → Bool
+is_set options Json = options.is_json
+is_set options NagaFlow = decides options.flow
+is_set options AnyFlow = decides options.flow
+is_set options NoFlow = decides options.flow
+is_set options IndexTextures = indexes options
+is_set options IndexStorageTextures = indexes options
+is_set options IndexBoth = indexes options
+is_set options IndexBothTurned = indexes options
+is_set options Bounds = is_some options.bounds
+is_set options (Policies policies) = options.has_policies
+is_set options Drawing = is_some options.drawing
+is_set options NoDrawing = is_some options.drawing
+
+abbrev once : Bool → ℕ → Options → Result Options BadWord
+once true index options = Err (Twice index)
+once false index options = Ok options
+
+abbrev with_flag : Options → ℕ → Option Flag → Result Options BadWord
+with_flag options index (Some flag) = once (is_set options flag) index (with options flag)
+with_flag options index None = Err (Unknown index)
+
+-- the options with the flag that the word of this index is
+abbrev pub with_word : Options → ℕ → List ℕ → Result Options BadWord
+with_word options index word = with_flag options index (flag_of word)
+
+abbrev pub on_ok : Result Options BadWord → (Options → Result Options BadWord) → Result Options BadWord
+on_ok (Ok options) next = next options
+on_ok (Err bad) next = Err bad
+
+-- the options of all words together, the first of which has this index; or the first word that is no flag, or sets what is set already
+abbrev pub options_from : {A : Type 0} → Options → ℕ → List (String A) → Result Options BadWord
+options_from options index [] = Ok options
+options_from options index (word ∷ words) =
+    on_ok (with_word options index (string_bytes word)) (λ next. options_from next (index + 1) words)
+
+-- how many bytes two words share at their start
+abbrev pub shared : List ℕ → List ℕ → ℕ
+shared [] other = 0
+shared (byte ∷ one) [] = 0
+shared (byte ∷ one) (another ∷ other) = if nat_eq byte another then suc (shared one other) else 0
+
+abbrev pub nearer : List ℕ → Flag → Flag → Flag
+nearer word one other = if nat_lt (shared word (flag_text one)) (shared word (flag_text other)) then other else one
+
+-- the flag that shares most with the word at the start, the first of those
+abbrev pub nearest : List ℕ → Flag
+nearest word =
+    nearer word Json (nearer word
+    (nearer word (nearer word (nearer word (nearer word NagaFlow AnyFlow) NoFlow) (nearer word IndexTextures IndexStorageTextures))
+    (nearer word IndexBoth IndexBothTurned))
+    (nearer word Bounds (nearer word Drawing NoDrawing)))
+
+abbrev flow_bits : FlowCheck → ℕ
+flow_bits Naga = 1
+flow_bits Defined = 0
+flow_bits Off = 0
+
+abbrev index_bits : Bool → Bool → ℕ
+index_bits false false = 0
+index_bits true false = 1
+index_bits false true = 2
+index_bits true true = 3
+
+abbrev pub flags_of : Options → ValidationFlags
+flags_of options = record { 0 = flow_bits options.flow }
+
+abbrev pub capabilities_of : Options → Capabilities
+capabilities_of options = record { 0 = index_bits options.indexes_textures options.indexes_storage_textures }

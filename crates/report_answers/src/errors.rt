@@ -1,0 +1,227 @@
+//! Errors of the input as text: the line of JSON, and the lines for people.
+ghost use Rattle.std.specs.Prelude.{◌≡◌, ◌∷◌, ◌++◌, [], IfOk, Some, codes, string_bytes};
+ghost use Rattle.json.specs.Print.{print};
+ghost use Rattle.report_answers.specs.Errors.{IsErrorText, byte_tokens, nesting_object, nesting_text, not_json_text, not_module_text};
+ghost use Rattle.report_answers.specs.Errors.{input_text, object_text, path_tokens, telling_text, too_deep_text, value_text, wanted_text};
+ghost use Rattle.report_answers.specs.Forms.{form_in};
+ghost use Rattle.report_answers.specs.Places.{place_in, place_text};
+
+use crate::forms::Form;
+use crate::places::Place;
+use json::Writer;
+use shader_json_module::{MOST_BYTES, ReadError, Wanted};
+use std::alloc::{AllocError, Global};
+use std::fmt;
+use std::fmt::{Display, Formatter};
+
+/// Returns the object for a value that isn't what a module has there, with its path.
+fn at_path(alloc: Global, path: &str, wanted: &str) -> Result<Vec<u8>, AllocError>
+    ensures { IfOk result (λ text. text.items ≡ print (path_tokens path.now wanted.now) ++ 10 ∷ []) }
+{
+    let mut writer = Writer::new(Vec::new(alloc));
+    writer.begin_object()?;
+    writer.key("error")?;
+    writer.begin_object()?;
+    writer.key("path")?;
+    writer.string(path)?;
+    writer.key("wanted")?;
+    writer.string(wanted)?;
+    writer.end_object()?;
+    writer.end_object()?;
+    let mut text = writer.into_inner();
+    text.push(b'\n')?;
+    Ok(text)
+}
+
+/// Returns the object for a byte that isn't allowed there.
+fn at_byte(alloc: Global, byte: usize, wanted: &str) -> Result<Vec<u8>, AllocError>
+    ensures { IfOk result (λ text. text.items ≡ print (byte_tokens byte wanted.now) ++ 10 ∷ []) }
+{
+    let mut writer = Writer::new(Vec::new(alloc));
+    writer.begin_object()?;
+    writer.key("error")?;
+    writer.begin_object()?;
+    writer.key("byte")?;
+    writer.u64(byte as u64)?;
+    writer.key("wanted")?;
+    writer.string(wanted)?;
+    writer.end_object()?;
+    writer.end_object()?;
+    let mut text = writer.into_inner();
+    text.push(b'\n')?;
+    Ok(text)
+}
+
+/// What is wanted of a value, in words.
+#[derive(Clone, Copy)]
+struct WantedText<'a>(&'a Wanted);
+
+impl Display for WantedText<'_> {
+    ghost output = { λ text. Some (wanted_text text.0.now) };
+
+    fn fmt<W: fmt::Write>(&self, f: &mut Formatter<W>) -> fmt::Result {
+        match self.0 {
+            Wanted::Value(words) => f.write_str(words),
+            Wanted::Integer(least, most) => write!(f, "an integer from {least} to {most}"),
+            Wanted::Field(name) => write!(f, "an object with the field `{name}`"),
+        }
+    }
+}
+
+/// Returns the line of JSON for the reason why no module was read.
+///
+/// # Errors
+///
+/// `AllocError` if an allocation fails, or if that is the reason.
+pub fn error_object(alloc: Global, error: &ReadError) -> Result<Vec<u8>, AllocError>
+    ensures { IfOk result (λ text. text.items ≡ object_text error.now) }
+{
+    match error {
+        ReadError::OutOfMemory => Err(AllocError),
+        ReadError::TooLong => at_byte(alloc, MOST_BYTES, "the end of the text"),
+        ReadError::NotJson { byte } => at_byte(alloc, *byte, "JSON"),
+        ReadError::TooDeep { byte } => {
+            at_byte(
+                alloc,
+                *byte,
+                "at most 128 arrays and objects in one another",
+            )
+        }
+        ReadError::NotModule { path, wanted, .. } => {
+            let wanted = format!(in alloc; "{}", WantedText(wanted))?;
+            at_path(alloc, path.as_str(), wanted.as_str())
+        }
+    }
+}
+
+/// Returns the line of JSON for a module whose blocks nest too deep to be checked.
+///
+/// # Errors
+///
+/// `AllocError` if an allocation fails.
+pub fn nesting_object(alloc: Global) -> Result<Vec<u8>, AllocError>
+    ensures { IfOk result (λ text. text.items ≡ nesting_object) }
+{
+    at_path(alloc, "", "blocks that nest at most 4,000 deep")
+}
+
+/// The lines for people on a text that is no JSON.
+#[derive(Clone, Copy)]
+struct NotJsonText {
+    place: Place,
+    form: Form,
+}
+
+impl Display for NotJsonText {
+    ghost output = { λ text. Some (not_json_text text.place text.form) };
+
+    fn fmt<W: fmt::Write>(&self, f: &mut Formatter<W>) -> fmt::Result {
+        let NotJsonText { place, form } = *self;
+        write!(
+            f,
+            "{place}: {form}\nwanted is a naga 30 module as JSON: \
+            serde_json::to_string(&module), where naga has the feature `serialize`\n"
+        )
+    }
+}
+
+/// What is wanted of a value, and what is found.
+#[derive(Clone, Copy)]
+struct TellingText<'a> {
+    wanted: WantedText<'a>,
+    found: &'a str,
+}
+
+impl Display for TellingText<'_> {
+    ghost output = { λ text. Some (telling_text text.wanted.0.now text.found.now) };
+
+    fn fmt<W: fmt::Write>(&self, f: &mut Formatter<W>) -> fmt::Result {
+        write!(f, "wanted is {}, and found is {}", self.wanted, self.found)
+    }
+}
+
+/// Returns the lines for people on a text that is no JSON from that byte on: where that is, what the text seems to be, and what is wanted.
+fn not_json_text(alloc: Global, input: &[u8], byte: usize) -> Result<String, AllocError>
+    ensures { IfOk result (λ text. string_bytes text ≡ not_json_text (place_in input.now byte) (form_in input.now byte)) }
+{
+    let place = Place::of(input, byte);
+    let form = Form::of(input, byte);
+    format!(in alloc; "{}", NotJsonText { place, form })
+}
+
+/// Returns the line for people on a text that nests too deep.
+fn too_deep_text(alloc: Global, input: &[u8], byte: usize) -> Result<String, AllocError>
+    ensures { IfOk result (λ text. string_bytes text ≡ too_deep_text (place_in input.now byte)) }
+{
+    let place = Place::of(input, byte);
+    format!(in alloc; "{place}: arrays and objects nest more than 128 deep\n")
+}
+
+/// Returns the line for people on an input that isn't what a module is.
+fn input_text(alloc: Global, told: TellingText<'_>) -> Result<String, AllocError>
+    ensures { IfOk result (λ text. string_bytes text ≡ input_text told.entry.wanted.0.now told.entry.found.now) }
+{
+    format!(in alloc; "the input: {told}\n")
+}
+
+/// Returns the line for people on the value at a path that isn't what a module has there.
+fn value_text(alloc: Global, path: &str, told: TellingText<'_>) -> Result<String, AllocError>
+    ensures { IfOk result (λ text. string_bytes text ≡ value_text path.now told.entry.wanted.0.now told.entry.found.now) }
+{
+    let mut text = format!(in alloc; "`{path}`: ")?;
+    let line = format!(in alloc; "{told}\n")?;
+    text.push_str(line.as_str())?;
+    Ok(text)
+}
+
+/// Returns the line for people on a value that isn't what a module has there.
+fn not_module_text(
+    alloc: Global,
+    path: &str,
+    wanted: &Wanted,
+    found: &str,
+) -> Result<String, AllocError>
+    ensures { IfOk result (λ text. string_bytes text ≡ not_module_text path.now wanted.now found.now) }
+{
+    let wanted = WantedText(wanted);
+    let told = TellingText { wanted, found };
+    if path.is_empty() {
+        input_text(alloc, told)
+    } else {
+        value_text(alloc, path, told)
+    }
+}
+
+/// Returns the lines for people on the reason why no module was read from the input.
+///
+/// # Errors
+///
+/// `AllocError` if an allocation fails, or if that is the reason.
+pub fn error_text(alloc: Global, input: &[u8], error: &ReadError) -> Result<Vec<u8>, AllocError>
+    ensures { IfOk result (λ text. IsErrorText input.now error.now text.items) }
+{
+    let text = match error {
+        ReadError::OutOfMemory => return Err(AllocError),
+        ReadError::TooLong => "the input has more than 268,435,456 bytes\n".to_string(alloc)?,
+        ReadError::NotJson { byte } => not_json_text(alloc, input, *byte)?,
+        ReadError::TooDeep { byte } => too_deep_text(alloc, input, *byte)?,
+        ReadError::NotModule {
+            path,
+            wanted,
+            found,
+        } => not_module_text(alloc, path.as_str(), wanted, found.as_str())?,
+    };
+    Ok(text.into_bytes())
+}
+
+/// Returns the line for people on a module whose blocks nest too deep to be checked.
+///
+/// # Errors
+///
+/// `AllocError` if an allocation fails.
+pub fn nesting_text(alloc: Global) -> Result<Vec<u8>, AllocError>
+    ensures { IfOk result (λ text. text.items ≡ nesting_text) }
+{
+    let text = "the input: wanted are blocks that nest at most 4,000 deep\n".to_string(alloc)?;
+    Ok(text.into_bytes())
+}

@@ -1,0 +1,78 @@
+//! The verdict on uniform flow as part of a report.
+ghost use Rattle.std.specs.Prelude.{◌≡◌, ◌++◌, true, false, IfOk, codes, drop};
+ghost use Rattle.report_answers.specs.Reports.{HasFlow};
+
+use shader_ir::Module;
+use shader_uniformity_text::{json_section, people_section};
+use std::alloc::{AllocError, Global};
+
+/// A text on a module, and whether the module is accepted by it.
+#[derive(Drop)]
+pub struct Part {
+    pub text: Vec<u8>,
+    pub is_accepted: bool,
+}
+
+/// Returns all bytes but the first.
+fn behind_first(line: &[u8]) -> &[u8]
+    ensures { result.now ≡ drop 1 line.now }
+{
+    match line.split_first() {
+        Some((_, rest)) => rest,
+        None => line,
+    }
+}
+
+/// Returns a line that is a JSON object, with one more member as its first.
+fn with_member(alloc: Global, member: &[u8], line: &[u8]) -> Result<Vec<u8>, AllocError>
+    ensures { IfOk result (λ text. text.items ≡ codes "{" ++ (member.now ++ (codes "," ++ drop 1 line.now))) }
+{
+    let mut text = Vec::new(alloc);
+    text.push(b'{')?;
+    text.extend_from_slice(member)?;
+    text.push(b',')?;
+    text.extend_from_slice(behind_first(line))?;
+    Ok(text)
+}
+
+/// Returns the line of JSON on a module that has no other fault, with the verdict on its flow.
+fn json_with_flow(alloc: Global, module: &Module, rest: &[u8]) -> Result<Part, AllocError>
+    ensures { IfOk result (λ part. HasFlow true «module».now part.is_accepted rest.now part.text.items) }
+{
+    let section = json_section(alloc, module)?;
+    let text = with_member(alloc, section.text.as_bytes(), rest)?;
+    Ok(Part {
+        text,
+        is_accepted: section.is_accepted,
+    })
+}
+
+/// Returns the text for people on such a module: what is said of it, or why its flow is refused.
+fn people_with_flow(alloc: Global, module: &Module, rest: Vec<u8>) -> Result<Part, AllocError>
+    ensures { IfOk result (λ part. HasFlow false «module».now part.is_accepted rest.items part.text.items) }
+{
+    let section = people_section(alloc, module)?;
+    let is_accepted = section.is_accepted;
+    let text = if is_accepted {
+        rest
+    } else {
+        section.text.into_bytes()
+    };
+    Ok(Part { text, is_accepted })
+}
+
+/// Returns the report on a module that has no other fault, with the verdict on its flow.
+pub fn with_flow(
+    alloc: Global,
+    is_json: bool,
+    module: &Module,
+    rest: Vec<u8>,
+) -> Result<Part, AllocError>
+    ensures { IfOk result (λ part. HasFlow is_json «module».now part.is_accepted rest.items part.text.items) }
+{
+    if is_json {
+        json_with_flow(alloc, module, rest.as_slice())
+    } else {
+        people_with_flow(alloc, module, rest)
+    }
+}

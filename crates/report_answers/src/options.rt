@@ -1,0 +1,363 @@
+//! The options of the command line.
+ghost use Rattle.std.specs.Prelude.{◌≡◌, Some};
+ghost use Rattle.report_answers.specs.Options.{capabilities_of, drawing_if, flag_of, flag_text, flags_of, indexing_both, is_set};
+ghost use Rattle.report_answers.specs.Options.{named_flag, nearer, nearest, options_from, shared, start, with, with_word};
+
+use crate::policies::policies_of;
+use bitflags::Flags;
+use shader_bounds::{BoundsCheckPolicies, BoundsCheckPolicy};
+use shader_info::{Capabilities, ValidationFlags};
+
+/// The policies of a report on bounds checks if no word sets any.
+const UNCHECKED: BoundsCheckPolicies = BoundsCheckPolicies {
+    index: BoundsCheckPolicy::Unchecked,
+    buffer: BoundsCheckPolicy::Unchecked,
+    image_load: BoundsCheckPolicy::Unchecked,
+    binding_array: BoundsCheckPolicy::Unchecked,
+};
+
+/// A flag of the command line.
+#[derive(Clone, Copy, Debug, PartialEq, Eq)]
+pub enum Flag {
+    /// Report as JSON.
+    Json,
+    /// Decide uniform flow as naga specifies it.
+    NagaFlow,
+    /// Decide no uniform flow.
+    AnyFlow,
+    /// Decide no uniform flow, by the word that was first.
+    NoFlow,
+    /// Let arrays of sampled images and of samplers be indexed by values that differ among invocations.
+    IndexTextures,
+    /// Let arrays of storage images be indexed by values that differ among invocations.
+    IndexStorageTextures,
+    /// Let both kinds of arrays be indexed by values that differ among invocations.
+    IndexBoth,
+    /// The same, with the kinds in the other order.
+    IndexBothTurned,
+    /// Report bounds checks.
+    Bounds,
+    /// Report bounds checks under these policies.
+    Policies(BoundsCheckPolicies),
+    /// Draw structs.
+    Drawing,
+    /// Don't draw structs.
+    NoDrawing,
+}
+
+/// The reason why words set no options, with the index of the word.
+#[derive(Clone, Copy, Debug, PartialEq, Eq)]
+pub enum BadWord {
+    /// The word is no flag.
+    Unknown(usize),
+    /// The word sets what another before it has set.
+    Twice(usize),
+}
+
+impl Flag {
+    /// The flags that are one word each.
+    pub const ALL: [Flag; 11] = [
+        Flag::Json,
+        Flag::NagaFlow,
+        Flag::AnyFlow,
+        Flag::NoFlow,
+        Flag::IndexTextures,
+        Flag::IndexStorageTextures,
+        Flag::IndexBoth,
+        Flag::IndexBothTurned,
+        Flag::Bounds,
+        Flag::Drawing,
+        Flag::NoDrawing,
+    ];
+
+    /// Returns the word of the command line that is the flag, or nothing for policies, which many words set.
+    pub fn word(self) -> &'static str
+        ensures { result.now ≡ flag_text self }
+    {
+        match self {
+            Flag::Json => "--json",
+            Flag::NagaFlow => "--uniformity=naga",
+            Flag::AnyFlow => "--uniformity=off",
+            Flag::NoFlow => "--no-control-flow-uniformity",
+            Flag::IndexTextures => "--non-uniform-indexing=textures",
+            Flag::IndexStorageTextures => "--non-uniform-indexing=storage-textures",
+            Flag::IndexBoth => "--non-uniform-indexing=textures,storage-textures",
+            Flag::IndexBothTurned => "--non-uniform-indexing=storage-textures,textures",
+            Flag::Bounds => "--bounds-checks",
+            Flag::Policies(_) => "",
+            Flag::Drawing => "--drawing",
+            Flag::NoDrawing => "--no-drawing",
+        }
+    }
+
+    /// Returns the flag that shares most with a word at the start, the first of those.
+    pub fn nearest(word: &[u8]) -> Flag
+        ensures { result ≡ nearest word.now }
+    {
+        let of_flow = nearer(
+            word,
+            nearer(word, Flag::NagaFlow, Flag::AnyFlow),
+            Flag::NoFlow,
+        );
+        let of_one = nearer(word, Flag::IndexTextures, Flag::IndexStorageTextures);
+        let of_both = nearer(word, Flag::IndexBoth, Flag::IndexBothTurned);
+        let of_parts = nearer(
+            word,
+            Flag::Bounds,
+            nearer(word, Flag::Drawing, Flag::NoDrawing),
+        );
+        let of_checks = nearer(word, nearer(word, of_flow, of_one), of_both);
+        nearer(word, Flag::Json, nearer(word, of_checks, of_parts))
+    }
+
+    /// Returns the flag that the word names as it stands.
+    fn named(word: &[u8]) -> Option<Flag>
+        ensures { result ≡ named_flag word.now }
+    {
+        Flag::ALL
+            .iter()
+            .copied()
+            .find(|flag| flag.word().as_bytes() == word)
+    }
+
+    /// Returns the flag that the word is: one that it names, or policies of bounds checks.
+    fn from_word(word: &[u8]) -> Option<Flag>
+        ensures { result ≡ flag_of word.now }
+    {
+        match Flag::named(word) {
+            Some(flag) => Some(flag),
+            None => policies_of(word).map(Flag::Policies),
+        }
+    }
+}
+
+/// Returns how many bytes two words share at their start.
+fn shared(one: &[u8], other: &[u8]) -> usize
+    ensures { result ≡ shared one.now other.now }
+{
+    let (mut left, mut right) = (one, other);
+    let mut count = 0;
+    while let Some((byte, rest)) = left.split_first() {
+        let Some((another, others)) = right.split_first() else {
+            return count;
+        };
+        if *byte != *another {
+            return count;
+        }
+        count += 1;
+        (left, right) = (rest, others);
+    }
+    count
+}
+
+/// Returns the better of two flags for a word: the one that shares more with it, of two alike the first.
+fn nearer(word: &[u8], one: Flag, other: Flag) -> Flag
+    ensures { result ≡ nearer word.now one other }
+{
+    if shared(word, one.word().as_bytes()) < shared(word, other.word().as_bytes()) {
+        other
+    } else {
+        one
+    }
+}
+
+/// Which uniform flow a report decides.
+#[derive(Clone, Copy, Debug, PartialEq, Eq)]
+pub enum FlowCheck {
+    /// That of `shader_uniformity`, after WGSL, of a module that has no other fault.
+    Defined,
+    /// That of the analysis, as naga specifies it.
+    Naga,
+    /// None.
+    Off,
+}
+
+/// The options of a report.
+#[derive(Clone, Copy, Debug, PartialEq, Eq)]
+pub struct Options {
+    /// True for JSON, false for a text for people.
+    pub is_json: bool,
+    /// Which uniform flow is decided.
+    pub flow: FlowCheck,
+    /// True if arrays of sampled images and of samplers may be indexed by values that differ among invocations.
+    pub indexes_textures: bool,
+    /// True if arrays of storage images may be indexed by values that differ among invocations.
+    pub indexes_storage_textures: bool,
+    /// The policies under which bounds checks are reported, if they are.
+    pub bounds: Option<BoundsCheckPolicies>,
+    /// True if a word has set policies.
+    pub has_policies: bool,
+    /// Whether the text for people has drawings of structs, if a word says so.
+    pub drawing: Option<bool>,
+}
+
+impl Options {
+    /// The options without any flag.
+    pub const START: Options = Options {
+        is_json: false,
+        flow: FlowCheck::Defined,
+        indexes_textures: false,
+        indexes_storage_textures: false,
+        bounds: None,
+        has_policies: false,
+        drawing: None,
+    };
+
+    /// Returns the options with both kinds of arrays indexed by values that differ among invocations.
+    fn indexing_both(self) -> Options
+        ensures { result ≡ indexing_both self }
+    {
+        Options {
+            indexes_textures: true,
+            indexes_storage_textures: true,
+            ..self
+        }
+    }
+
+    /// Returns the options where this flow is decided.
+    fn with_flow(self, flow: FlowCheck) -> Options
+        ensures { result ≡ record self { flow = flow } }
+    {
+        Options { flow, ..self }
+    }
+
+    /// Returns the options where bounds checks are reported under the policies.
+    fn with_bounds(self, policies: BoundsCheckPolicies) -> Options
+        ensures { result ≡ record self { bounds = Some policies } }
+    {
+        Options {
+            bounds: Some(policies),
+            ..self
+        }
+    }
+
+    /// Returns the options where structs are drawn, or aren't.
+    fn with_drawing(self, is_drawn: bool) -> Options
+        ensures { result ≡ record self { drawing = Some is_drawn } }
+    {
+        Options {
+            drawing: Some(is_drawn),
+            ..self
+        }
+    }
+
+    /// Returns the options with one more flag.
+    pub fn with(self, flag: Flag) -> Options
+        ensures { result ≡ with self flag }
+    {
+        match flag {
+            Flag::Json => Options {
+                is_json: true,
+                ..self
+            },
+            Flag::NagaFlow => self.with_flow(FlowCheck::Naga),
+            Flag::AnyFlow => self.with_flow(FlowCheck::Off),
+            Flag::NoFlow => self.with_flow(FlowCheck::Off),
+            Flag::IndexTextures => Options {
+                indexes_textures: true,
+                ..self
+            },
+            Flag::IndexStorageTextures => Options {
+                indexes_storage_textures: true,
+                ..self
+            },
+            Flag::IndexBoth => self.indexing_both(),
+            Flag::IndexBothTurned => self.indexing_both(),
+            Flag::Bounds => self.with_bounds(UNCHECKED),
+            Flag::Policies(policies) => Options {
+                has_policies: true,
+                ..self.with_bounds(policies)
+            },
+            Flag::Drawing => self.with_drawing(true),
+            Flag::NoDrawing => self.with_drawing(false),
+        }
+    }
+
+    /// Returns whether what the flag sets is set already.
+    fn is_set(self, flag: Flag) -> bool
+        ensures { result ≡ is_set self flag }
+    {
+        let indexes = self.indexes_textures || self.indexes_storage_textures;
+        let decides = self.flow != FlowCheck::Defined;
+        match flag {
+            Flag::Json => self.is_json,
+            Flag::NagaFlow => decides,
+            Flag::AnyFlow => decides,
+            Flag::NoFlow => decides,
+            Flag::IndexTextures => indexes,
+            Flag::IndexStorageTextures => indexes,
+            Flag::IndexBoth => indexes,
+            Flag::IndexBothTurned => indexes,
+            Flag::Bounds => self.bounds.is_some(),
+            Flag::Policies(_) => self.has_policies,
+            Flag::Drawing => self.drawing.is_some(),
+            Flag::NoDrawing => self.drawing.is_some(),
+        }
+    }
+
+    /// Returns the options where a text for people draws structs if no word says whether it does and if this says so.
+    pub fn drawing_if(self, is_drawn: bool) -> Options
+        ensures { result ≡ drawing_if self is_drawn }
+    {
+        match self.drawing {
+            Some(_) => self,
+            None => self.with_drawing(is_drawn),
+        }
+    }
+
+    /// Returns the options with what one more word sets, the word of this index.
+    fn with_word(self, index: usize, word: &[u8]) -> Result<Options, BadWord>
+        ensures { result ≡ with_word self index word.now }
+    {
+        let Some(flag) = Flag::from_word(word) else {
+            return Err(BadWord::Unknown(index));
+        };
+        if self.is_set(flag) {
+            Err(BadWord::Twice(index))
+        } else {
+            Ok(self.with(flag))
+        }
+    }
+
+    /// Returns the options that these words set, in any order.
+    ///
+    /// # Errors
+    ///
+    /// The first word that is no flag, or that sets what one before it has set.
+    pub fn from_words(words: &[String]) -> Result<Options, BadWord>
+        ensures { result ≡ options_from start 0 words.now }
+    {
+        let mut options = Options::START;
+        let mut index = 0;
+        for word in words {
+            options = options.with_word(index, word.as_bytes())?;
+            index += 1;
+        }
+        Ok(options)
+    }
+
+    /// Returns the flags that the analysis checks.
+    pub fn flags(self) -> ValidationFlags
+        ensures { result ≡ flags_of self }
+    {
+        match self.flow {
+            FlowCheck::Naga => ValidationFlags::CONTROL_FLOW_UNIFORMITY,
+            FlowCheck::Defined => ValidationFlags::empty(),
+            FlowCheck::Off => ValidationFlags::empty(),
+        }
+    }
+
+    /// Returns the capabilities of the device.
+    pub fn capabilities(self) -> Capabilities
+        ensures { result ≡ capabilities_of self }
+    {
+        let textures = Capabilities::TEXTURE_AND_SAMPLER_BINDING_ARRAY_NON_UNIFORM_INDEXING;
+        let storage = Capabilities::STORAGE_TEXTURE_BINDING_ARRAY_NON_UNIFORM_INDEXING;
+        match (self.indexes_textures, self.indexes_storage_textures) {
+            (false, false) => Capabilities::empty(),
+            (true, false) => textures,
+            (false, true) => storage,
+            (true, true) => textures | storage,
+        }
+    }
+}

@@ -1,0 +1,216 @@
+//! The report on the module that an input is.
+
+use crate::errors::{error_object, error_text, nesting_object, nesting_text};
+use crate::flow::{Part, with_flow};
+use crate::members::{add_bounds, members_of};
+use crate::options::{FlowCheck, Options};
+use crate::progress::{Progress, Stage};
+use shader_ir::Module;
+use shader_json_module::{ReadError, read_module};
+use shader_report_json::answer_module;
+use shader_report_text::summarize;
+use shader_resolve::{MOST_LEVELS, nests_within};
+use std::alloc::{AllocError, Global};
+
+/// What an input was found to be.
+#[derive(Clone, Copy, Debug, PartialEq, Eq)]
+pub enum Outcome {
+    /// A module that has no fault, and each type of which has a layout.
+    Accepted,
+    /// A module that has a fault, or a type without a layout.
+    Refused,
+    /// No module, or one whose blocks nest too deep.
+    NotModule,
+}
+
+/// The report on an input.
+#[derive(Drop)]
+pub struct Report {
+    /// The report on the module, or why the input is none, in lines of UTF-8: the latter belongs to standard error, unless it is JSON.
+    pub text: Vec<u8>,
+    /// What the input was found to be.
+    pub outcome: Outcome,
+}
+
+impl Report {
+    ghost use Rattle.std.specs.Prelude.{◌≡◌, IfOk, OnOk};
+    ghost use Rattle.shader_passes.specs.Causes.{settings_of};
+    ghost use Rattle.shader_report_text.specs.Verdicts.{IsVerdict};
+    ghost use Rattle.report_answers.specs.Options.{capabilities_of, flags_of};
+    ghost use Rattle.report_answers.specs.Reports.{IsJson, IsNesting, IsRefusal, IsReport, IsReportOn, IsRest, verdict};
+
+    /// Returns the report with this text and verdict on a module.
+    fn with_verdict(part: Part) -> Report
+        ensures text { result.text.items ≡ part.text.items }
+        ensures outcome { result.outcome ≡ verdict part.is_accepted }
+    {
+        let text = part.text;
+        if part.is_accepted {
+            Report {
+                text,
+                outcome: Outcome::Accepted,
+            }
+        } else {
+            Report {
+                text,
+                outcome: Outcome::Refused,
+            }
+        }
+    }
+
+    /// Returns the report with this text on an input that is no module.
+    fn without_module(text: Vec<u8>) -> Report
+        ensures text { result.text.items ≡ text.items }
+        ensures outcome { result.outcome ≡ Outcome.NotModule }
+    {
+        Report {
+            text,
+            outcome: Outcome::NotModule,
+        }
+    }
+
+    /// Returns the report on an input from which no module can be read, for the reason.
+    ///
+    /// # Errors
+    ///
+    /// `AllocError` if an allocation fails, or if that is the reason.
+    pub fn on_error(
+        alloc: Global,
+        options: Options,
+        input: &[u8],
+        error: &ReadError,
+    ) -> Result<Report, AllocError>
+        ensures outcome { IfOk result (λ report. report.outcome ≡ Outcome.NotModule) }
+        ensures text { IfOk result (λ report. IsRefusal options input.now error.now report.text.items) }
+    {
+        let text = if options.is_json {
+            error_object(alloc, error)?
+        } else {
+            error_text(alloc, input, error)?
+        };
+        Ok(Report::without_module(text))
+    }
+
+    /// Returns the report on a module whose blocks nest too deep to be checked.
+    fn on_nesting(alloc: Global, options: Options) -> Result<Report, AllocError>
+        ensures outcome { IfOk result (λ report. report.outcome ≡ Outcome.NotModule) }
+        ensures text { IfOk result (λ report. IsNesting options report.text.items) }
+    {
+        let text = if options.is_json {
+            nesting_object(alloc)?
+        } else {
+            nesting_text(alloc)?
+        };
+        Ok(Report::without_module(text))
+    }
+
+    /// Returns the report on all of a module but the uniform flow of `shader_uniformity`, as a line of JSON.
+    #[tactic(auto, using(crate::proofs::ReportLemmas::json_told))]
+    fn json_of(alloc: Global, options: Options, module: &Module) -> Result<Part, AllocError>
+        ensures { IfOk result (λ part. IsJson options «module».now part.is_accepted part.text.items) }
+    {
+        let (flags, capabilities) = (options.flags(), options.capabilities());
+        let members = members_of(alloc, options, module)?;
+        let answer = answer_module(alloc, module, flags, capabilities, members.as_str())?;
+        Ok(Part {
+            text: answer.text.into_bytes(),
+            is_accepted: answer.is_accepted,
+        })
+    }
+
+    /// Returns the same as text for people.
+    fn text_of(alloc: Global, options: Options, module: &Module) -> Result<Part, AllocError>
+        ensures { IfOk result (λ part. IsVerdict «module».now (settings_of (flags_of options) (capabilities_of options)) part.is_accepted) }
+    {
+        let (flags, capabilities) = (options.flags(), options.capabilities());
+        let is_drawn = options.drawing == Some(true);
+        let summary = summarize(alloc, module, flags, capabilities, is_drawn)?;
+        let is_accepted = summary.is_accepted;
+        let mut text = summary.text;
+        add_bounds(alloc, options, module, &mut text)?;
+        Ok(Part {
+            text: text.into_bytes(),
+            is_accepted,
+        })
+    }
+
+    /// Returns the report on all of a module but the uniform flow of `shader_uniformity`.
+    fn rest_on(alloc: Global, options: Options, module: &Module) -> Result<Part, AllocError>
+        ensures { IfOk result (λ part. IsRest options «module».now part.is_accepted part.text.items) }
+    {
+        if options.is_json {
+            Report::json_of(alloc, options, module)
+        } else {
+            Report::text_of(alloc, options, module)
+        }
+    }
+
+    /// Returns the report with the verdict on the flow of a module, which is decided where it has no other fault.
+    #[tactic(auto, using(crate::proofs::ReportLemmas::refused_told, crate::proofs::ReportLemmas::flow_told))]
+    fn with_defined_flow(
+        alloc: Global,
+        options: Options,
+        module: &Module,
+        rest: Part,
+    ) -> Result<Report, AllocError>
+        requires flow { options.flow ≡ FlowCheck.Defined }
+        requires rest { IsRest options «module».now rest.is_accepted rest.text.items }
+        ensures { IfOk result (λ report. IsReportOn options «module».now report.outcome report.text.items) }
+    {
+        if rest.is_accepted {
+            let part = with_flow(alloc, options.is_json, module, rest.text)?;
+            Ok(Report::with_verdict(part))
+        } else {
+            Ok(Report::with_verdict(rest))
+        }
+    }
+
+    /// Returns the report on a module, as a line of JSON or as text for people.
+    #[tactic(auto, using(crate::proofs::ReportLemmas::naga_told, crate::proofs::ReportLemmas::off_told))]
+    fn on_module(alloc: Global, options: Options, module: &Module) -> Result<Report, AllocError>
+        ensures { IfOk result (λ report. IsReportOn options «module».now report.outcome report.text.items) }
+    {
+        let rest = Report::rest_on(alloc, options, module)?;
+        match options.flow {
+            FlowCheck::Defined => Report::with_defined_flow(alloc, options, module, rest),
+            FlowCheck::Naga => Ok(Report::with_verdict(rest)),
+            FlowCheck::Off => Ok(Report::with_verdict(rest)),
+        }
+    }
+
+    /// Returns the report on a module that was read.
+    fn on_read<P: Progress>(
+        alloc: Global,
+        options: Options,
+        module: &Module,
+        progress: &mut P,
+    ) -> Result<Report, AllocError>
+        ensures { IfOk result (λ report. IsReportOn options «module».now report.outcome report.text.items) }
+    {
+        if !nests_within(module, MOST_LEVELS) {
+            return Report::on_nesting(alloc, options);
+        }
+        progress.begins(Stage::Analysis);
+        Report::on_module(alloc, options, module)
+    }
+
+    /// Returns the report on the module that the input is, as JSON in which `serde_json` prints a naga module.
+    ///
+    /// # Errors
+    ///
+    /// `AllocError` if an allocation fails.
+    pub fn on<P: Progress>(
+        alloc: Global,
+        options: Options,
+        input: &[u8],
+        progress: &mut P,
+    ) -> Result<Report, AllocError>
+        ensures { IfOk result (λ report. IsReport options input.now report.outcome report.text.items) }
+    {
+        progress.begins(Stage::Module(input.len()));
+        match read_module(alloc, input) {
+            Ok(module) => Report::on_read(alloc, options, &module, progress),
+            Err(error) => Report::on_error(alloc, options, input, &error),
+        }
+    }
+}

@@ -1,0 +1,3 @@
+pub mod ExactReports
+pub mod LocationLemmas
+pub mod Unique

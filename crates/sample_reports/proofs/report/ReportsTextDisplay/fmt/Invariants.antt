@@ -1,0 +1,11 @@
+use Rattle.std.proofs.Common.{take, ◌++◌}
+use Rattle.std.specs.Prelude.{codes}
+use Rattle.std.specs.List.{flat_map}
+use Rattle.std.specs.Fmt.{HasWritten, IsPlainFormatter}
+use Rattle.sample_reports.specs.Texts.{location_report_text}
+use Rattle.sample_reports.proofs.report.ReportsTextDisplay.fmt.Given as goal
+
+abbrev pub invariant-loop-other : goal.invariant-loop-other
+invariant-loop-other g l =
+    IsPlainFormatter l.initial.f → HasWritten g.W.Write.write_str_gives l.initial.f
+    (flat_map (λ t. codes "; " ++ location_report_text t) (take l.other-index l.others)) l.f

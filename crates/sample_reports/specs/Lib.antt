@@ -1,0 +1,4 @@
+pub mod Laws
+pub mod Reports
+pub mod Texts
+pub mod Reporting

@@ -1,0 +1,9 @@
+pub mod AnalyzableLemmas
+pub mod FewNeeds
+pub mod RefusalLemmas
+pub mod InfoLemmas
+pub mod RetainedLemmas
+pub mod FlowViolationFaults
+pub mod NextLemmas
+pub mod PositionLemmas
+pub mod TypedLemmas

@@ -1,0 +1,9 @@
+pub mod AddedTypes
+pub mod Analyzable
+pub mod Analyzed
+pub mod Fitting
+pub mod Recording
+pub mod Processed
+pub mod Reached
+pub mod Recorded
+pub mod Validity

@@ -1,0 +1,96 @@
+//! Tests of the texts of errors.
+use shader_arena::Handle;
+use shader_info::{
+    AnalysisError, AnalysisLocation, Capabilities, ExpressionError, FunctionError,
+    UniformityDisruptor, UniformityRequirements,
+};
+use shader_resolve::ResolveError;
+use std::alloc::Global;
+use std::process::Abort;
+
+/// The message of a test that only an allocation failure makes fail.
+const OUT_OF_MEMORY: &str = "want of memory";
+
+fn expects(rt: &impl Abort, alloc: Global, disruptor: UniformityDisruptor, text: &str) {
+    assert!(rt;
+        disruptor
+            .to_string(alloc)
+            .expect(rt, OUT_OF_MEMORY)
+            .as_str()
+            == text
+    );
+}
+
+#[test]
+fn texts_of_disruptors(rt: HostRuntime) {
+    let alloc = rt.alloc();
+    expects(
+        &rt,
+        alloc,
+        UniformityDisruptor::Expression(Handle::from_index(4)),
+        "Expression [4] produced non-uniform result, and control flow depends on it",
+    );
+    expects(
+        &rt,
+        alloc,
+        UniformityDisruptor::Return,
+        "There is a Return earlier in the control flow of the function",
+    );
+    expects(
+        &rt,
+        alloc,
+        UniformityDisruptor::Discard,
+        "There is a Discard earlier in the entry point across all called functions",
+    );
+}
+
+#[test]
+fn an_error_shows_its_location_and_its_cause(rt: HostRuntime) {
+    let alloc = rt.alloc();
+    let error = AnalysisError {
+        location: AnalysisLocation::Function(Handle::from_index(1)),
+        cause: FunctionError::Expression {
+            handle: Handle::from_index(2),
+            source: ExpressionError::Resolve(ResolveError::FunctionArgumentNotFound(1)),
+        },
+    };
+    let text = error.to_string(alloc).expect(&rt, OUT_OF_MEMORY);
+    assert!(rt;
+        text.as_str() == "Function([1]): Expression [2]: Function argument 1 doesn't exist"
+    );
+}
+
+/// Asserts which sentence an error in the first entry point reports, whose last words are `why`.
+fn reports(rt: &impl Abort, alloc: Global, cause: FunctionError, what: &str, why: &str) {
+    let error = AnalysisError {
+        location: AnalysisLocation::EntryPoint(0),
+        cause,
+    };
+    let sentence = error.report().to_string(alloc).expect(rt, OUT_OF_MEMORY);
+    let wanted = format!(in alloc; "entry point 0: {what} {why}").expect(rt, OUT_OF_MEMORY);
+    assert!(rt; sentence.as_str() == wanted.as_str());
+}
+
+#[test]
+fn a_report_names_requirements_and_disruptor(rt: HostRuntime) {
+    let cause = FunctionError::NonUniformControlFlow(
+        UniformityRequirements(6),
+        Handle::from_index(5),
+        UniformityDisruptor::Return,
+    );
+    let what =
+        "expression [5] requires uniform control flow (derivative, implicit level of detail):";
+    let why = "There is a Return earlier in the control flow of the function";
+    reports(&rt, rt.alloc(), cause, what, why);
+}
+
+#[test]
+fn a_report_names_capabilities(rt: HostRuntime) {
+    let cause = FunctionError::Expression {
+        handle: Handle::from_index(3),
+        source: ExpressionError::MissingCapabilities(Capabilities(2)),
+    };
+    let what = "expression [3]: resources are indexed by a non-uniform value, which requires";
+    let why = "STORAGE_TEXTURE_BINDING_ARRAY_NON_UNIFORM_INDEXING";
+    reports(&rt, rt.alloc(), cause, what, why);
+}

@@ -1,0 +1,10 @@
+pub mod Checked
+pub mod Adds
+pub mod Guarded
+pub mod Indexes
+pub mod Laws
+pub mod LengthLaws
+pub mod Lengths
+pub mod Locals
+pub mod Policies
+pub mod Typed

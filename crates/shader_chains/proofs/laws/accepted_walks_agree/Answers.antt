@@ -1,5 +1,0 @@
-use Rattle.shader_chains.proofs.WalkLemmas.{accepted_walks_agree}
-use Rattle.shader_chains.proofs.laws.accepted_walks_agree.Goals as goal
-
-pub returns : goal.returns
-returns c = accepted_walks_agree

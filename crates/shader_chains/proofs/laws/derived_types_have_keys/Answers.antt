@@ -1,5 +1,0 @@
-use Rattle.shader_chains.proofs.TypeLemmas.{derived_types_have_keys}
-use Rattle.shader_chains.proofs.laws.derived_types_have_keys.Goals as goal
-
-pub returns : goal.returns
-returns c = derived_types_have_keys

@@ -1,5 +1,0 @@
-use Rattle.shader_chains.proofs.WalkLemmas.{disruption_means_divergence}
-use Rattle.shader_chains.proofs.laws.disruption_means_divergence.Goals as goal
-
-pub returns : goal.returns
-returns c = disruption_means_divergence

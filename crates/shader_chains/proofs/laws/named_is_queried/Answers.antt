@@ -1,5 +1,0 @@
-use Rattle.shader_chains.proofs.SampleLemmas.{named_is_queried}
-use Rattle.shader_chains.proofs.laws.named_is_queried.Goals as goal
-
-pub returns : goal.returns
-returns c = named_is_queried

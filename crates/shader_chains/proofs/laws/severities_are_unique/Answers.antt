@@ -1,5 +1,0 @@
-use Rattle.shader_chains.proofs.TypeLemmas.{severities_are_unique}
-use Rattle.shader_chains.proofs.laws.severities_are_unique.Goals as goal
-
-pub returns : goal.returns
-returns c = severities_are_unique

@@ -1,5 +1,0 @@
-use Rattle.shader_chains.proofs.TypeLemmas.{types_are_unique}
-use Rattle.shader_chains.proofs.laws.types_are_unique.Goals as goal
-
-pub returns : goal.returns
-returns c = types_are_unique

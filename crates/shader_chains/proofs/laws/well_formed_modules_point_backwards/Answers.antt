@@ -1,5 +1,0 @@
-use Rattle.shader_chains.proofs.EarlierLemmas.{point_backwards}
-use Rattle.shader_chains.proofs.laws.well_formed_modules_point_backwards.Goals as goal
-
-pub returns : goal.returns
-returns c = point_backwards

@@ -1,5 +1,0 @@
-use Rattle.shader_fault_laws.proofs.Pairs.{collected_pairs_fit}
-use Rattle.shader_fault_laws.proofs.collected_pairs_fit.Goals as goal
-
-pub returns : goal.returns
-returns c = collected_pairs_fit

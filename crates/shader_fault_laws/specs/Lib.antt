@@ -1,2 +1,0 @@
-pub mod PairsFit
-pub mod Refused

@@ -1,9 +1,0 @@
-use Rattle.shader_indexes.proofs.ChainLemmas.{Leads, height}
-use Rattle.shader_indexes.specs.Typed.{Records}
-use Rattle.shader_indexes.proofs.chains.chain_needs_check.Given as goal
-
-abbrev pub invariant-loop-next : goal.invariant-loop-next
-invariant-loop-next l = Leads l.module l.function (Records l.info) l.fn.chain l.next
-
-abbrev pub decreases-loop-next : goal.decreases-loop-next
-decreases-loop-next l = height l.next

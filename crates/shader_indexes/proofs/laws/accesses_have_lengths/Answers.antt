@@ -1,5 +1,0 @@
-use Rattle.shader_indexes.proofs.LawLemmas.{accesses_have_lengths}
-use Rattle.shader_indexes.proofs.laws.accesses_have_lengths.Goals as goal
-
-pub returns : goal.returns
-returns c = accesses_have_lengths

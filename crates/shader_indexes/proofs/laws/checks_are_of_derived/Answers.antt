@@ -1,5 +1,0 @@
-use Rattle.shader_indexes.proofs.LawLemmas.{checks_are_of_derived}
-use Rattle.shader_indexes.proofs.laws.checks_are_of_derived.Goals as goal
-
-pub returns : goal.returns
-returns c = checks_are_of_derived

@@ -1,0 +1,11 @@
+use Rattle.std.proofs.Common.{take, ◌++◌}
+use Rattle.std.specs.Prelude.{codes}
+use Rattle.std.specs.List.{flat_map}
+use Rattle.std.specs.Fmt.{HasWritten, IsPlainFormatter}
+use Rattle.shader_info_json.specs.Functions.{quoted_use_text}
+use Rattle.shader_info_json.proofs.functions.UsesTextDisplay.fmt.Given as goal
+
+abbrev pub invariant-loop-other : goal.invariant-loop-other
+invariant-loop-other g l =
+    IsPlainFormatter l.initial.f →
+    HasWritten g.W.Write.write_str_gives l.initial.f (flat_map (λ t. codes "," ++ quoted_use_text t) (take l.other-index l.others)) l.f

@@ -1,0 +1,115 @@
+//! Declarations by handle.
+ghost use Rattle.std.specs.Prelude.{◌≡◌, option_and_then, option_map};
+ghost use Rattle.json.specs.Value.{value_view};
+ghost use Rattle.shader_interface.specs.Interface.{argument_binding_at, binding_of, entry_point_at, group_of, member_binding_at};
+ghost use Rattle.shader_interface.specs.Interface.{global_expression_at, override_default_of, override_id_of};
+ghost use Rattle.shader_interface.specs.Interface.{override_init_of, resource_binding_at, result_binding_at, seen};
+ghost use Rattle.shader_interface.specs.Interface.{workgroup_override_of, workgroup_size_of};
+
+use crate::binding::Binding;
+use crate::values::{integer, item, member, spelled};
+use json::Value;
+
+/// The JSON of a module, as serde prints naga's. Positions are those of the module's items: of handles, and of entry points in their list.
+/// What the JSON lacks, or has in another form than naga prints, is `None`.
+#[derive(Clone, Copy)]
+pub struct Interface<'v, 'a>(pub &'v Value<'a>);
+
+impl<'v, 'a> Interface<'v, 'a> {
+    /// Returns the `binding` of a global variable.
+    fn resource_binding(self, global: usize) -> Option<&'v Value<'a>>
+        ensures { seen result ≡ resource_binding_at (value_view self.entry.0.now) global }
+    {
+        member(item(self.0.get("global_variables"), global), "binding")
+    }
+
+    /// Returns the bind group of a global variable.
+    pub fn group(self, global: usize) -> Option<u32>
+        ensures { result ≡ group_of (value_view self.entry.0.now) global }
+    {
+        integer(member(self.resource_binding(global), "group"))
+    }
+
+    /// Returns the number of a global variable within its bind group.
+    pub fn binding(self, global: usize) -> Option<u32>
+        ensures { result ≡ binding_of (value_view self.entry.0.now) global }
+    {
+        integer(member(self.resource_binding(global), "binding"))
+    }
+
+    /// Returns the id by which a pipeline sets an override.
+    pub fn override_id(self, position: usize) -> Option<u32>
+        ensures { result ≡ override_id_of (value_view self.entry.0.now) position }
+    {
+        integer(member(item(self.0.get("overrides"), position), "id"))
+    }
+
+    /// Returns the initial value of an override.
+    fn override_init(self, position: usize) -> Option<&'v Value<'a>>
+        ensures { seen result ≡ option_and_then (global_expression_at (value_view self.entry.0.now))
+            (override_init_of (value_view self.entry.0.now) position) }
+    {
+        match integer(member(item(self.0.get("overrides"), position), "init")) {
+            Some(handle) => item(self.0.get("global_expressions"), handle as usize),
+            None => None,
+        }
+    }
+
+    /// Returns the number or bool that an override is without a pipeline's value, as the JSON spells it. It is `None` if the initial value
+    /// is no literal, and for an f16, of which naga writes the bits.
+    pub fn override_default(self, position: usize) -> Option<&'a str>
+        ensures { option_map (λ text. text.now) result ≡ override_default_of (value_view self.entry.0.now) position }
+    {
+        spelled(member(self.override_init(position), "Literal"))
+    }
+
+    /// Returns an entry point.
+    fn entry_point(self, entry: usize) -> Option<&'v Value<'a>>
+        ensures { seen result ≡ entry_point_at (value_view self.entry.0.now) entry }
+    {
+        item(self.0.get("entry_points"), entry)
+    }
+
+    /// Returns the number of invocations of a work group along an axis, from 0 to 2. naga writes 0 for stages without work groups, and
+    /// where `workgroup_override` says otherwise.
+    pub fn workgroup_size(self, entry: usize, axis: usize) -> Option<u32>
+        ensures { result ≡ workgroup_size_of (value_view self.entry.0.now) entry axis }
+    {
+        integer(item(member(self.entry_point(entry), "workgroup_size"), axis))
+    }
+
+    /// Returns the position of the global expression that gives the number of invocations of a work group along an axis, if one does.
+    pub fn workgroup_override(self, entry: usize, axis: usize) -> Option<u32>
+        ensures { result ≡ workgroup_override_of (value_view self.entry.0.now) entry axis }
+    {
+        integer(item(
+            member(self.entry_point(entry), "workgroup_size_overrides"),
+            axis,
+        ))
+    }
+
+    /// Returns the binding of an argument of an entry point.
+    pub fn argument(self, entry: usize, index: usize) -> Binding<'v, 'a>
+        ensures { seen result.0 ≡ argument_binding_at (value_view self.entry.0.now) entry index }
+    {
+        let function = member(self.entry_point(entry), "function");
+        Binding(member(item(member(function, "arguments"), index), "binding"))
+    }
+
+    /// Returns the binding of an entry point's result.
+    pub fn result(self, entry: usize) -> Binding<'v, 'a>
+        ensures { seen result.0 ≡ result_binding_at (value_view self.entry.0.now) entry }
+    {
+        let function = member(self.entry_point(entry), "function");
+        Binding(member(member(function, "result"), "binding"))
+    }
+
+    /// Returns the binding of a member of a struct type.
+    pub fn member(self, ty: usize, index: usize) -> Binding<'v, 'a>
+        ensures { seen result.0 ≡ member_binding_at (value_view self.entry.0.now) ty index }
+    {
+        let inner = member(item(self.0.get("types"), ty), "inner");
+        let members = member(member(inner, "Struct"), "members");
+        Binding(member(item(members, index), "binding"))
+    }
+}

@@ -1,3 +1,0 @@
-mod PairLemmas
-mod PartLemmas
-mod TakeLemmas

@@ -1,0 +1,102 @@
+-- The names of variants without payload in the JSON of modules.
+use Rattle.std.specs.Prelude.{ℕ, List, codes}
+use Rattle.shader_ir.specs.declared.function.ShaderStage.{ShaderStage}
+use Rattle.shader_ir.specs.declared.function.ShaderStage.TheVariants as stages
+use Rattle.shader_ir.specs.declared.image.ImageDimension.{ImageDimension}
+use Rattle.shader_ir.specs.declared.image.ImageDimension.TheVariants as dimensions
+use Rattle.shader_ir.specs.declared.image.StorageFormat.{StorageFormat}
+use Rattle.shader_ir.specs.declared.image.StorageFormat.TheVariants as formats
+use Rattle.shader_ir.specs.declared.module.Severity.{Severity}
+use Rattle.shader_ir.specs.declared.module.Severity.TheVariants as severities
+use Rattle.shader_ir.specs.declared.scalar.CooperativeRole.{CooperativeRole}
+use Rattle.shader_ir.specs.declared.scalar.CooperativeRole.TheVariants as roles
+use Rattle.shader_ir.specs.declared.scalar.CooperativeSize.{CooperativeSize}
+use Rattle.shader_ir.specs.declared.scalar.CooperativeSize.TheVariants as cooperative
+use Rattle.shader_ir.specs.declared.scalar.ScalarKind.{ScalarKind}
+use Rattle.shader_ir.specs.declared.scalar.ScalarKind.TheVariants as kinds
+use Rattle.shader_ir.specs.declared.scalar.VectorSize.{VectorSize}
+use Rattle.shader_ir.specs.declared.scalar.VectorSize.TheVariants as sizes
+
+abbrev pub kind_name : ScalarKind → List ℕ
+kind_name kinds.Sint = codes "Sint"
+kind_name kinds.Uint = codes "Uint"
+kind_name kinds.Float = codes "Float"
+kind_name kinds.Bool = codes "Bool"
+kind_name kinds.AbstractInt = codes "AbstractInt"
+kind_name kinds.AbstractFloat = codes "AbstractFloat"
+
+abbrev pub size_name : VectorSize → List ℕ
+size_name sizes.Bi = codes "Bi"
+size_name sizes.Tri = codes "Tri"
+size_name sizes.Quad = codes "Quad"
+
+abbrev pub cooperative_name : CooperativeSize → List ℕ
+cooperative_name cooperative.Eight = codes "Eight"
+cooperative_name cooperative.Sixteen = codes "Sixteen"
+
+abbrev pub role_name : CooperativeRole → List ℕ
+role_name roles.A = codes "A"
+role_name roles.B = codes "B"
+role_name roles.C = codes "C"
+
+abbrev pub dimension_name : ImageDimension → List ℕ
+dimension_name dimensions.D1 = codes "D1"
+dimension_name dimensions.D2 = codes "D2"
+dimension_name dimensions.D3 = codes "D3"
+dimension_name dimensions.Cube = codes "Cube"
+
+abbrev pub format_name : StorageFormat → List ℕ
+format_name formats.R8Unorm = codes "R8Unorm"
+format_name formats.R8Snorm = codes "R8Snorm"
+format_name formats.R8Uint = codes "R8Uint"
+format_name formats.R8Sint = codes "R8Sint"
+format_name formats.Rg8Unorm = codes "Rg8Unorm"
+format_name formats.Rg8Snorm = codes "Rg8Snorm"
+format_name formats.Rg8Uint = codes "Rg8Uint"
+format_name formats.Rg8Sint = codes "Rg8Sint"
+format_name formats.Rgba8Unorm = codes "Rgba8Unorm"
+format_name formats.Rgba8Snorm = codes "Rgba8Snorm"
+format_name formats.Rgba8Uint = codes "Rgba8Uint"
+format_name formats.Rgba8Sint = codes "Rgba8Sint"
+format_name formats.R16Unorm = codes "R16Unorm"
+format_name formats.R16Snorm = codes "R16Snorm"
+format_name formats.R16Uint = codes "R16Uint"
+format_name formats.R16Sint = codes "R16Sint"
+format_name formats.R16Float = codes "R16Float"
+format_name formats.Rg16Unorm = codes "Rg16Unorm"
+format_name formats.Rg16Snorm = codes "Rg16Snorm"
+format_name formats.Rg16Uint = codes "Rg16Uint"
+format_name formats.Rg16Sint = codes "Rg16Sint"
+format_name formats.Rg16Float = codes "Rg16Float"
+format_name formats.Rgba16Unorm = codes "Rgba16Unorm"
+format_name formats.Rgba16Snorm = codes "Rgba16Snorm"
+format_name formats.Rgba16Uint = codes "Rgba16Uint"
+format_name formats.Rgba16Sint = codes "Rgba16Sint"
+format_name formats.Rgba16Float = codes "Rgba16Float"
+format_name formats.R32Uint = codes "R32Uint"
+format_name formats.R32Sint = codes "R32Sint"
+format_name formats.R32Float = codes "R32Float"
+format_name formats.Rg32Uint = codes "Rg32Uint"
+format_name formats.Rg32Sint = codes "Rg32Sint"
+format_name formats.Rg32Float = codes "Rg32Float"
+format_name formats.Rgba32Uint = codes "Rgba32Uint"
+format_name formats.Rgba32Sint = codes "Rgba32Sint"
+format_name formats.Rgba32Float = codes "Rgba32Float"
+format_name formats.Bgra8Unorm = codes "Bgra8Unorm"
+format_name formats.Rgb10a2Uint = codes "Rgb10a2Uint"
+format_name formats.Rgb10a2Unorm = codes "Rgb10a2Unorm"
+format_name formats.Rg11b10Ufloat = codes "Rg11b10Ufloat"
+format_name formats.R64Uint = codes "R64Uint"
+
+abbrev pub stage_name : ShaderStage → List ℕ
+stage_name stages.Vertex = codes "Vertex"
+stage_name stages.Fragment = codes "Fragment"
+stage_name stages.Compute = codes "Compute"
+stage_name stages.Mesh = codes "Mesh"
+stage_name stages.Task = codes "Task"
+
+abbrev pub severity_name : Severity → List ℕ
+severity_name severities.Off = codes "Off"
+severity_name severities.Info = codes "Info"
+severity_name severities.Warning = codes "Warning"
+severity_name severities.Error = codes "Error"

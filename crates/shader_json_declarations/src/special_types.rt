@@ -1,0 +1,147 @@
+//! Reads the types that built-in functions and ray queries return.
+ghost use Rattle.shader_json_declarations.specs.SpecialTypes.{AreSpecialTypes};
+ghost use Rattle.std.specs.Prelude.{⊤};
+
+use crate::fields::{Fields, Variant};
+use crate::values::Read;
+use indexmap::IndexSet;
+use json::Value;
+use shader_arena::Handle;
+use shader_ir::{Map, PredeclaredType, Scalar, SpecialTypes, VectorSize, mark};
+use shader_json_reader::{Context, Failure, within};
+
+/// A predeclared result type of a built-in function.
+#[derive(Drop)]
+enum Key {
+    Supported(PredeclaredType),
+    /// The result type of an atomic compare-exchange, which the module doesn't record.
+    Dropped(Scalar),
+}
+
+/// A scalar, or a vector of this size.
+struct Shape {
+    size: Option<VectorSize>,
+    scalar: Scalar,
+}
+
+impl Read for Shape {
+    ghost reads = { λ _ _. ⊤ };
+
+    fn read(context: &mut Context, value: &Value<'_>) -> Result<Shape, Failure> {
+        let fields = Fields::of(context, value)?;
+        Ok(Shape {
+            size: fields.optional(context, "size")?,
+            scalar: fields.needed(context, "scalar")?,
+        })
+    }
+}
+
+impl Read for Key {
+    ghost reads = { λ _ _. ⊤ };
+
+    fn read(context: &mut Context, value: &Value<'_>) -> Result<Key, Failure> {
+        let Variant { name, data } = Variant::of(context, value)?;
+        match (name, data) {
+            ("ModfResult", Some(data)) => {
+                let Shape { size, scalar } = data.read(context)?;
+                Ok(Key::Supported(PredeclaredType::ModfResult { size, scalar }))
+            }
+            ("FrexpResult", Some(data)) => {
+                let Shape { size, scalar } = data.read(context)?;
+                Ok(Key::Supported(PredeclaredType::FrexpResult { size, scalar }))
+            }
+            ("AtomicCompareExchangeWeakResult", Some(data)) => {
+                Ok(Key::Dropped(data.read(context)?))
+            }
+            _ => Err(context.refused("a predeclared type")),
+        }
+    }
+}
+
+/// The types of all keys.
+#[derive(Drop)]
+struct Predeclared {
+    stored: Map<PredeclaredType, Handle<mark::Type>>,
+    dropped: IndexSet<Scalar>,
+}
+
+impl Predeclared {
+    /// Adds a key with its type.
+    fn add(&mut self, context: &mut Context, pair: &Value<'_>) -> Result<(), Failure> {
+        let (key, ty) = read_pair(context, pair)?;
+        let is_new = match key {
+            Key::Supported(key) => self.stored.insert(key, ty)?.is_none(),
+            Key::Dropped(scalar) => self.dropped.insert(scalar)?,
+        };
+        if is_new {
+            Ok(())
+        } else {
+            Err(context.refused("a key that stands once").within(0))
+        }
+    }
+}
+
+/// Reads a key with its type.
+fn read_pair(
+    context: &mut Context,
+    pair: &Value<'_>,
+) -> Result<(Key, Handle<mark::Type>), Failure> {
+    let wanted = "an array of 2 items, key and type";
+    let Value::Array(items) = pair else {
+        return Err(context.refused(wanted));
+    };
+    match items.as_slice() {
+        [key, ty] => {
+            let key = within(0, Key::read(context, key))?;
+            Ok((key, within(1, Handle::read(context, ty))?))
+        }
+        _ => Err(context.refused(wanted)),
+    }
+}
+
+/// Returns whether a value is an object without members.
+fn is_empty_object(value: &Value<'_>) -> bool {
+    match value {
+        Value::Object(members) => members.is_empty(),
+        _ => false,
+    }
+}
+
+impl Read for Predeclared {
+    ghost reads = { λ _ _. ⊤ };
+
+    /// Reads an array of pairs. An object must be empty, since the keys of this map can't be keys
+    /// of JSON.
+    fn read(context: &mut Context, value: &Value<'_>) -> Result<Predeclared, Failure> {
+        let mut types = Predeclared {
+            stored: Map::new(context.alloc),
+            dropped: IndexSet::new(context.alloc),
+        };
+        if is_empty_object(value) {
+            return Ok(types);
+        }
+        let Value::Array(pairs) = value else {
+            return Err(context.refused("an array of pairs, or an empty object"));
+        };
+        for (index, pair) in pairs.iter().enumerate() {
+            within(index, types.add(context, pair))?;
+        }
+        Ok(types)
+    }
+}
+
+impl Read for SpecialTypes {
+    ghost reads = { λ j special. AreSpecialTypes j special };
+
+    fn read(context: &mut Context, value: &Value<'_>) -> Result<SpecialTypes, Failure> {
+        let fields = Fields::of(context, value)?;
+        let ray_intersection = fields.optional(context, "ray_intersection")?;
+        let ray_vertex_return = fields.optional(context, "ray_vertex_return")?;
+        let Predeclared { stored, dropped: _ } = fields.needed(context, "predeclared_types")?;
+        Ok(SpecialTypes {
+            ray_intersection,
+            ray_vertex_return,
+            predeclared_types: stored,
+        })
+    }
+}

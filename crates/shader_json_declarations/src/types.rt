@@ -1,0 +1,254 @@
+//! Reads types, and the bindings of arguments, results and members.
+ghost use Rattle.json.specs.Value.{value_view};
+ghost use Rattle.shader_json_declarations.specs.Types.{IsBinding, IsBuiltIn, IsInner, IsInnerOf, IsLength, IsMember, IsSpace, IsType};
+ghost use Rattle.shader_json_reader.specs.Shapes.{IsList};
+ghost use Rattle.std.specs.Prelude.{◌≡◌, ◌++◌, ◌∷◌, [], IfOk, OnOk, Some, length};
+
+use crate::fields::{Data, Fields, Variant};
+use crate::values::{Read, read_item};
+use json::Value;
+use shader_arena::UniqueArena;
+use shader_ir::{AddressSpace, ArraySize, Binding, BuiltIn, StructMember, Type, TypeInner, mark};
+use shader_json_reader::{Context, Failure};
+
+impl Read for AddressSpace {
+    ghost reads = { λ j space. IsSpace j space };
+
+    fn read(context: &mut Context, value: &Value<'_>) -> Result<AddressSpace, Failure> {
+        let Variant { name, data } = Variant::of(context, value)?;
+        match (name, data) {
+            ("Storage", Some(data)) => Ok(AddressSpace::Storage {
+                access: data.field(context, "access")?,
+            }),
+            ("Function", None) => Ok(AddressSpace::Function),
+            ("Private", None) => Ok(AddressSpace::Private),
+            ("WorkGroup", None) => Ok(AddressSpace::WorkGroup),
+            ("Uniform", None) => Ok(AddressSpace::Uniform),
+            ("Handle", None) => Ok(AddressSpace::Handle),
+            ("Immediate", None) => Ok(AddressSpace::Immediate),
+            ("TaskPayload", None) => Ok(AddressSpace::TaskPayload),
+            ("RayPayload", None) => Ok(AddressSpace::RayPayload),
+            ("IncomingRayPayload", None) => Ok(AddressSpace::IncomingRayPayload),
+            _ => Err(context.refused("an address space")),
+        }
+    }
+}
+
+impl Read for ArraySize {
+    ghost reads = { λ j size. IsLength j size };
+
+    fn read(context: &mut Context, value: &Value<'_>) -> Result<ArraySize, Failure> {
+        let Variant { name, data } = Variant::of(context, value)?;
+        match (name, data) {
+            ("Constant", Some(data)) => Ok(ArraySize::Constant(data.read(context)?)),
+            ("Pending", Some(data)) => Ok(ArraySize::Pending(data.read(context)?)),
+            ("Dynamic", None) => Ok(ArraySize::Dynamic),
+            _ => Err(context.refused("the size of an array")),
+        }
+    }
+}
+
+impl Read for BuiltIn {
+    ghost reads = { λ j builtin. IsBuiltIn j builtin };
+
+    /// Reads a built-in value. Those without a variant here are distinguished by their JSON.
+    fn read(context: &mut Context, value: &Value<'_>) -> Result<BuiltIn, Failure> {
+        let Variant { name, data } = Variant::of(context, value)?;
+        if data.is_none() {
+            if name == "WorkGroupId" {
+                return Ok(BuiltIn::WorkGroupId);
+            }
+            if name == "WorkGroupSize" {
+                return Ok(BuiltIn::WorkGroupSize);
+            }
+            if name == "NumWorkGroups" {
+                return Ok(BuiltIn::NumWorkGroups);
+            }
+        }
+        Ok(BuiltIn::Other(context.number_of(value)?))
+    }
+}
+
+impl Read for Binding {
+    ghost reads = { λ j binding. IsBinding j binding };
+
+    fn read(context: &mut Context, value: &Value<'_>) -> Result<Binding, Failure> {
+        let Variant { name, data } = Variant::of(context, value)?;
+        match (name, data) {
+            ("BuiltIn", Some(data)) => Ok(Binding::BuiltIn(data.read(context)?)),
+            ("Location", Some(data)) => Ok(Binding::Location(data.field(context, "location")?)),
+            _ => Err(context.refused("`BuiltIn` or `Location`")),
+        }
+    }
+}
+
+impl Read for StructMember {
+    ghost reads = { λ j member. IsMember j member };
+
+    fn read(context: &mut Context, value: &Value<'_>) -> Result<StructMember, Failure> {
+        let fields = Fields::of(context, value)?;
+        Ok(StructMember {
+            name: fields.optional(context, "name")?,
+            ty: fields.needed(context, "ty")?,
+            binding: fields.optional(context, "binding")?,
+            offset: fields.needed(context, "offset")?,
+        })
+    }
+}
+
+impl Read for TypeInner {
+    ghost reads = { λ j inner. IsInner j inner };
+
+    fn read(context: &mut Context, value: &Value<'_>) -> Result<TypeInner, Failure> {
+        let Variant { name, data } = Variant::of(context, value)?;
+        match data {
+            Some(data) => of_scalars(context, name, data),
+            None => Err(context.refused("a type, with its fields")),
+        }
+    }
+}
+
+/// Reads a type of scalars alone, or else one that `of_types` reads.
+fn of_scalars(context: &mut Context, name: &str, data: Data<'_, '_>) -> Result<TypeInner, Failure>
+    ensures { IfOk result (λ inner. IsInnerOf name.now (Some (value_view «data».entry.value.now)) inner) }
+{
+    match name {
+        "Scalar" => Ok(TypeInner::Scalar(data.read(context)?)),
+        "Vector" => {
+            let (size, scalar) = data.pair(context, "size", "scalar")?;
+            Ok(TypeInner::Vector { size, scalar })
+        }
+        "Matrix" => {
+            let (columns, rows, scalar) = data.triple(context, "columns", "rows", "scalar")?;
+            Ok(TypeInner::Matrix {
+                columns,
+                rows,
+                scalar,
+            })
+        }
+        "CooperativeMatrix" => {
+            let fields = data.fields(context)?;
+            let (columns, rows, scalar) = fields.triple(context, "columns", "rows", "scalar")?;
+            Ok(TypeInner::CooperativeMatrix {
+                columns,
+                rows,
+                scalar,
+                role: fields.needed(context, "role")?,
+            })
+        }
+        "Atomic" => Ok(TypeInner::Atomic(data.read(context)?)),
+        _ => of_types(context, name, data),
+    }
+}
+
+/// Reads a pointer or a type composed of other types, or else one that `resource` reads.
+fn of_types(context: &mut Context, name: &str, data: Data<'_, '_>) -> Result<TypeInner, Failure>
+    ensures { IfOk result (λ inner. IsInnerOf name.now (Some (value_view «data».entry.value.now)) inner) }
+{
+    match name {
+        "Pointer" => {
+            let (base, space) = data.pair(context, "base", "space")?;
+            Ok(TypeInner::Pointer { base, space })
+        }
+        "ValuePointer" => {
+            let fields = data.fields(context)?;
+            let size = fields.optional(context, "size")?;
+            let (scalar, space) = fields.pair(context, "scalar", "space")?;
+            Ok(TypeInner::ValuePointer {
+                size,
+                scalar,
+                space,
+            })
+        }
+        "Array" => {
+            let (base, size, stride) = data.triple(context, "base", "size", "stride")?;
+            Ok(TypeInner::Array { base, size, stride })
+        }
+        "Struct" => {
+            let (members, span) = data.pair(context, "members", "span")?;
+            Ok(TypeInner::Struct { members, span })
+        }
+        _ => resource(context, name, data),
+    }
+}
+
+/// Reads the type of a resource.
+fn resource(context: &mut Context, name: &str, data: Data<'_, '_>) -> Result<TypeInner, Failure>
+    ensures { IfOk result (λ inner. IsInnerOf name.now (Some (value_view «data».entry.value.now)) inner) }
+{
+    match name {
+        "Image" => {
+            let (dim, arrayed, class) = data.triple(context, "dim", "arrayed", "class")?;
+            Ok(TypeInner::Image {
+                dim,
+                arrayed,
+                class,
+            })
+        }
+        "Sampler" => Ok(TypeInner::Sampler {
+            comparison: data.field(context, "comparison")?,
+        }),
+        "AccelerationStructure" => Ok(TypeInner::AccelerationStructure {
+            vertex_return: data.field(context, "vertex_return")?,
+        }),
+        "RayQuery" => Ok(TypeInner::RayQuery {
+            vertex_return: data.field(context, "vertex_return")?,
+        }),
+        "BindingArray" => {
+            let (base, size) = data.pair(context, "base", "size")?;
+            Ok(TypeInner::BindingArray { base, size })
+        }
+        _ => Err(context.refused("a type")),
+    }
+}
+
+impl Read for Type {
+    ghost reads = { λ j ty. IsType j ty };
+
+    fn read(context: &mut Context, value: &Value<'_>) -> Result<Type, Failure> {
+        let fields = Fields::of(context, value)?;
+        Ok(Type {
+            name: fields.optional(context, "name")?,
+            inner: fields.needed(context, "inner")?,
+        })
+    }
+}
+
+impl Read for UniqueArena<Type, mark::Type> {
+    ghost reads = { λ j types. IsList IsType j types };
+
+    fn read(
+        context: &mut Context,
+        value: &Value<'_>,
+    ) -> Result<UniqueArena<Type, mark::Type>, Failure> {
+        let Value::Array(items) = value else {
+            return Err(context.refused("an array"));
+        };
+        let mut types = UniqueArena::new(context.alloc);
+        for (index, item) in items.iter().enumerate() {
+            let ty: Type = read_item(context, index, item)?;
+            add_type(context, &mut types, index, ty)?;
+        }
+        Ok(types)
+    }
+}
+
+/// Adds the type of this index.
+fn add_type(
+    context: &Context,
+    types: &mut UniqueArena<Type, mark::Type>,
+    index: usize,
+    ty: Type,
+) -> Result<(), Failure>
+    requires { length types.old ≡ index }
+    ensures { OnOk result (types.new ≡ types.old ++ ty ∷ []) }
+{
+    if types.is_full() {
+        return Err(context.refused("an array of at most 4294967295 types"));
+    }
+    types.insert(ty)?;
+    if types.len() == index {
+        return Err(context.refused("a type that stands once").within(index));
+    }
+    Ok(())
+}

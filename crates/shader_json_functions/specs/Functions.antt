@@ -1,0 +1,26 @@
+-- Functions and entry points in the JSON of modules.
+use Rattle.std.specs.Prelude.{ℕ, List, Option, codes}
+use Rattle.json.specs.Json.{Json, Members}
+use Rattle.shader_ir.specs.declared.function.EntryPoint.{EntryPoint}
+use Rattle.shader_ir.specs.declared.function.Function.{Function}
+use Rattle.shader_json_reader.specs.Numbers.{IsText, IsUnsigned}
+use Rattle.shader_json_reader.specs.Shapes.{IsObject, IsList, HasField, MayHaveField}
+use Rattle.shader_json_declarations.specs.Declarations.{IsArgument, IsLocal, IsResult, IsStage}
+use Rattle.shader_json_expressions.specs.Expressions.{IsExpression}
+use Rattle.shader_json_functions.specs.Statements.{IsBlock}
+
+-- Of the names of expressions it says nothing.
+abbrev pub HasFunction : Members → Function → Type 0
+HasFunction ms f =
+    HasField (IsList IsExpression) (codes "expressions") ms f.expressions × HasField IsBlock (codes "body") ms f.body
+    × MayHaveField IsText (codes "name") ms f.name × HasField (IsList IsArgument) (codes "arguments") ms f.arguments
+    × MayHaveField IsResult (codes "result") ms f.result × HasField (IsList IsLocal) (codes "local_variables") ms f.local_variables
+    × MayHaveField IsUnsigned (codes "diagnostic_filter_leaf") ms f.diagnostic_filter_leaf
+
+abbrev pub IsFunction : Json → Function → Type 0
+IsFunction j f = IsObject j (λ ms. HasFunction ms f)
+
+abbrev pub IsEntryPoint : Json → EntryPoint → Type 0
+IsEntryPoint j e =
+    IsObject j (λ ms. HasField IsFunction (codes "function") ms e.function × HasField IsText (codes "name") ms e.name
+    × HasField IsStage (codes "stage") ms e.stage)

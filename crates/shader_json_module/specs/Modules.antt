@@ -1,0 +1,33 @@
+-- Modules in JSON.
+use Rattle.std.specs.Prelude.{ℕ, List, MatchOption, codes}
+use Rattle.json.specs.Json.{Json, Members, document}
+use Rattle.shader_ir.specs.declared.module.Module.{Module}
+use Rattle.shader_json_reader.specs.Shapes.{IsObject, IsList, HasField}
+use Rattle.shader_json_declarations.specs.Declarations.{IsConstant, IsGlobal, IsOverride}
+use Rattle.shader_json_declarations.specs.Filters.{IsFilterNode}
+use Rattle.shader_json_declarations.specs.SpecialTypes.{AreSpecialTypes}
+use Rattle.shader_json_declarations.specs.Types.{IsType}
+use Rattle.shader_json_expressions.specs.Expressions.{IsExpression}
+use Rattle.shader_json_functions.specs.Functions.{IsEntryPoint, IsFunction}
+
+abbrev pub HasDeclarations : Members → Module → Type 0
+HasDeclarations ms m =
+    HasField AreSpecialTypes (codes "special_types") ms m.special_types × HasField (IsList IsConstant) (codes "constants") ms m.constants
+    × HasField (IsList IsOverride) (codes "overrides") ms m.overrides
+    × HasField (IsList IsGlobal) (codes "global_variables") ms m.global_variables
+    × HasField (IsList IsFilterNode) (codes "diagnostic_filters") ms m.diagnostic_filters
+
+abbrev pub HasCode : Members → Module → Type 0
+HasCode ms m =
+    HasField (IsList IsType) (codes "types") ms m.types
+    × HasField (IsList IsExpression) (codes "global_expressions") ms m.global_expressions
+    × HasField (IsList IsFunction) (codes "functions") ms m.functions
+    × HasField (IsList IsEntryPoint) (codes "entry_points") ms m.entry_points
+
+-- the value stands for the module
+abbrev pub IsModule : Json → Module → Type 0
+IsModule j m = IsObject j (λ ms. HasCode ms m × HasDeclarations ms m)
+
+-- the text is JSON, and its value stands for the module
+abbrev pub IsTextOf : List ℕ → Module → Type 0
+IsTextOf text m = MatchOption (document text) ⊥ (λ j. IsModule j m)

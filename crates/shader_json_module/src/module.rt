@@ -1,0 +1,97 @@
+//! Reads modules.
+ghost use Rattle.std.specs.Prelude.{◌≡◌, ◌<◌, ◌↔◌, length, Err, IfErr, IfOk, IsSome, OnOk};
+ghost use Rattle.std.specs.Str.{IsUtf8};
+ghost use Rattle.json.specs.Json.{document};
+ghost use Rattle.json.specs.Value.{members_view, value_view};
+ghost use Rattle.shader_json_module.specs.Modules.{HasCode, HasDeclarations, IsModule, IsTextOf};
+ghost use Rattle.shader_json_reader.specs.Errors.{IsAccurate, most_text_bytes};
+
+use json::{Scratch, Value};
+use shader_ir::Module;
+use shader_json_declarations::Fields;
+use shader_json_expressions::Expressions;
+use shader_json_functions::{EntryPoints, Functions};
+use shader_json_reader::{Context, Failure, MOST_BYTES, ReadError, parse};
+use std::alloc::Global;
+use std::str;
+
+/// Fills an empty module from these fields, in a fixed order. A field that can't be read hides the errors of those after it.
+fn fill(context: &mut Context, fields: Fields<'_, '_>, module: &mut Module) -> Result<(), Failure>
+    ensures code { OnOk result (HasCode (members_view fields.entry.members.now) «module».new) }
+    ensures declarations { OnOk result (HasDeclarations (members_view fields.entry.members.now) «module».new) }
+{
+    let types = fields.needed(context, "types")?;
+    let Expressions(global_expressions) = fields.needed(context, "global_expressions")?;
+    let Functions(functions) = fields.needed(context, "functions")?;
+    let EntryPoints(entry_points) = fields.needed(context, "entry_points")?;
+    fill_declarations(context, fields, module)?;
+    module.types = types;
+    module.global_expressions = global_expressions;
+    module.functions = functions;
+    module.entry_points = entry_points;
+    Ok(())
+}
+
+/// Fills an empty module with what these fields declare outside functions.
+fn fill_declarations(
+    context: &mut Context,
+    fields: Fields<'_, '_>,
+    module: &mut Module,
+) -> Result<(), Failure>
+    ensures { OnOk result (HasDeclarations (members_view fields.entry.members.now) «module».new) }
+{
+    module.special_types = fields.needed(context, "special_types")?;
+    module.constants = fields.needed(context, "constants")?;
+    module.overrides = fields.needed(context, "overrides")?;
+    module.global_variables = fields.needed(context, "global_variables")?;
+    module.diagnostic_filters = fields.needed(context, "diagnostic_filters")?;
+    Ok(())
+}
+
+/// Reads a module from a JSON value.
+fn module(context: &mut Context, value: &Value<'_>) -> Result<Module, Failure>
+    ensures { IfOk result (λ m. IsModule (value_view value.now) m) }
+{
+    let fields = Fields::of(context, value)?;
+    let mut module = Module::new(context.alloc);
+    fill(context, fields, &mut module)?;
+    Ok(module)
+}
+
+/// Reads a module from a text.
+fn read_text(alloc: Global, text: &str) -> Result<Module, ReadError>
+    ensures ok { OnOk result (IsSome (document text.now)) }
+    ensures text { IfOk result (λ m. IsTextOf text.now m) }
+    ensures err { IfErr result (IsAccurate text.now) }
+{
+    let mut scratch = Scratch::new(alloc);
+    let root = parse(alloc, text, &mut scratch)?;
+    match module(&mut Context::new(alloc), &root) {
+        Ok(module) => Ok(module),
+        Err(failure) => Err(failure.into_read_error(alloc, &root)),
+    }
+}
+
+/// Reads a module from a JSON text as `serde_json` prints naga's.
+///
+/// Fields that this module type lacks are ignored. Everything else that naga wouldn't print is rejected with its path.
+///
+/// # Errors
+///
+/// A text that is too long, is no JSON or is no module; or an allocation failure.
+pub fn read_module(alloc: Global, text: &[u8]) -> Result<Module, ReadError>
+    ensures ok { OnOk result (IsUtf8 text.now × IsSome (document text.now)) }
+    ensures text { IfOk result (λ m. IsTextOf text.now m) }
+    ensures err { IfErr result (IsAccurate text.now) }
+    ensures too_long { (result ≡ Err ReadError.TooLong) ↔ (most_text_bytes < length text.now) }
+{
+    if text.len() > MOST_BYTES {
+        return Err(ReadError::TooLong);
+    }
+    match str::from_utf8(text) {
+        Ok(text) => read_text(alloc, text),
+        Err(error) => Err(ReadError::NotJson {
+            byte: error.valid_up_to(),
+        }),
+    }
+}

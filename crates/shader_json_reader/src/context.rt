@@ -1,0 +1,50 @@
+//! The state of reading besides the current value.
+ghost use Rattle.std.specs.Prelude.{◌≢◌};
+ghost use Rattle.shader_json_reader.specs.declared.failure.Failure.TheVariants.{OutOfMemory};
+
+use crate::error::Wanted;
+use crate::failure::Failure;
+use crate::lists::listed;
+use indexmap::IndexSet;
+use json::Value;
+use shader_ir::Name;
+use std::alloc::Global;
+
+/// The allocator, and the built-in values read so far.
+#[derive(Drop)]
+pub struct Context {
+    pub alloc: Global,
+    builtins: IndexSet<Name>,
+}
+
+impl Context {
+    /// Returns the state before any value is read. This allocates nothing.
+    pub fn new(alloc: Global) -> Context {
+        Context {
+            alloc,
+            builtins: IndexSet::new(alloc),
+        }
+    }
+
+    /// Returns the failure that rejects the current value. What is wanted is told with all names that may stand there.
+    pub fn refused(&self, wanted: &'static str) -> Failure
+        ensures { result ≢ OutOfMemory }
+    {
+        Failure::refused(self.alloc, Wanted::Value(listed(wanted)))
+    }
+
+    /// Returns a number for a built-in value. Two values have the same number if and only if they
+    /// are equal.
+    ///
+    /// # Errors
+    ///
+    /// `Failure::OutOfMemory` if allocation fails.
+    pub fn number_of(&mut self, builtin: &Value<'_>) -> Result<u32, Failure> {
+        let text = format!(in self.alloc; "{builtin:?}")?;
+        let (position, _) = self.builtins.insert_full(Name::from(text))?;
+        match u32::try_from(position) {
+            Ok(number) => Ok(number),
+            Err(_) => Err(Failure::OutOfMemory),
+        }
+    }
+}

@@ -1,0 +1,60 @@
+//! Errors of reading a module.
+ghost use Rattle.std.specs.Prelude.{◌≡◌};
+
+use std::alloc::AllocError;
+use thiserror::Error;
+
+/// The greatest length of a text in bytes.
+pub const MOST_BYTES: usize = 268_435_456;
+
+/// The requirement on a module's JSON that a value fails.
+#[derive(Debug, Drop, Error)]
+pub enum Wanted {
+    /// A value as these words describe it.
+    #[error("{0}")]
+    Value(&'static str),
+    /// An integer from the first to the second.
+    #[error("an integer from {0} to {1}")]
+    Integer(i64, u64),
+    /// An object with this field.
+    #[error("an object with the field `{0}`")]
+    Field(&'static str),
+}
+
+/// The reason why no module was read.
+#[derive(Debug, Drop, Error)]
+pub enum ReadError {
+    /// Allocation failed.
+    #[error("out of memory")]
+    OutOfMemory,
+    /// The text has more than `MOST_BYTES` bytes.
+    #[error("the text has more than 268,435,456 bytes")]
+    TooLong,
+    /// The text from this byte on, counted from 0, is no JSON.
+    #[error("byte {byte}: what begins here isn't JSON")]
+    NotJson {
+        byte: usize,
+    },
+    /// The array or object that begins at this byte is inside 128 others.
+    #[error("byte {byte}: arrays and objects nest more than 128 deep")]
+    TooDeep {
+        byte: usize,
+    },
+    /// The text is JSON, but the value at the path isn't what a module has there. The path of the whole text is empty.
+    #[error("`{path}`: wanted is {wanted}, and found is {found}")]
+    NotModule {
+        path: String,
+        wanted: Wanted,
+        found: String,
+    },
+}
+
+impl From<AllocError> for ReadError {
+    ghost use Rattle.shader_json_reader.specs.declared.error.ReadError.TheVariants.{OutOfMemory};
+
+    ghost from_gives = { λ _ e. e ≡ OutOfMemory };
+
+    fn from(_error: AllocError) -> ReadError {
+        ReadError::OutOfMemory
+    }
+}

@@ -1,5 +1,0 @@
-use Rattle.shader_lengths.proofs.KnownLemmas.{known_sizes_give_lengths}
-use Rattle.shader_lengths.proofs.laws.known_sizes_give_lengths.Goals as goal
-
-pub returns : goal.returns
-returns c = known_sizes_give_lengths

@@ -1,5 +1,0 @@
-use Rattle.shader_origins.proofs.ChainLemmas.{chains_are_of_origins}
-use Rattle.shader_origins.proofs.laws.chains_are_of_origins.Goals as goal
-
-pub returns : goal.returns
-returns c = chains_are_of_origins

@@ -1,4 +1,0 @@
-pub mod Chains
-pub mod Found
-pub mod Laws
-pub mod Reasons

@@ -1,0 +1,3 @@
+pub mod OfTheStep
+pub mod PairsFit
+pub mod Refused

@@ -1,0 +1,11 @@
+pub mod CountLemmas
+pub mod FactLemmas
+pub mod FlowLemmas
+pub mod StoredInfoLemmas
+pub mod MissingResourceLemmas
+pub mod OriginLemmas
+pub mod PairLemmas
+pub mod StepOrigins
+pub mod StepPairs
+pub mod StepResults
+pub mod RefCountLemmas

@@ -1,0 +1,12 @@
+pub mod Causes
+pub mod Conditions
+pub mod Ends
+pub mod Facts
+pub mod Results
+pub mod ComputedOrigins
+pub mod StatementLists
+pub mod InfoOf
+pub mod CalleeUses
+pub mod MissingResource
+pub mod RecordedPairs
+pub mod CountsAndUses

@@ -1,0 +1,12 @@
+//! The passes of the analysis over the expressions and the statements of one function: what holds of each expression, reference counts,
+//! calls, pairs of image and sampler, control flow, and the uniformity that these give.
+#![tactic(auto)]
+
+pub mod callees;
+pub mod facts;
+pub mod flatten;
+pub mod flow;
+pub mod pairs;
+pub mod ref_counts;
+pub mod sources;
+pub mod uniformity;

@@ -1,0 +1,31 @@
+//! The recorded uniformity of an expression and of a function, from the results of the passes.
+ghost use Rattle.std.specs.Prelude.{◌≡◌, None, fold};
+ghost use Rattle.shader_passes.specs.StatementLists.{listed};
+ghost use Rattle.shader_passes.specs.CalleeUses.{with_needs_of, given_by};
+
+use crate::callees::{requirements, result_origin};
+use crate::facts::Fact;
+use shader_info::{FunctionInfo, Uniformity};
+use shader_ir::Statement;
+
+/// Returns the uniformity of an expression with this fact.
+pub fn expression_uniformity(fact: &Fact) -> Uniformity
+    ensures origin { result.non_uniform_result ≡ fact.now.origin }
+    ensures needs { result.requirements.0 ≡ fact.now.requirements.0 }
+{
+    Uniformity {
+        non_uniform_result: fact.origin,
+        requirements: fact.requirements,
+    }
+}
+
+/// Returns the uniformity of a function, given the facts of its expressions and its statements at any depth.
+pub fn function_uniformity(infos: &[FunctionInfo], facts: &[Fact], all: &[&Statement]) -> Uniformity
+    ensures origin { result.non_uniform_result ≡ fold (given_by infos.now facts.now) None (listed all.now) }
+    ensures needs { result.requirements.0 ≡ fold (with_needs_of infos.now facts.now) 0 (listed all.now) }
+{
+    Uniformity {
+        non_uniform_result: result_origin(infos, facts, all),
+        requirements: requirements(infos, facts, all),
+    }
+}

@@ -1,0 +1,4 @@
+mod AccessLemmas
+mod BoundsLemmas
+mod NumberLemmas
+pub mod SizeLemmas

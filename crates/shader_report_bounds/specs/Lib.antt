@@ -1,0 +1,5 @@
+pub mod Accesses
+pub mod Bounds
+pub mod Laws
+pub mod Sizes
+pub mod Texts

@@ -1,0 +1,18 @@
+//! The report on bounds checks: the accesses of each function that need one under given policies, the checked indexes, and the types of the
+//! local variables to which pointers out of bounds are redirected; as JSON, and as text for people.
+#![tactic(auto)]
+
+mod accesses;
+mod function;
+mod json;
+pub mod laws;
+mod module_bounds;
+mod sizes;
+mod text;
+
+pub use accesses::{AccessCheck, AccessIndex, accesses_of};
+pub use function::{FunctionBounds, bounds_of};
+pub use json::BoundsJson;
+pub use module_bounds::{ModuleBounds, find_bounds};
+pub use sizes::first_unsized;
+pub use text::BoundsText;

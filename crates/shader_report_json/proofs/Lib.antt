@@ -1,0 +1,3 @@
+mod PairLemmas
+mod SectionLemmas
+mod TakeLemmas

@@ -1,4 +1,0 @@
-pub mod ExactReports
-pub mod PairLemmas
-pub mod PlaceLemmas
-pub mod Unique

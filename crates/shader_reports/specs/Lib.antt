@@ -1,4 +1,0 @@
-pub mod Laws
-pub mod Reports
-pub mod Texts
-pub mod Told

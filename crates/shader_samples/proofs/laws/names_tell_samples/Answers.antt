@@ -1,5 +1,0 @@
-use Rattle.shader_samples.proofs.NameFacts.{named_back}
-use Rattle.shader_samples.proofs.laws.names_tell_samples.Goals as goal
-
-pub returns : goal.returns
-returns c = named_back

@@ -1,4 +1,0 @@
-pub mod Causes
-pub mod Conditions
-pub mod Found
-pub mod OfTheStep

@@ -1,5 +1,0 @@
-//! The step equations of one function.
-#![tactic(auto)]
-
-pub mod laws;
-pub mod uniformity;

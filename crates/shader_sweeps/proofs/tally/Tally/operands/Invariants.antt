@@ -1,9 +1,0 @@
-use Rattle.std.proofs.Common.{◌≡◌, fold}
-use Rattle.shader_sweeps.specs.Tallied.{occurred}
-use Rattle.shader_sweeps.proofs.tally.Tally.operands.Given as goal
-
-abbrev pub invariant-loop-operand : goal.invariant-loop-operand
-invariant-loop-operand l =
-    (goal.iterator-loop-operand).can_next l.operand-iterator
-    × (goal.iterator-loop-operand).is_finite l.operand-iterator
-    × (fold (occurred l.facts) l.self l.operand-iterator ≡ fold (occurred l.facts) l.fn.self l.fn.operands)

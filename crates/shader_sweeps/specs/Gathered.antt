@@ -1,9 +1,0 @@
--- Statements lent, as a list.
-use Rattle.std.specs.Prelude.{List, map}
-use denote.Bor.{Bor}
-use Rattle.shader_ir.specs.Body.{Step}
-use Rattle.shader_ir.specs.BodyOf.{step_of}
-use Rattle.shader_ir.specs.declared.statement.Statement.{Statement}
-
-abbrev pub listed : List (Bor Statement) → List Step
-listed all = map (λ statement. step_of statement.now) all

@@ -1,9 +1,0 @@
-pub mod Builtins
-pub mod Cuts
-pub mod Laws
-pub mod Numbers
-pub mod Pieces
-pub mod Placements
-pub mod Scalars
-pub mod Texts
-pub mod Types

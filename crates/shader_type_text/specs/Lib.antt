@@ -1,0 +1,9 @@
+pub mod Builtins
+pub mod Cuts
+pub mod Laws
+pub mod Numbers
+pub mod Pieces
+pub mod Insertions
+pub mod Scalars
+pub mod Texts
+pub mod Types

@@ -1,0 +1,21 @@
+use Rattle.std.proofs.Common.{◌≡◌, ℕ, ◌+◌, ◌*◌, ◌<◌, ◌≤◌, List, [], ◌∷◌, Vec, Global, subst, sym, arith}
+use Rattle.shader_arena.specs.declared.handle.Handle.{Handle}
+use Rattle.shader_ir.specs.declared.mark.Expression.{Expression}
+use Rattle.shader_ir.specs.declared.statement.Block.TheDeep.{deep-SwitchCase, size-Statement, size-SwitchCase}
+use Rattle.shader_ir.specs.declared.statement.Statement.{Statement}
+use Rattle.shader_ir.specs.declared.statement.Statement.TheVariants.{Switch}
+use Rattle.shader_ir.specs.declared.statement.SwitchCase.{SwitchCase}
+use denote.Param.Weighed.{most}
+
+most_more : {X : Type 0} (depth : X → ℕ) (xs : List X) → most (λ x. 3 * depth x + 1) xs ≤ 3 * most depth xs + 1
+most_more depth [] = omega arith
+most_more depth (x ∷ xs) = let rest = most_more depth xs in omega arith
+
+-- the cases of a switch are less deep than it
+pub cases_fall : (statement : Statement) (selector : Handle Expression) (cases : Vec SwitchCase Global) (passed : List SwitchCase) (t : ℕ) →
+    statement ≡ Switch selector cases → passed ≡ cases.items → 2 * size-Statement statement + 0 ≡ t →
+    2 * most size-SwitchCase passed + 1 < t
+cases_fall statement selector cases passed t is same deep =
+    let below = most_more deep-SwitchCase cases.items in
+    let whole : 2 * size-Statement (Switch selector cases) + 0 ≡ t = subst (λ v. 2 * size-Statement v + 0 ≡ t) is deep in
+    subst (λ v. 2 * most size-SwitchCase v + 1 < t) (sym same) (omega (arith, below, whole))

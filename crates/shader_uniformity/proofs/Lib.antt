@@ -1,0 +1,13 @@
+pub mod CallLemmas
+pub mod Depths
+pub mod DoesLemmas
+pub mod EmitLemmas
+pub mod FineLemmas
+pub mod FunctionsLemmas
+pub mod KnownLemmas
+pub mod ReachLemmas
+pub mod RunLemmas
+pub mod StatusLemmas
+pub mod TogetherLemmas
+pub mod TraceLemmas
+pub mod VerdictLemmas

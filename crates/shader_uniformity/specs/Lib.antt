@@ -1,0 +1,17 @@
+pub mod Apart
+pub mod Calls
+pub mod Cells
+pub mod Differs
+pub mod Fault
+pub mod Filters
+pub mod Leaves
+pub mod Lockstep
+pub mod Marks
+pub mod Needs
+pub mod Places
+pub mod Positions
+pub mod RunWords
+pub mod Together
+pub mod Traces
+pub mod Verdict
+pub mod Words

@@ -1,0 +1,113 @@
+//! Which entry points let some invocations alone pass what needs all of them.
+ghost use Rattle.std.specs.Prelude.{◌≡◌, ◌↔◌, None, IfOk, IsTrue, slice_get, map};
+ghost use Rattle.shader_uniformity.specs.Fault.{AreAllKnown, AreFaulty, IsFault, IsKnownBy, IsVerdict};
+
+use crate::facts::{BodyLocation, Fact, Rule};
+use crate::filters::is_severe;
+use crate::known::{function_rules, known_of};
+use crate::reach::{holds, reach};
+use crate::verdict::verdict_of;
+use shader_ir::{EntryPoint, Function, Items, Module};
+use std::alloc::{AllocError, Global};
+
+/// What is found of the uniform control flow of a module.
+#[derive(Drop)]
+pub struct Uniformity {
+    /// Which endings of a call each of its beginnings leads to, for each function.
+    pub functions: Items<Items<Rule>>,
+    /// Whether some invocations alone may pass what needs all of them, for each entry point.
+    pub faulty: Items<bool>,
+    /// The first function that lets them by itself, whoever calls it, or else the first entry point that does.
+    pub fault: Option<BodyLocation>,
+}
+
+impl Uniformity {
+    /// Checks whether the module is accepted: no function and no entry point lets some invocations alone pass what needs all of them.
+    pub fn is_accepted(&self) -> bool
+        ensures { IsTrue result ↔ (self.now.fault ≡ None) }
+    {
+        self.fault.is_none()
+    }
+}
+
+/// Returns what is known of one more function.
+fn known_next(
+    alloc: Global,
+    module: &Module,
+    callees: &[Items<Rule>],
+    function: &Function,
+) -> Result<Items<Rule>, AllocError>
+    ensures { IfOk result (λ known. IsKnownBy «module».now callees.now function.now known) }
+{
+    let severe = is_severe(&module.diagnostic_filters, function.diagnostic_filter_leaf);
+    let rules = function_rules(alloc, module, callees, severe, false, function)?;
+    known_of(alloc, function.arguments.as_slice(), &rules)
+}
+
+/// Returns what is known of each function.
+fn known_functions(alloc: Global, module: &Module) -> Result<Vec<Items<Rule>>, AllocError>
+    ensures { IfOk result (λ known. AreAllKnown «module».now known.items) }
+{
+    let mut known = Vec::new(alloc);
+    for (_, function) in module.functions.iter() {
+        let next = known_next(alloc, module, &known, function)?;
+        known.push(next)?;
+    }
+    Ok(known)
+}
+
+/// Checks whether an entry point lets some invocations alone pass what needs all of them.
+fn is_fault(
+    alloc: Global,
+    module: &Module,
+    callees: &[Items<Rule>],
+    function: &Function,
+) -> Result<bool, AllocError>
+    ensures { IfOk result (λ faulty. IsTrue faulty ↔ IsFault «module».now callees.now function.now) }
+{
+    let severe = is_severe(&module.diagnostic_filters, function.diagnostic_filter_leaf);
+    let rules = function_rules(alloc, module, callees, severe, true, function)?;
+    let table = reach(alloc, &rules, &Fact::Always)?;
+    Ok(holds(&table, &Fact::Must))
+}
+
+/// Returns which of some entry points do.
+fn faulty_points(
+    alloc: Global,
+    module: &Module,
+    callees: &[Items<Rule>],
+    points: &[EntryPoint],
+) -> Result<Vec<bool>, AllocError>
+    ensures { IfOk result (λ faulty. AreFaulty «module».now callees.now points.now faulty.items) }
+{
+    let mut faulty = Vec::new(alloc);
+    for point in points {
+        faulty.push(is_fault(alloc, module, callees, &point.function)?)?;
+    }
+    Ok(faulty)
+}
+
+/// Finds which entry points of a module let some invocations alone pass what needs all of them, as barriers, derivatives and
+/// implicit levels do (WGSL, "Uniformity"), and what each function makes of the flow that it is called in and of its arguments.
+///
+/// A function knows those before it; a call of another one counts as a fault. A function that has a fault whoever calls it has the
+/// module refused, also where nothing calls it.
+///
+/// # Errors
+///
+/// `AllocError` where memory runs out, or a function has 2^32 statements.
+#[tactic(auto, using(crate::proofs::VerdictLemmas::verdict_is))]
+pub fn find_divergence(alloc: Global, module: &Module) -> Result<Uniformity, AllocError>
+    ensures functions { IfOk result (λ found. AreAllKnown «module».now found.functions) }
+    ensures faulty { IfOk result (λ found. AreFaulty «module».now found.functions «module».now.entry_points found.faulty) }
+    ensures fault { IfOk result (λ found. IsVerdict «module».now found.functions found.fault) }
+{
+    let known = known_functions(alloc, module)?;
+    let faulty = faulty_points(alloc, module, &known, module.entry_points.as_slice())?;
+    let fault = verdict_of(&known, &faulty);
+    Ok(Uniformity {
+        functions: Items::from(known),
+        faulty: Items::from(faulty),
+        fault,
+    })
+}

@@ -1,0 +1,21 @@
+//! Uniform control flow: which statements that need all invocations together may be passed by some of them alone.
+#![tactic(auto)]
+
+mod calls;
+mod differs;
+mod divergence;
+mod facts;
+mod filters;
+mod known;
+pub mod laws;
+mod leaves;
+mod places;
+mod reach;
+mod rules;
+mod traces;
+mod verdict;
+mod walk;
+
+pub use divergence::{Uniformity, find_divergence};
+pub use facts::{BodyLocation, Fact, Jump, Place, Rule};
+pub use traces::trace;

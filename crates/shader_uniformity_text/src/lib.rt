@@ -1,0 +1,9 @@
+//! The verdict on uniform flow as JSON and as text for people, with the trace to a source.
+#![tactic(auto)]
+
+mod names;
+mod needs;
+mod trace_text;
+mod verdict;
+
+pub use verdict::{Section, json_section, people_section};

@@ -1,0 +1,96 @@
+//! The statement at a position, and what of it needs all invocations.
+
+use shader_arena::{Arena, Handle, Range};
+use shader_ir::{Block, Expression, SampleLevel, Statement, mark};
+
+/// What a search among statements comes to.
+#[derive(Clone, Copy)]
+enum Found<'a> {
+    /// The statement.
+    Statement(&'a Statement),
+    /// The position behind those that were searched.
+    Behind(u32),
+}
+
+/// Searches the statements of a block that begins at a position. Positions are those of `shader_uniformity`.
+#[cycle(finding)]
+fn in_block(block: &Block, start: u32, wanted: u32) -> Found<'_> {
+    let mut position = start;
+    for statement in &block.statements {
+        if position == wanted {
+            return Found::Statement(statement);
+        }
+        match in_statement(statement, position, wanted) {
+            Found::Statement(found) => return Found::Statement(found),
+            Found::Behind(behind) => position = behind,
+        }
+    }
+    Found::Behind(position.saturating_add(1))
+}
+
+/// Searches the blocks of the statement at a position.
+#[cycle(finding)]
+fn in_statement(statement: &Statement, position: u32, wanted: u32) -> Found<'_> {
+    let first = position.saturating_add(1);
+    match statement {
+        Statement::Block(inner) => in_block(inner, first, wanted),
+        Statement::If { accept, reject, .. } => match in_block(accept, first, wanted) {
+            Found::Behind(second) => in_block(reject, second, wanted),
+            found => found,
+        },
+        Statement::Loop {
+            body,
+            continuing,
+            ..
+        } => match in_block(body, first.saturating_add(1), wanted) {
+            Found::Behind(second) => in_block(continuing, second, wanted),
+            found => found,
+        },
+        Statement::Switch { cases, .. } => {
+            let mut start = first.saturating_add(1);
+            for case in cases {
+                match in_block(&case.body, start, wanted) {
+                    Found::Statement(found) => return Found::Statement(found),
+                    Found::Behind(behind) => start = behind,
+                }
+            }
+            Found::Behind(start)
+        }
+        _ => Found::Behind(first),
+    }
+}
+
+/// Returns the statement at a position of a body, if there is one.
+pub fn statement_at(body: &Block, position: u32) -> Option<&Statement> {
+    match in_block(body, 1, position) {
+        Found::Statement(statement) => Some(statement),
+        Found::Behind(_) => None,
+    }
+}
+
+/// Checks whether an expression needs all invocations.
+fn needs_all(expression: &Expression) -> bool {
+    match expression {
+        Expression::Derivative { .. } => true,
+        Expression::ImageSample { level, .. } => match level {
+            SampleLevel::Auto | SampleLevel::Bias(_) => true,
+            SampleLevel::Zero | SampleLevel::Exact(_) | SampleLevel::Gradient { .. } => false,
+        },
+        Expression::CooperativeLoad { .. } => true,
+        Expression::CooperativeMultiplyAdd { .. } => true,
+        _ => false,
+    }
+}
+
+/// Returns the first expression of a range that needs all invocations.
+pub fn first_need(
+    expressions: &Arena<Expression, mark::Expression>,
+    range: &Range<mark::Expression>,
+) -> Option<Handle<mark::Expression>> {
+    for handle in range.iter() {
+        if expressions.contains_handle(handle) && needs_all(&expressions[handle]) {
+            return Some(handle);
+        }
+    }
+    None
+}

@@ -1,0 +1,5 @@
+pub mod ChainLemmas
+pub mod TraceLemmas
+pub mod LinkLemmas
+pub mod ReasonLemmas
+pub mod WalkLemmas

@@ -1,0 +1,8 @@
+use Rattle.shader_uniformity_trace.specs.declared.link.FunctionLocation.TheVariants as location
+use Rattle.shader_uniformity_trace.proofs.TraceLemmas.{one_more_trace}
+use Rattle.shader_uniformity_trace.proofs.trace.add_trace.Goals as goal
+
+pub returns : goal.returns
+returns c =
+    one_more_trace c.args.module.now (λ i. location.Function i) c.args.index c.from_index-handle.result c.args.traces.now.items
+    c.push.new.self.items c.in_ok-trace.trace c.requires.traces c.from_index-handle.ensures c.in_ok-trace.ensures c.in_ok-push.ensures.items

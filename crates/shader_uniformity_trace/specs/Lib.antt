@@ -1,0 +1,4 @@
+pub mod Chains
+pub mod Trace
+pub mod Laws
+pub mod Reasons

@@ -1,0 +1,2 @@
+pub mod Maxima
+pub mod Vertex

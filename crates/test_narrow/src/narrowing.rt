@@ -1,0 +1,73 @@
+//! The remaining rules of a built-in function, and their description.
+
+ghost use Rattle.std.specs.Prelude.{◌≡◌, ◌≢◌, [], All, IfOk};
+ghost use Rattle.shader_overloads.specs.AnySet.{rules_in};
+ghost use Rattle.shader_overloads.specs.Builtins.{acceptance_of, rules_of};
+ghost use Rattle.shader_overloads.specs.Remaining.{CallFits, remaining};
+ghost use Rattle.shader_type_text.specs.Insertions.{AreFlat};
+
+use shader_arena::{Arena, UniqueArena};
+use shader_ir::{GlobalCtx, MathFunction, Type, mark};
+use shader_overloads::{AnyOverloadSet, MathOverloads, OverloadSet, SetCall, narrow};
+use shader_type_text::{ArgumentsText, RulesText};
+use std::alloc::{AllocError, Global};
+
+/// Returns the rules of the built-in function that pass every call.
+pub fn rules_left(
+    alloc: Global,
+    function: MathFunction,
+    calls: &[SetCall],
+    types: &UniqueArena<Type, mark::Type>,
+) -> Result<AnyOverloadSet, AllocError>
+    requires flat { AreFlat types.now }
+    requires fit { All (CallFits types.now) calls.now }
+    ensures { IfOk result (λ left. rules_in left ≡ remaining (acceptance_of function) types.now calls.now (rules_of function)) }
+{
+    let set = function.overloads(alloc)?;
+    narrow(alloc, set, calls, types)
+}
+
+/// Returns the rules, their counts of arguments, and the types of each argument, or `refused` if no rule remains.
+pub fn describe(
+    alloc: Global,
+    left: &AnyOverloadSet,
+    types: &UniqueArena<Type, mark::Type>,
+) -> Result<String, AllocError> {
+    if left.is_empty() {
+        return "refused".to_string(alloc);
+    }
+    let constants = Arena::new(alloc);
+    let overrides = Arena::new(alloc);
+    let global_expressions = Arena::new(alloc);
+    let ctx = GlobalCtx {
+        types,
+        constants: &constants,
+        overrides: &overrides,
+        global_expressions: &global_expressions,
+    };
+    describe_rules(alloc, left, ctx)
+}
+
+/// Returns the rules of a set that isn't empty, with the counts and the types of their arguments.
+fn describe_rules(
+    alloc: Global,
+    left: &AnyOverloadSet,
+    ctx: GlobalCtx<'_>,
+) -> Result<String, AllocError>
+    requires { rules_in left.now ≢ [] }
+{
+    let mut text = String::new(alloc);
+    let rules = left.overload_list(alloc, ctx)?;
+    let least = left.min_arguments();
+    let greatest = left.max_arguments();
+    let rules = RulesText(rules.as_slice());
+    write!(text, "{rules} | {least}..{greatest}")?;
+    for i in 0..=greatest {
+        let allowed = left.allowed_args(alloc, i, ctx)?;
+        write!(text, " |")?;
+        if !allowed.is_empty() {
+            write!(text, " {}", ArgumentsText(allowed.as_slice()))?;
+        }
+    }
+    Ok(text)
+}

@@ -1,0 +1,103 @@
+#!/usr/bin/env python3
+"""Tests tests/habits and tests/walkthroughs on small texts, each with what they must say of it.
+
+    tests/test_habits.py
+"""
+import importlib.machinery
+import importlib.util
+import sys
+import unittest
+
+sys.dont_write_bytecode = True
+from crates import TOP
+
+
+def script(name):
+    """Returns a script of tests/ as a module."""
+    loader = importlib.machinery.SourceFileLoader(name, str(TOP / "tests" / name))
+    module = importlib.util.module_from_spec(importlib.util.spec_from_loader(name, loader))
+    loader.exec_module(module)
+    return module
+
+
+habits, walkthroughs = script("habits"), script("walkthroughs")
+
+
+def said(habit, path, text):
+    """Returns at how many places a habit is broken."""
+    return len(list(habit(habits.Text(path, text))))
+
+
+def function(lines):
+    return "pub fn f(\n    a: u32,\n) -> u32\n    ensures { result \u2261 a }\n{\n" + "    a;\n" * (lines - 2) + "}\n"
+
+
+class Habits(unittest.TestCase):
+    """What is said of a text."""
+
+    def test_lengths(self):
+        """Counts columns, but not of what can't be broken, and lines of a file."""
+        long = "x " * 100
+        rows = {f"// {long}": 1, f"#[tactic(auto, using({long}))]": 0, f"| {long} |": 0}
+        self.assertEqual({it: said(habits.lengths, "a.rt", f"{it}\n") for it in rows}, rows)
+        self.assertEqual([said(habits.lengths, "README.md", "x\n" * it) for it in (120, 121)], [0, 1])
+        self.assertEqual([said(habits.lengths, "a.py", "x\n" * it) for it in (800, 801)], [0, 1])
+
+    def test_functions(self):
+        """Counts the lines of a body, whatever stands before it, and in an impl too."""
+        self.assertEqual([said(habits.functions, "a.rt", function(it)) for it in (40, 41)], [0, 1])
+        within = "impl A {\n" + "".join(f"    {it}\n" for it in function(41).splitlines()) + "}\n"
+        self.assertEqual(said(habits.functions, "a.rt", within), 1)
+        self.assertEqual(said(habits.functions, "a.rt", "trait A {\n    fn f(&self);\n" + "    type B;\n" * 50 + "}\n"), 0)
+
+    def test_formats(self):
+        """Finds blanks, ends of files, holes and folders of a machine."""
+        rows = {"a\n": 0, "": 0, "a": 1, "a \n": 1, "a\tb\n": 1, "a\n\n": 1, "law = ?\n": 1, "in /ho" + "me/me/x\n": 1, "/dev/null\n": 0}
+        self.assertEqual({it: said(habits.format_of, "a.antt", it) for it in rows}, rows)
+
+    def test_names_and_links(self):
+        """Finds a name in another style, and a link that leads nowhere."""
+        rows = {"a/b_c.rt": 0, "a/B.rt": 1, "specs/Lib.antt": 0, "specs/lib.antt": 1, "a-b.edit": 1, "LICENSE": 0}
+        self.assertEqual({it: said(habits.name_of, it, "") for it in rows}, rows)
+        rows = {"[a](crates.txt)": 0, "[a](nowhere.md)": 1, "[a](https://nowhere)": 0, "[a](#b)": 0}
+        self.assertEqual({it: said(habits.links, "a.md", it) for it in rows}, rows)
+
+    def test_runs(self):
+        """Finds a run of lines in two files, and in one, whatever its indent; not one that is shorter, nor imports."""
+        run = "".join(f"line {it};\n" for it in range(habits.RUN))
+        two = lambda text: [habits.Text("a.rt", text), habits.Text("b.rt", "x;\n  " + text.replace("\n", "\n  "))]
+        self.assertEqual(len(habits.runs(two(run))), 1)
+        self.assertEqual(len(habits.runs([habits.Text("a.rt", run + run)])), 1)
+        self.assertEqual(habits.runs(two(run.partition("\n")[2])), [])
+        self.assertEqual(habits.runs(two(run.replace("line", "use line"))), [])
+
+
+class Walkthroughs(unittest.TestCase):
+    """What a list has, and what it must have."""
+
+    texts = {"crates/a/src/b.rt": "A::Old", "crates/a/specs/C.antt": "Old", "crates/c/src/d.rt": "Older"}
+    arms = "    match a {\n        Kind::A | Kind::B => 1,\n        _ => 2,\n    }\n"
+
+    def test_lists(self):
+        """Reads items below their folder, over lines, up to the next paragraph."""
+        items = "- `crates/a`: `src/b.rt`, what `Old` is;\n  `specs/D.antt`\n- `crates/e.rt`\n"
+        guide = f"Files that name `Old` or `No`:\n\n{items}\nText `x.rt`.\n"
+        wanted = {"crates/a/src/b.rt", "crates/a/specs/C.antt"}
+        found = {"crates/a/src/b.rt", "crates/a/specs/D.antt", "crates/e.rt"}
+        self.assertEqual([it[1:] for it in walkthroughs.lists(guide, self.texts)], [(found, wanted)])
+
+    def test_arms(self):
+        """Finds a match of the type with an arm for all else, and no other."""
+        rows = {self.arms: True, self.arms.replace("Kind", "Other"): False, self.arms.replace("_ =>", "Kind::C =>"): False}
+        self.assertEqual({it: walkthroughs.has_arm("Kind", it) for it in rows}, rows)
+
+
+def main():
+    ran = unittest.TextTestRunner(stream=sys.stdout, verbosity=1).run(unittest.defaultTestLoader.loadTestsFromModule(sys.modules[__name__]))
+    failed = len(ran.failures) + len(ran.errors)
+    print(f"{ran.testsRun - failed} passed, {failed} failed")
+    return 1 if failed else 0
+
+
+if __name__ == "__main__":
+    sys.exit(main())
