@@ -1,7 +1,8 @@
 //! Builds the report on a module.
-ghost use Rattle.std.specs.Prelude.{◌≡◌, [], length, map, IfOk, OnOk};
+ghost use Rattle.std.specs.Prelude.{◌≡◌, [], length, map, IfErr, IfOk, OnOk};
 ghost use Rattle.std.specs.List.{range_with_len};
 ghost use Rattle.shader_info.specs.declared.error.AnalysisLocation.TheVariants.{Function};
+ghost use Rattle.shader_info.specs.declared.error.FunctionError.TheVariants.{OutOfMemory};
 ghost use Rattle.sample_reports.specs.Reports.{IsModuleReport, locations_of};
 ghost use Rattle.sample_reports.specs.Reporting.{AddsReport, AreReportsOf, ReportsFunction, ReportsAll, ReportsRefusal};
 ghost use Rattle.sample_reports.specs.Reporting.{reported_kind};
@@ -117,9 +118,10 @@ fn kind_of(cause: &FunctionError) -> Option<FaultKind>
     }
 }
 
-/// Returns the report on a module with a fault.
+/// Returns the report on a module with a fault, or an error if the analysis ran out of memory.
 fn refused(error: &AnalysisError) -> Result<ModuleReport, AllocError>
-    ensures { IfOk result (ReportsRefusal error.now) }
+    ensures report { IfOk result (ReportsRefusal error.now) }
+    ensures memory { IfErr result (λ _. error.now.cause ≡ OutOfMemory) }
 {
     match kind_of(&error.cause) {
         Some(kind) => Ok(ModuleReport::Refused(error.location, kind)),

@@ -1,6 +1,6 @@
 //! The answer to all lines of an input.
 
-use crate::narrowing::{describe, rules_left};
+use crate::narrowing::{Question, describe, rules_left};
 use crate::step::calls_from_words;
 use shader_arena::UniqueArena;
 use shader_ir::MathFunction;
@@ -10,18 +10,19 @@ use std::alloc::{AllocError, Global};
 /// Returns the reply to a line, if it narrows the rules of a built-in function.
 fn reply_to(alloc: Global, line: &[u8]) -> Result<Option<String>, AllocError> {
     let mut words = Pieces::new(line, b' ');
-    if words.next() != Some(b"narrow".as_slice()) {
+    let Some(question) = words.next().and_then(|word| Question::from_word(word)) else {
         return Ok(None);
-    }
+    };
     let Some(function) = words.next().and_then(|name| builtin_from_word(name)) else {
         return Ok(None);
     };
-    narrowed(alloc, function, words)
+    narrowed(alloc, question, function, words)
 }
 
-/// Returns the function's rules that remain after the calls given by the words, if each word gives one.
+/// Returns what is asked of the function's rules that remain after the calls given by the words, if each word gives one.
 fn narrowed(
     alloc: Global,
+    question: Question,
     function: MathFunction,
     words: Pieces<'_>,
 ) -> Result<Option<String>, AllocError> {
@@ -30,7 +31,7 @@ fn narrowed(
         return Ok(None);
     };
     let left = rules_left(alloc, function, calls.as_slice(), &types)?;
-    Ok(Some(describe(alloc, &left, &types)?))
+    Ok(Some(describe(alloc, question, &left, calls.as_slice(), &types)?))
 }
 
 /// Returns the replies to the lines of the input, one per line.

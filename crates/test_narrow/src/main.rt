@@ -1,8 +1,9 @@
-//! A program for tests: answers lines that narrow the rules of a built-in function.
+//! A program for tests: answers lines that narrow the rules of a built-in function, by the rules that are left or by their ranks.
 #![tactic(auto)]
 
 mod answer;
 mod narrowing;
+mod ranks;
 mod step;
 
 use crate::answer::answer;

@@ -6,11 +6,32 @@ ghost use Rattle.shader_overloads.specs.Builtins.{acceptance_of, rules_of};
 ghost use Rattle.shader_overloads.specs.Remaining.{CallFits, remaining};
 ghost use Rattle.shader_type_text.specs.Insertions.{AreFlat};
 
+use crate::ranks::describe_ranks;
 use shader_arena::{Arena, UniqueArena};
 use shader_ir::{GlobalCtx, MathFunction, Type, mark};
 use shader_overloads::{AnyOverloadSet, MathOverloads, OverloadSet, SetCall, narrow};
 use shader_type_text::{ArgumentsText, RulesText};
 use std::alloc::{AllocError, Global};
+
+/// What a line asks about the rules that remain.
+#[derive(Clone, Copy)]
+pub enum Question {
+    /// The rules, and the types of their arguments.
+    Rules,
+    /// The rank of each rule at each supplied argument.
+    Ranks,
+}
+
+impl Question {
+    /// Returns the question with which a line begins.
+    pub fn from_word(word: &[u8]) -> Option<Question> {
+        match word {
+            b"narrow" => Some(Question::Rules),
+            b"ranks" => Some(Question::Ranks),
+            _ => None,
+        }
+    }
+}
 
 /// Returns the rules of the built-in function that pass every call.
 pub fn rules_left(
@@ -27,10 +48,12 @@ pub fn rules_left(
     narrow(alloc, set, calls, types)
 }
 
-/// Returns the rules, their counts of arguments, and the types of each argument, or `refused` if no rule remains.
+/// Returns the rules, their counts of arguments, and the types of each argument, or their ranks, or `refused` if no rule remains.
 pub fn describe(
     alloc: Global,
+    question: Question,
     left: &AnyOverloadSet,
+    calls: &[SetCall],
     types: &UniqueArena<Type, mark::Type>,
 ) -> Result<String, AllocError> {
     if left.is_empty() {
@@ -45,7 +68,13 @@ pub fn describe(
         overrides: &overrides,
         global_expressions: &global_expressions,
     };
-    describe_rules(alloc, left, ctx)
+    match question {
+        Question::Rules => describe_rules(alloc, left, ctx),
+        Question::Ranks => {
+            let rules = left.overload_list(alloc, ctx)?;
+            describe_ranks(alloc, rules.as_slice(), calls)
+        }
+    }
 }
 
 /// Returns the rules of a set that isn't empty, with the counts and the types of their arguments.

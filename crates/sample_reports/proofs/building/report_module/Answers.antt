@@ -19,4 +19,4 @@ returns-in-Err c =
     let m = c.args.module.now in
     let settings = settings_of c.args.flags c.args.capabilities in
     IfOk-weaker c.refused.result (ReportsRefusal c.in-Err.error) (IsModuleReport m settings)
-    (λ report reported. refusal_is m settings c.in-Err.error report c.in-Err.ensures.refused reported) c.refused.ensures
+    (λ report reported. refusal_is m settings c.in-Err.error report c.in-Err.ensures.refused reported) c.refused.ensures.report
