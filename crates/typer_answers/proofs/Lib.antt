@@ -1,4 +1,5 @@
 mod AnswerSteps
+mod ArraysLeave
 mod InputSpellings
 mod Laying
 mod LineSteps

@@ -7,7 +7,8 @@ use Rattle.shader_overloads.specs.declared.overload_set.SetCall.TheVariants.{Arg
 use Rattle.shader_overloads.specs.Builtins.{acceptance_of, rules_of}
 use Rattle.shader_overloads.specs.Remaining.{remaining}
 use Rattle.shader_type_text.specs.declared.types.PlainType.{PlainType}
-use Rattle.shader_type_text.specs.declared.types.SpelledType.TheVariants.{Plain}
+use Rattle.shader_type_text.specs.declared.types.SpelledType.{SpelledType}
+use Rattle.shader_type_text.specs.declared.types.SpelledType.TheVariants.{Plain, Array}
 use Rattle.shader_type_text.specs.Types.{plain_inner}
 use Rattle.typer_answers.specs.declared.answer.Outcome.{Outcome}
 use Rattle.typer_answers.specs.declared.answer.Outcome.TheVariants.{Done, BadLine}
@@ -78,3 +79,8 @@ calls_from position (plain ∷ plains) = Arg position (plain_inner plain) ∷ ca
 abbrev pub RulesLeftRemain : Type 0
 RulesLeftRemain = (function : MathFunction) (arguments : List PlainType)
     → rules_left function (map Plain arguments) ≡ remaining (acceptance_of function) [] (calls_from 0 arguments) (rules_of function)
+
+-- an array among the arguments leaves no rule
+abbrev pub ArraysLeaveNoRule : Type 0
+ArraysLeaveNoRule = (function : MathFunction) (before after : List SpelledType) (base : PlainType) (count stride : ℕ)
+    → rules_left function (before ++ Array base count stride ∷ after) ≡ []

@@ -1,8 +1,8 @@
 //! Laws on requests, answers, whole inputs and their spelling, and remaining rules. Each law is the contract of a function that does
 //! nothing.
 
-ghost use Rattle.typer_answers.specs.Laws.{AnswersAreUnique, BadLinesEndAnswers, LastLinesMayLackEnds, RequestsAreAnswered};
-ghost use Rattle.typer_answers.specs.Laws.{RequestsAreSpelled, RulesLeftRemain, SamplesHaveOneReport};
+ghost use Rattle.typer_answers.specs.Laws.{AnswersAreUnique, ArraysLeaveNoRule, BadLinesEndAnswers, LastLinesMayLackEnds};
+ghost use Rattle.typer_answers.specs.Laws.{RequestsAreAnswered, RequestsAreSpelled, RulesLeftRemain, SamplesHaveOneReport};
 
 /// States that a line makes a request exactly if it is the request's text.
 pub fn requests_are_spelled()
@@ -37,4 +37,9 @@ pub fn answers_are_unique()
 /// States that the rules in a reply are the rules of the function's set that remain after the arguments are supplied.
 pub fn rules_left_remain()
     ensures { RulesLeftRemain }
+{}
+
+/// States that an array among the arguments of a call leaves no rule, as no rule of a built-in function takes one.
+pub fn arrays_leave_no_rule()
+    ensures { ArraysLeaveNoRule }
 {}
