@@ -22,14 +22,24 @@ mod library;
 use library::Request;
 use std::fmt;
 
+/// By which rules uniform control flow is decided.
+#[derive(Clone, Copy, Debug, Default, PartialEq, Eq, Hash)]
+pub enum Uniformity {
+    /// By those of the crate `shader_uniformity`, which follow jumps, stores and calls, as WGSL wants it.
+    #[default]
+    Wgsl,
+    /// As naga's analyser specifies it.
+    Naga,
+    /// By none: what needs uniform control flow is accepted anywhere.
+    Off,
+}
+
 /// What is checked of a module. The default is all that naga's validator checks for a device with no capability, and uniform control flow
 /// after WGSL.
 #[derive(Clone, Copy, Debug, Default, PartialEq, Eq, Hash)]
 pub struct Options {
-    /// Accepts what needs uniform control flow anywhere.
-    pub no_control_flow_uniformity: bool,
-    /// Decides uniform control flow as naga specifies it, and not by the definition of `shader_uniformity`.
-    pub naga_uniformity: bool,
+    /// By which rules uniform control flow is decided.
+    pub uniformity: Uniformity,
     /// Lets arrays of sampled textures and of samplers be indexed by non-uniform values.
     pub non_uniform_textures: bool,
     /// Lets arrays of storage textures be indexed by non-uniform values.
@@ -41,10 +51,14 @@ const FOR_PEOPLE: u32 = 8;
 
 impl Options {
     fn bits(self) -> u32 {
-        u32::from(self.no_control_flow_uniformity)
+        let uniformity = match self.uniformity {
+            Uniformity::Wgsl => 0,
+            Uniformity::Off => 1,
+            Uniformity::Naga => 16,
+        };
+        uniformity
             | u32::from(self.non_uniform_textures) << 1
             | u32::from(self.non_uniform_storage_textures) << 2
-            | u32::from(self.naga_uniformity) << 4
     }
 }
 

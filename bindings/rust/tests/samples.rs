@@ -1,7 +1,7 @@
 //! Reports on the modules of `tests/samples/json`, beside what naga's own code found. That the bytes are those of the program `report` is
 //! for `tests/bindings` to say, which builds that.
 
-use pethuvazh::{answer_lines, report_json, report_text, Error, Options, Report};
+use pethuvazh::{answer_lines, report_json, report_text, Error, Options, Report, Uniformity};
 use std::fs;
 use std::path::PathBuf;
 
@@ -31,8 +31,10 @@ fn case(line: &str) -> (&str, Options) {
     let from = line.find("\"module\":").unwrap() + "\"module\":".len();
     let capabilities = number(&line[..from], "capabilities");
     let options = Options {
-        no_control_flow_uniformity: number(&line[..from], "flags") & 1 == 0,
-        naga_uniformity: number(&line[..from], "flags") & 1 != 0,
+        uniformity: match number(&line[..from], "flags") & 1 {
+            0 => Uniformity::Off,
+            _ => Uniformity::Naga,
+        },
         non_uniform_textures: capabilities & 1 != 0,
         non_uniform_storage_textures: capabilities & 2 != 0,
     };
@@ -58,7 +60,7 @@ fn options_are_heeded() {
     let module = fs::read(samples().join("json/real/derivative.json")).unwrap();
     let all = Options::default();
     let any_flow = Options {
-        no_control_flow_uniformity: true,
+        uniformity: Uniformity::Off,
         ..all
     };
     assert!(!report_json(&module, all).unwrap().is_accepted);
