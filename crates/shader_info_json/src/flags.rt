@@ -1,31 +1,55 @@
 //! Flags as their names, separated by bars.
-ghost use Rattle.std.specs.Prelude.{Some};
-ghost use Rattle.shader_info_json.specs.Flags.{access_text, capabilities_text, flag_name, requirements_text, stages_text, uses_text};
+ghost use Rattle.std.specs.Prelude.{Some, map};
+ghost use Rattle.std.specs.List.{flat_map};
+ghost use Rattle.shader_info_json.specs.Flags.{access_text, capabilities_text, flags_text, name_after_bar, requirements_text, rows_of};
+ghost use Rattle.shader_info_json.specs.Flags.{stages_text, uses_text};
 
 use shader_info::{Capabilities, GlobalUse, UniformityRequirements};
 use shader_ir::{ShaderStages, StorageAccess};
 use std::fmt;
 
-/// The name of a flag if it is set, after a bar if an earlier flag is set.
+/// A flag's name and its bit.
+type Flag = (&'static str, u64);
+
+/// The names of the flags that are set, each after a bar.
 #[derive(Clone, Copy)]
-struct FlagText {
-    name: &'static str,
-    is_set: bool,
-    is_later: bool,
+struct LaterText<'a> {
+    table: &'a [Flag],
+    bits: u64,
 }
 
-impl fmt::Display for FlagText {
-    ghost output = { λ text. Some (flag_name text.name.now text.is_set text.is_later) };
+impl fmt::Display for LaterText<'_> {
+    ghost output = { λ text. Some (flat_map (name_after_bar text.bits) (rows_of text.table.now)) };
 
     fn fmt<W: fmt::Write>(&self, f: &mut fmt::Formatter<W>) -> fmt::Result {
-        if !self.is_set {
-            return Ok(());
+        for (name, bit) in self.table {
+            if self.bits & *bit == *bit {
+                write!(f, " | {name}")?;
+            }
         }
-        if self.is_later {
-            write!(f, " | {}", self.name)
-        } else {
-            write!(f, "{}", self.name)
+        Ok(())
+    }
+}
+
+/// The names of the flags that are set, separated by bars.
+#[derive(Clone, Copy)]
+struct FlagsText<'a> {
+    table: &'a [Flag],
+    bits: u64,
+}
+
+impl fmt::Display for FlagsText<'_> {
+    ghost output = { λ text. Some (flags_text (rows_of text.table.now) text.bits) };
+
+    fn fmt<W: fmt::Write>(&self, f: &mut fmt::Formatter<W>) -> fmt::Result {
+        let bits = self.bits;
+        for (position, (name, bit)) in self.table.iter().enumerate() {
+            if bits & *bit == *bit {
+                let table = &self.table[position + 1..];
+                return write!(f, "{name}{}", LaterText { table, bits });
+            }
         }
+        Ok(())
     }
 }
 
@@ -38,26 +62,11 @@ impl fmt::Display for AccessText {
 
     #[tactic(auto, unfolding(crate::specs::Flags::access_text))]
     fn fmt<W: fmt::Write>(&self, f: &mut fmt::Formatter<W>) -> fmt::Result {
-        let bits = self.0.0;
-        let first = bits & 1 == 1;
-        let second = bits & 2 == 2;
-        let third = bits & 4 == 4;
-        let first_text = FlagText {
-            name: "LOAD",
-            is_set: first,
-            is_later: false,
+        let text = FlagsText {
+            table: &[("LOAD", 1), ("STORE", 2), ("ATOMIC", 4)],
+            bits: u64::from(self.0.0),
         };
-        let second_text = FlagText {
-            name: "STORE",
-            is_set: second,
-            is_later: first,
-        };
-        let third_text = FlagText {
-            name: "ATOMIC",
-            is_set: third,
-            is_later: first | second,
-        };
-        write!(f, "{first_text}{second_text}{third_text}")
+        write!(f, "{text}")
     }
 }
 
@@ -70,32 +79,16 @@ impl fmt::Display for RequirementsText {
 
     #[tactic(auto, unfolding(crate::specs::Flags::requirements_text))]
     fn fmt<W: fmt::Write>(&self, f: &mut fmt::Formatter<W>) -> fmt::Result {
-        let bits = self.0.0;
-        let first = bits & 1 == 1;
-        let second = bits & 2 == 2;
-        let third = bits & 4 == 4;
-        let fourth = bits & 8 == 8;
-        let first_text = FlagText {
-            name: "WORK_GROUP_BARRIER",
-            is_set: first,
-            is_later: false,
+        let text = FlagsText {
+            table: &[
+                ("WORK_GROUP_BARRIER", 1),
+                ("DERIVATIVE", 2),
+                ("IMPLICIT_LEVEL", 4),
+                ("COOP_OPS", 8),
+            ],
+            bits: u64::from(self.0.0),
         };
-        let second_text = FlagText {
-            name: "DERIVATIVE",
-            is_set: second,
-            is_later: first,
-        };
-        let third_text = FlagText {
-            name: "IMPLICIT_LEVEL",
-            is_set: third,
-            is_later: first | second,
-        };
-        let fourth_text = FlagText {
-            name: "COOP_OPS",
-            is_set: fourth,
-            is_later: first | second | third,
-        };
-        write!(f, "{first_text}{second_text}{third_text}{fourth_text}")
+        write!(f, "{text}")
     }
 }
 
@@ -108,32 +101,11 @@ impl fmt::Display for UsesText {
 
     #[tactic(auto, unfolding(crate::specs::Flags::uses_text))]
     fn fmt<W: fmt::Write>(&self, f: &mut fmt::Formatter<W>) -> fmt::Result {
-        let bits = self.0.0;
-        let first = bits & 1 == 1;
-        let second = bits & 2 == 2;
-        let third = bits & 4 == 4;
-        let fourth = bits & 8 == 8;
-        let first_text = FlagText {
-            name: "READ",
-            is_set: first,
-            is_later: false,
+        let text = FlagsText {
+            table: &[("READ", 1), ("WRITE", 2), ("QUERY", 4), ("ATOMIC", 8)],
+            bits: u64::from(self.0.0),
         };
-        let second_text = FlagText {
-            name: "WRITE",
-            is_set: second,
-            is_later: first,
-        };
-        let third_text = FlagText {
-            name: "QUERY",
-            is_set: third,
-            is_later: first | second,
-        };
-        let fourth_text = FlagText {
-            name: "ATOMIC",
-            is_set: fourth,
-            is_later: first | second | third,
-        };
-        write!(f, "{first_text}{second_text}{third_text}{fourth_text}")
+        write!(f, "{text}")
     }
 }
 
@@ -146,41 +118,17 @@ impl fmt::Display for StagesText {
 
     #[tactic(auto, unfolding(crate::specs::Flags::stages_text))]
     fn fmt<W: fmt::Write>(&self, f: &mut fmt::Formatter<W>) -> fmt::Result {
-        let bits = self.0.0;
-        let first = bits & 1 == 1;
-        let second = bits & 2 == 2;
-        let third = bits & 4 == 4;
-        let fourth = bits & 8 == 8;
-        let fifth = bits & 16 == 16;
-        let first_text = FlagText {
-            name: "VERTEX",
-            is_set: first,
-            is_later: false,
+        let text = FlagsText {
+            table: &[
+                ("VERTEX", 1),
+                ("FRAGMENT", 2),
+                ("COMPUTE", 4),
+                ("MESH", 8),
+                ("TASK", 16),
+            ],
+            bits: u64::from(self.0.0),
         };
-        let second_text = FlagText {
-            name: "FRAGMENT",
-            is_set: second,
-            is_later: first,
-        };
-        let third_text = FlagText {
-            name: "COMPUTE",
-            is_set: third,
-            is_later: first | second,
-        };
-        let fourth_text = FlagText {
-            name: "MESH",
-            is_set: fourth,
-            is_later: first | second | third,
-        };
-        let fifth_text = FlagText {
-            name: "TASK",
-            is_set: fifth,
-            is_later: first | second | third | fourth,
-        };
-        write!(
-            f,
-            "{first_text}{second_text}{third_text}{fourth_text}{fifth_text}"
-        )
+        write!(f, "{text}")
     }
 }
 
@@ -193,19 +141,13 @@ impl fmt::Display for CapabilitiesText {
 
     #[tactic(auto, unfolding(crate::specs::Flags::capabilities_text))]
     fn fmt<W: fmt::Write>(&self, f: &mut fmt::Formatter<W>) -> fmt::Result {
-        let bits = self.0.0;
-        let first = bits & 1 == 1;
-        let second = bits & 2 == 2;
-        let first_text = FlagText {
-            name: "TEXTURE_AND_SAMPLER_BINDING_ARRAY_NON_UNIFORM_INDEXING",
-            is_set: first,
-            is_later: false,
+        let text = FlagsText {
+            table: &[
+                ("TEXTURE_AND_SAMPLER_BINDING_ARRAY_NON_UNIFORM_INDEXING", 1),
+                ("STORAGE_TEXTURE_BINDING_ARRAY_NON_UNIFORM_INDEXING", 2),
+            ],
+            bits: self.0.0,
         };
-        let second_text = FlagText {
-            name: "STORAGE_TEXTURE_BINDING_ARRAY_NON_UNIFORM_INDEXING",
-            is_set: second,
-            is_later: first,
-        };
-        write!(f, "{first_text}{second_text}")
+        write!(f, "{text}")
     }
 }
