@@ -8,7 +8,9 @@
 //!     "entry_points":[],"diagnostic_filters":[],"diagnostic_filter_leaf":null,"doc_comments":null}"#;
 //! let report = pethuvazh::report_json(module, pethuvazh::Options::default())?;
 //! assert!(report.is_accepted);
-//! assert_eq!(report.text, "{\"layouts\":[],\"info\":{\"functions\":[],\"entry_points\":[],\"const_expression_types\":[]}}\n");
+//! let (verdict, rest) = report.text.split_once(",\"layouts\":").unwrap();
+//! assert_eq!(verdict, "{\"uniformity_verdict\":{\"accepted\":true}");
+//! assert_eq!(rest, "[],\"info\":{\"functions\":[],\"entry_points\":[],\"const_expression_types\":[]}}\n");
 //! # Ok::<(), pethuvazh::Error>(())
 //! ```
 //!
