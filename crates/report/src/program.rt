@@ -4,7 +4,8 @@ ghost use Rattle.std.specs.Str.{IsUtf8};
 ghost use Rattle.std.specs.Io.KnownBytes.{Appends, IsAtEnd, Keeps};
 ghost use Rattle.json.specs.Json.{document};
 ghost use Rattle.shader_analysis_spec.specs.Program.{Module};
-ghost use Rattle.report_answers.specs.Reports.{IsRefusal};
+ghost use Rattle.shader_json_module.specs.Modules.{IsTextOf};
+ghost use Rattle.report_answers.specs.Reports.{IsRefusal, IsReport};
 ghost use Rattle.report.specs.Runs.{IsAnswerOf, IsTold, OnAnswered, OnNotModule, OnUnanswered, is_told_apart, outcome_status};
 
 use crate::status::Status;
@@ -26,11 +27,17 @@ pub fn run<R: Source, W: Sink, E: Sink, P: Progress>(
     requires writes { W.has_failed writer.old ≡ false }
     requires told { E.has_failed errors.old ≡ false }
 
-    // With statuses 0 and 1 the whole input was read, it is JSON at least, and the report on the module was written.
+    // With statuses 0 and 1 the whole input was read, and the report on the module for which its JSON stands was written.
     ensures end { OnAnswered result (IsAtEnd (R.remaining reader.new)) }
     ensures json { OnAnswered result (IfSome (R.remaining reader.old) (λ input. IsUtf8 input × IsSome (document input))) }
-    ensures answer { OnAnswered result ((m : Module) × (text : List ℕ) × IsAnswerOf options m result text
-        × Appends (W.contents writer.old) (W.contents writer.new) text) }
+    ensures answer { OnAnswered result ((m : Module) × (text : List ℕ) × IfSome (R.remaining reader.old) (λ input. IsTextOf input m)
+        × IsAnswerOf options m result text × Appends (W.contents writer.old) (W.contents writer.new) text) }
+
+    // With status 6 what was written, or told beside it, is why the input is no module.
+    ensures refusal { OnNotModule result ((text : List ℕ)
+        × IfSome (R.remaining reader.old) (λ input. IsReport options input Outcome.NotModule text)
+        × IsTold options.is_json (E.has_failed errors.new) text (W.contents writer.old) (W.contents writer.new)
+        (E.contents errors.old) (E.contents errors.new)) }
 
     // With statuses 3 and 5 nothing was written.
     ensures nothing { OnUnanswered result (Keeps (W.contents writer.old) (W.contents writer.new)) }

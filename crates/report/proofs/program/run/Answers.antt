@@ -1,0 +1,24 @@
+use Rattle.std.proofs.Common.{◌∙◌, ap, sym, subst, Err}
+use Rattle.std.specs.Io.KnownBytes.{Consumes}
+use Rattle.report.proofs.RunLemmas.{answered, refused, refused_as_long}
+use Rattle.report.proofs.program.run.Given.{Over}
+use Rattle.report.proofs.program.run.Goals as goal
+
+-- the report is on what was read
+read : (g : Over) (c : goal.After-drop-input g) →
+    Consumes (g.R.Source.remaining c.args.reader.now) (g.R.Source.remaining c.read_input.new.reader) c.as_slice.result.now
+read g c = subst (λ input. Consumes (g.R.Source.remaining c.args.reader.now) (g.R.Source.remaining c.read_input.new.reader) input)
+    (sym c.as_slice.ensures.value) c.in-Ok.ensures.bytes
+
+pub returns-in-Ok-on-clause-answer : goal.returns-in-Ok-on-clause-answer
+returns-in-Ok-on-clause-answer g c =
+    answered _ _ _ _ _ _ _ _ _ (read g c) c.in-Ok.ensures.end c.in-Ok-on.ensures c.write_report.ensures.answer
+
+pub returns-in-Ok-on-clause-refusal : goal.returns-in-Ok-on-clause-refusal
+returns-in-Ok-on-clause-refusal g c =
+    refused _ _ _ _ _ _ _ _ _ _ _ _ (read g c) c.in-Ok.ensures.end c.in-Ok-on.ensures c.write_report.ensures.refusal
+
+pub returns-in-Err-TooLong-clause-refusal : goal.returns-in-Err-TooLong-clause-refusal
+returns-in-Err-TooLong-clause-refusal g c =
+    let (read, consumed, exactly) = c.read_input.ensures.read in
+    refused_as_long _ _ _ _ _ _ _ _ read _ consumed (exactly.0 (c.in-Err-TooLong.is ∙ ap Err c.in-Err-TooLong.field-0-is)) c.refuse.ensures.refusal
