@@ -117,6 +117,36 @@ def condition(_size):
     return module([function([{"Literal": {"Bool": True}}], [])])
 
 
+def shares(size):
+    """So many loads of one local variable, each stored again."""
+    expressions = [{"LocalVariable": 0}, {"Literal": {"F32": 0}}, *({"Load": {"pointer": 0}} for _ in range(size))]
+    steps = [({"Emit": {"start": it, "end": it + 1}}, {"Store": {"pointer": 0, "value": it}}) for it in range(2, size + 2)]
+    return expressions, [{"Store": {"pointer": 0, "value": 1}}, *(step for pair in steps for step in pair)]
+
+
+def shared_local(size, loops=0):
+    """A function of those, within so many loops in one another, each of one round."""
+    expressions, body = shares(size)
+    for _ in range(loops):
+        body = [{"Loop": {"body": [*body, "Break"], "continuing": [], "break_if": None}}]
+    local = {"name": None, "ty": 0, "init": None}
+    return module([{**function(expressions, body), "local_variables": [local]}], [{"Scalar": FLOAT}])
+
+
+def looped_local(size):
+    return shared_local(size, 30)
+
+
+def chained_locals(size):
+    """So many local variables in a Loop, each of which is given what the one behind it holds, and the last of all an argument."""
+    variables = [{"LocalVariable": it} for it in range(size)]
+    loads = [{"Load": {"pointer": it + 2}} for it in range(size - 1)]
+    steps = [({"Emit": {"start": it, "end": it + 1}}, {"Store": {"pointer": it - size, "value": it}}) for it in range(size + 1, 2 * size)]
+    body = [*(step for pair in steps for step in pair), {"Store": {"pointer": size, "value": 0}}, "Break"]
+    one = function([{"FunctionArgument": 0}, *variables, *loads], [{"Loop": {"body": body, "continuing": [], "break_if": None}}], [0])
+    return module([{**one, "local_variables": [{"name": None, "ty": 0, "init": None}] * size}], [{"Scalar": FLOAT}])
+
+
 def variable(ty, space):
     """A global of a type in a space."""
     return {"space": space, "ty": ty}
