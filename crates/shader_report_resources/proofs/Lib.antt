@@ -1,0 +1,4 @@
+mod LayoutLemmas
+mod UsesLemmas
+pub mod WordLemmas
+mod WrittenLemmas
