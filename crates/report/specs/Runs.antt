@@ -28,10 +28,10 @@ outcome_status outcomes.Accepted = Accepted
 outcome_status outcomes.Refused = Refused
 outcome_status outcomes.NotModule = NotModule
 
--- the written text is the report on a module
-pub record IsAnswerOf (options : Options) (m : Module) (status : Status) (written : List ℕ) : Type 0 where
+-- the written text is the report on a module for which an input stands
+pub record IsAnswerOf (options : Options) (input : List ℕ) (m : Module) (status : Status) (written : List ℕ) : Type 0 where
   pub accepted : Bool
-  pub reported : IsOutput options m accepted written
+  pub reported : IsOutput options input m accepted written
   pub ended : status ≡ verdict accepted
 
 -- a clause about statuses 0 and 1

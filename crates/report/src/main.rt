@@ -25,6 +25,7 @@ const USAGE: &str = "usage: report [FLAG..] < FILE
                              --non-uniform-indexing=storage-textures
                              --non-uniform-indexing=textures,storage-textures
   what else it tells:        --bounds-checks [KIND=POLICY,..]
+                             --resources
                              --drawing
                              --no-drawing";
 

@@ -1,5 +1,6 @@
 -- The members of the JSON that words ask for.
-use Rattle.std.specs.Prelude.{◌≡◌, ◌↔◌, ◌++◌, [], ℕ, List, Option, Some, None, IfSome, IsSome, codes}
+use Rattle.std.specs.Prelude.{◌≡◌, ◌↔◌, ◌++◌, [], ℕ, Bool, true, false, List, Option, Some, None, IfSome, IsSome, codes}
+use Rattle.json.specs.Json.{Json, document}
 use Rattle.shader_analysis_spec.specs.Faults.{IsAccepted, Settings}
 use Rattle.shader_analysis_spec.specs.Program.{Module}
 use Rattle.shader_bounds.specs.declared.policies.BoundsCheckPolicies.{BoundsCheckPolicies}
@@ -7,6 +8,7 @@ use Rattle.shader_passes.specs.Causes.{settings_of}
 use Rattle.shader_report_bounds.specs.Bounds.{AreModuleBounds}
 use Rattle.shader_report_bounds.specs.Texts.{bounds_text}
 use Rattle.shader_report_bounds.specs.declared.module_bounds.ModuleBounds.{ModuleBounds}
+use Rattle.shader_report_resources.specs.Resources.{IsFound}
 use Rattle.shader_resolve.specs.WellFormed.{IsWellFormed}
 use Rattle.report_answers.specs.Options.{capabilities_of, flags_of}
 use Rattle.report_answers.specs.declared.options.Options.{Options}
@@ -28,7 +30,27 @@ IsFoundFor None m settings found = found ≡ None
 abbrev pub IsAsked : Options → Module → Option ModuleBounds → Type 0
 IsAsked options m found = IsFoundFor options.bounds m (settings_of (flags_of options) (capabilities_of options)) found
 
-pub record AreMembers (options : Options) (m : Module) (text : List ℕ) : Type 0 where
+abbrev pub resources_text : Option (List ℕ) → List ℕ
+resources_text (Some resources) = codes ",\"resources\":" ++ resources
+resources_text None = []
+
+-- the resources of a valid module, which its JSON declares, and nothing of another one
+pub record AreResourcesFound (input : List ℕ) (m : Module) (settings : Settings) (found : Option (List ℕ)) : Type 0 where
+  pub j : Json
+  pub parses : document input ≡ Some j
+  pub are : IsFound j m settings found
+
+abbrev pub AreResourcesFor : Bool → List ℕ → Module → Settings → Option (List ℕ) → Type 0
+AreResourcesFor true input m settings found = AreResourcesFound input m settings found
+AreResourcesFor false input m settings found = found ≡ None
+
+abbrev pub AreResourcesAsked : Options → List ℕ → Module → Option (List ℕ) → Type 0
+AreResourcesAsked options input m found =
+    AreResourcesFor options.has_resources input m (settings_of (flags_of options) (capabilities_of options)) found
+
+pub record AreMembers (options : Options) (input : List ℕ) (m : Module) (text : List ℕ) : Type 0 where
   pub found : Option ModuleBounds
   pub asked : IsAsked options m found
-  pub told : text ≡ member_text found
+  pub resources : Option (List ℕ)
+  pub resources_asked : AreResourcesAsked options input m resources
+  pub told : text ≡ member_text found ++ resources_text resources

@@ -10,7 +10,8 @@ use Rattle.shader_bounds.specs.Policies.{unchecked}
 use Rattle.report_answers.specs.Policies.{policies_of}
 use Rattle.report_answers.specs.declared.options.Flag.{Flag}
 use Rattle.report_answers.specs.declared.options.Flag.TheVariants.{Json, NagaFlow, AnyFlow, NoFlow, IndexTextures, IndexStorageTextures}
-use Rattle.report_answers.specs.declared.options.Flag.TheVariants.{IndexBoth, IndexBothTurned, Bounds, Policies, Drawing, NoDrawing}
+use Rattle.report_answers.specs.declared.options.Flag.TheVariants.{IndexBoth, IndexBothTurned, Bounds, Policies, Resources}
+use Rattle.report_answers.specs.declared.options.Flag.TheVariants.{Drawing, NoDrawing}
 use Rattle.report_answers.specs.declared.options.FlowCheck.{FlowCheck}
 use Rattle.report_answers.specs.declared.options.FlowCheck.TheVariants.{Defined, Naga, Off}
 use Rattle.report_answers.specs.declared.options.BadWord.{BadWord}
@@ -28,13 +29,14 @@ flag_text IndexBoth = codes "--non-uniform-indexing=textures,storage-textures"
 flag_text IndexBothTurned = codes "--non-uniform-indexing=storage-textures,textures"
 flag_text Bounds = codes "--bounds-checks"
 flag_text (Policies policies) = []
+flag_text Resources = codes "--resources"
 flag_text Drawing = codes "--drawing"
 flag_text NoDrawing = codes "--no-drawing"
 
 abbrev pub all_flags : List Flag
 all_flags =
     Json ∷ NagaFlow ∷ AnyFlow ∷ NoFlow ∷ IndexTextures ∷ IndexStorageTextures ∷ IndexBoth ∷ IndexBothTurned
-    ∷ Bounds ∷ Drawing ∷ NoDrawing ∷ []
+    ∷ Bounds ∷ Resources ∷ Drawing ∷ NoDrawing ∷ []
 
 abbrev pub named_flag : List ℕ → Option Flag
 named_flag word = find (λ flag. bytes_eq (flag_text flag) word) all_flags
@@ -52,6 +54,7 @@ start = record {
   indexes_storage_textures = false;
   bounds = None;
   has_policies = false;
+  has_resources = false;
   drawing = None;
 }
 
@@ -70,6 +73,7 @@ with options IndexBoth = indexing_both options
 with options IndexBothTurned = indexing_both options
 with options Bounds = record options { bounds = Some unchecked }
 with options (Policies policies) = record options { bounds = Some policies; has_policies = true }
+with options Resources = record options { has_resources = true }
 with options Drawing = record options { drawing = Some true }
 with options NoDrawing = record options { drawing = Some false }
 
@@ -97,6 +101,7 @@ is_set options IndexBoth = indexes options
 is_set options IndexBothTurned = indexes options
 is_set options Bounds = is_some options.bounds
 is_set options (Policies policies) = options.has_policies
+is_set options Resources = options.has_resources
 is_set options Drawing = is_some options.drawing
 is_set options NoDrawing = is_some options.drawing
 
@@ -137,7 +142,7 @@ nearest word =
     nearer word Json (nearer word
     (nearer word (nearer word (nearer word (nearer word NagaFlow AnyFlow) NoFlow) (nearer word IndexTextures IndexStorageTextures))
     (nearer word IndexBoth IndexBothTurned))
-    (nearer word Bounds (nearer word Drawing NoDrawing)))
+    (nearer word (nearer word Bounds Resources) (nearer word Drawing NoDrawing)))
 
 abbrev flow_bits : FlowCheck → ℕ
 flow_bits Naga = 1

@@ -21,19 +21,19 @@ use Rattle.report_answers.specs.declared.reports.Outcome.{Outcome}
 use Rattle.report_answers.specs.declared.reports.Outcome.TheVariants.{Accepted, Refused, NotModule}
 
 -- as JSON the text is the report on the module, with the members that words ask for
-pub record IsJson (options : Options) (m : Module) (accepted : Bool) (text : List ℕ) : Type 0 where
+pub record IsJson (options : Options) (input : List ℕ) (m : Module) (accepted : Bool) (text : List ℕ) : Type 0 where
   pub members : List ℕ
-  pub are : AreMembers options m members
+  pub are : AreMembers options input m members
   pub answer : IsModuleAnswer m (settings_of (flags_of options) (capabilities_of options)) members accepted text
 
 -- for people it explains the verdict, and no clause says in which words
-abbrev IsReportFor : Bool → Options → Module → Bool → List ℕ → Type 0
-IsReportFor true options m accepted text = IsJson options m accepted text
-IsReportFor false options m accepted text = IsVerdict m (settings_of (flags_of options) (capabilities_of options)) accepted
+abbrev IsReportFor : Bool → Options → (input : List ℕ) → Module → Bool → List ℕ → Type 0
+IsReportFor true options input m accepted text = IsJson options input m accepted text
+IsReportFor false options input m accepted text = IsVerdict m (settings_of (flags_of options) (capabilities_of options)) accepted
 
--- the report on all but the uniform flow of `shader_uniformity`
-abbrev pub IsRest : Options → Module → Bool → List ℕ → Type 0
-IsRest options m accepted text = IsReportFor options.is_json options m accepted text
+-- the report on all but the uniform flow of `shader_uniformity`, of a module that the input stands for
+abbrev pub IsRest : Options → (input : List ℕ) → Module → Bool → List ℕ → Type 0
+IsRest options input m accepted text = IsReportFor options.is_json options input m accepted text
 
 -- with the verdict on that: as JSON the first member of the object, and for people only the verdict
 abbrev pub HasFlow : Bool → Module → Bool → (rest text : List ℕ) → Type 0
@@ -42,19 +42,19 @@ HasFlow true m accepted rest text =
 HasFlow false m accepted rest text = IsPeopleSection m accepted
 
 -- flow is decided of a module that has no other fault
-pub record IsFlowReport (options : Options) (m : Module) (accepted : Bool) (text : List ℕ) : Type 0 where
+pub record IsFlowReport (options : Options) (input : List ℕ) (m : Module) (accepted : Bool) (text : List ℕ) : Type 0 where
   pub rest : List ℕ
-  pub otherwise : IsRest options m true rest
+  pub otherwise : IsRest options input m true rest
   pub flow : HasFlow options.is_json m accepted rest text
 
-abbrev pub IsOutputBy : FlowCheck → Options → Module → Bool → List ℕ → Type 0
-IsOutputBy Defined options m true text = IsFlowReport options m true text
-IsOutputBy Defined options m false text = IsRest options m false text ⊎ IsFlowReport options m false text
-IsOutputBy Naga options m accepted text = IsRest options m accepted text
-IsOutputBy Off options m accepted text = IsRest options m accepted text
+abbrev pub IsOutputBy : FlowCheck → Options → (input : List ℕ) → Module → Bool → List ℕ → Type 0
+IsOutputBy Defined options input m true text = IsFlowReport options input m true text
+IsOutputBy Defined options input m false text = IsRest options input m false text ⊎ IsFlowReport options input m false text
+IsOutputBy Naga options input m accepted text = IsRest options input m accepted text
+IsOutputBy Off options input m accepted text = IsRest options input m accepted text
 
-abbrev pub IsOutput : Options → Module → Bool → List ℕ → Type 0
-IsOutput options m accepted text = IsOutputBy options.flow options m accepted text
+abbrev pub IsOutput : Options → (input : List ℕ) → Module → Bool → List ℕ → Type 0
+IsOutput options input m accepted text = IsOutputBy options.flow options input m accepted text
 
 abbrev pub verdict : Bool → Outcome
 verdict true = Accepted
@@ -81,10 +81,10 @@ pub record IsDeep (options : Options) (m : Module) (text : List ℕ) : Type 0 wh
   pub deep : NestsWithin 4000 m → ⊥
   pub told : IsNesting options text
 
-abbrev pub IsReportOn : Options → Module → Outcome → List ℕ → Type 0
-IsReportOn options m Accepted text = IsOutput options m true text
-IsReportOn options m Refused text = IsOutput options m false text
-IsReportOn options m NotModule text = IsDeep options m text
+abbrev pub IsReportOn : Options → (input : List ℕ) → Module → Outcome → List ℕ → Type 0
+IsReportOn options input m Accepted text = IsOutput options input m true text
+IsReportOn options input m Refused text = IsOutput options input m false text
+IsReportOn options input m NotModule text = IsDeep options m text
 
 -- the text is the report on a module for which the JSON of the input stands
 pub record IsModuleReport (options : Options) (input : List ℕ) (accepted : Bool) (text : List ℕ) : Type 0 where
@@ -92,7 +92,7 @@ pub record IsModuleReport (options : Options) (input : List ℕ) (accepted : Boo
   pub parses : IsSome (document input)
   pub m : Module
   pub stands : IsTextOf input m
-  pub output : IsOutput options m accepted text
+  pub output : IsOutput options input m accepted text
 
 -- the text is that of an error, which says of the input what is so
 pub record IsReadRefusal (options : Options) (input text : List ℕ) : Type 0 where

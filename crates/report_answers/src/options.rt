@@ -39,6 +39,8 @@ pub enum Flag {
     Bounds,
     /// Report bounds checks under these policies.
     Policies(BoundsCheckPolicies),
+    /// Report resources.
+    Resources,
     /// Draw structs.
     Drawing,
     /// Don't draw structs.
@@ -56,7 +58,7 @@ pub enum BadWord {
 
 impl Flag {
     /// The flags that are one word each.
-    pub const ALL: [Flag; 11] = [
+    pub const ALL: [Flag; 12] = [
         Flag::Json,
         Flag::NagaFlow,
         Flag::AnyFlow,
@@ -66,6 +68,7 @@ impl Flag {
         Flag::IndexBoth,
         Flag::IndexBothTurned,
         Flag::Bounds,
+        Flag::Resources,
         Flag::Drawing,
         Flag::NoDrawing,
     ];
@@ -85,6 +88,7 @@ impl Flag {
             Flag::IndexBothTurned => "--non-uniform-indexing=storage-textures,textures",
             Flag::Bounds => "--bounds-checks",
             Flag::Policies(_) => "",
+            Flag::Resources => "--resources",
             Flag::Drawing => "--drawing",
             Flag::NoDrawing => "--no-drawing",
         }
@@ -103,7 +107,7 @@ impl Flag {
         let of_both = nearer(word, Flag::IndexBoth, Flag::IndexBothTurned);
         let of_parts = nearer(
             word,
-            Flag::Bounds,
+            nearer(word, Flag::Bounds, Flag::Resources),
             nearer(word, Flag::Drawing, Flag::NoDrawing),
         );
         let of_checks = nearer(word, nearer(word, of_flow, of_one), of_both);
@@ -187,6 +191,8 @@ pub struct Options {
     pub bounds: Option<BoundsCheckPolicies>,
     /// True if a word has set policies.
     pub has_policies: bool,
+    /// True if resources are reported.
+    pub has_resources: bool,
     /// Whether the text for people has drawings of structs, if a word says so.
     pub drawing: Option<bool>,
 }
@@ -200,6 +206,7 @@ impl Options {
         indexes_storage_textures: false,
         bounds: None,
         has_policies: false,
+        has_resources: false,
         drawing: None,
     };
 
@@ -268,6 +275,10 @@ impl Options {
                 has_policies: true,
                 ..self.with_bounds(policies)
             },
+            Flag::Resources => Options {
+                has_resources: true,
+                ..self
+            },
             Flag::Drawing => self.with_drawing(true),
             Flag::NoDrawing => self.with_drawing(false),
         }
@@ -290,6 +301,7 @@ impl Options {
             Flag::IndexBothTurned => indexes,
             Flag::Bounds => self.bounds.is_some(),
             Flag::Policies(_) => self.has_policies,
+            Flag::Resources => self.has_resources,
             Flag::Drawing => self.drawing.is_some(),
             Flag::NoDrawing => self.drawing.is_some(),
         }

@@ -106,11 +106,16 @@ impl Report {
 
     /// Returns the report on all of a module but the uniform flow of `shader_uniformity`, as a line of JSON.
     #[tactic(auto, using(crate::proofs::ReportLemmas::json_told))]
-    fn json_of(alloc: Global, options: Options, module: &Module) -> Result<Part, AllocError>
-        ensures { IfOk result (λ part. IsJson options «module».now part.is_accepted part.text.items) }
+    fn json_of(
+        alloc: Global,
+        options: Options,
+        input: &[u8],
+        module: &Module,
+    ) -> Result<Part, AllocError>
+        ensures { IfOk result (λ part. IsJson options input.now «module».now part.is_accepted part.text.items) }
     {
         let (flags, capabilities) = (options.flags(), options.capabilities());
-        let members = members_of(alloc, options, module)?;
+        let members = members_of(alloc, options, input, module)?;
         let answer = answer_module(alloc, module, flags, capabilities, members.as_str())?;
         Ok(Part {
             text: answer.text.into_bytes(),
@@ -135,11 +140,16 @@ impl Report {
     }
 
     /// Returns the report on all of a module but the uniform flow of `shader_uniformity`.
-    fn rest_on(alloc: Global, options: Options, module: &Module) -> Result<Part, AllocError>
-        ensures { IfOk result (λ part. IsRest options «module».now part.is_accepted part.text.items) }
+    fn rest_on(
+        alloc: Global,
+        options: Options,
+        input: &[u8],
+        module: &Module,
+    ) -> Result<Part, AllocError>
+        ensures { IfOk result (λ part. IsRest options input.now «module».now part.is_accepted part.text.items) }
     {
         if options.is_json {
-            Report::json_of(alloc, options, module)
+            Report::json_of(alloc, options, input, module)
         } else {
             Report::text_of(alloc, options, module)
         }
@@ -150,12 +160,13 @@ impl Report {
     fn with_defined_flow(
         alloc: Global,
         options: Options,
+        input: &[u8],
         module: &Module,
         rest: Part,
     ) -> Result<Report, AllocError>
         requires flow { options.flow ≡ FlowCheck.Defined }
-        requires rest { IsRest options «module».now rest.is_accepted rest.text.items }
-        ensures { IfOk result (λ report. IsReportOn options «module».now report.outcome report.text.items) }
+        requires rest { IsRest options input.now «module».now rest.is_accepted rest.text.items }
+        ensures { IfOk result (λ report. IsReportOn options input.now «module».now report.outcome report.text.items) }
     {
         if rest.is_accepted {
             let part = with_flow(alloc, options.is_json, module, rest.text)?;
@@ -167,12 +178,17 @@ impl Report {
 
     /// Returns the report on a module, as a line of JSON or as text for people.
     #[tactic(auto, using(crate::proofs::ReportLemmas::naga_told, crate::proofs::ReportLemmas::off_told))]
-    fn on_module(alloc: Global, options: Options, module: &Module) -> Result<Report, AllocError>
-        ensures { IfOk result (λ report. IsReportOn options «module».now report.outcome report.text.items) }
+    fn on_module(
+        alloc: Global,
+        options: Options,
+        input: &[u8],
+        module: &Module,
+    ) -> Result<Report, AllocError>
+        ensures { IfOk result (λ report. IsReportOn options input.now «module».now report.outcome report.text.items) }
     {
-        let rest = Report::rest_on(alloc, options, module)?;
+        let rest = Report::rest_on(alloc, options, input, module)?;
         match options.flow {
-            FlowCheck::Defined => Report::with_defined_flow(alloc, options, module, rest),
+            FlowCheck::Defined => Report::with_defined_flow(alloc, options, input, module, rest),
             FlowCheck::Naga => Ok(Report::with_verdict(rest)),
             FlowCheck::Off => Ok(Report::with_verdict(rest)),
         }
@@ -182,16 +198,17 @@ impl Report {
     fn on_read<P: Progress>(
         alloc: Global,
         options: Options,
+        input: &[u8],
         module: &Module,
         progress: &mut P,
     ) -> Result<Report, AllocError>
-        ensures { IfOk result (λ report. IsReportOn options «module».now report.outcome report.text.items) }
+        ensures { IfOk result (λ report. IsReportOn options input.now «module».now report.outcome report.text.items) }
     {
         if !nests_within(module, MOST_LEVELS) {
             return Report::on_nesting(alloc, options);
         }
         progress.begins(Stage::Analysis);
-        Report::on_module(alloc, options, module)
+        Report::on_module(alloc, options, input, module)
     }
 
     /// Returns the report on the module that the input is, as JSON in which `serde_json` prints a naga module.
@@ -209,7 +226,7 @@ impl Report {
     {
         progress.begins(Stage::Module(input.len()));
         match read_module(alloc, input) {
-            Ok(module) => Report::on_read(alloc, options, &module, progress),
+            Ok(module) => Report::on_read(alloc, options, input, &module, progress),
             Err(error) => Report::on_error(alloc, options, input, &error),
         }
     }

@@ -2,8 +2,8 @@
 ghost use Rattle.std.specs.Prelude.{◌≡◌, OnOk, flat_map, length, slice_get};
 ghost use Rattle.std.specs.Option.{option_map};
 ghost use Rattle.json.specs.Value.{value_view};
-ghost use Rattle.shader_report_resources.specs.Tables.{binding_members, global_tokens, globals_tokens, layout_alignment, layout_members, layout_size};
-ghost use Rattle.shader_report_resources.specs.Tables.{member_tokens};
+ghost use Rattle.shader_report_resources.specs.Tables.{binding_members, global_tokens, globals_tokens, layout_alignment};
+ghost use Rattle.shader_report_resources.specs.Tables.{layout_members, layout_size, member_tokens};
 ghost use Rattle.shader_report_resources.specs.Tables.{members_tokens, override_tokens, overrides_tokens, stride_of};
 ghost use Rattle.shader_report_resources.specs.Tables.{type_members, type_tokens, types_tokens};
 ghost use Rattle.shader_report_resources.specs.Written.{Adds};

@@ -1,9 +1,10 @@
 //! Types in WGSL's words.
 ghost use Rattle.std.specs.Prelude.{◌≡◌, IfOk, string_bytes};
 ghost use Rattle.std.specs.Option.{option_map};
-ghost use Rattle.shader_report_resources.specs.Words.{arrayed_word, base_at, base_of, built_words, composed_words, cooperative_word, count_words};
-ghost use Rattle.shader_report_resources.specs.Words.{dimension_word, image_words, multi_word, name_or_number, override_words, plain_words};
-ghost use Rattle.shader_report_resources.specs.Words.{role_word, sampler_word, sized_words, told_words, vertex_return_word, words, words_within};
+ghost use Rattle.shader_report_resources.specs.Words.{arrayed_word, base_at, base_of, built_words, composed_words, cooperative_word};
+ghost use Rattle.shader_report_resources.specs.Words.{count_words, dimension_word, image_words, multi_word, name_or_number, override_words};
+ghost use Rattle.shader_report_resources.specs.Words.{plain_words, role_word, sampler_word, sized_words, told_words, vertex_return_word};
+ghost use Rattle.shader_report_resources.specs.Words.{words, words_within};
 
 use crate::formats::format_word;
 use crate::spaces::{access_word, space_word};
