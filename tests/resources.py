@@ -55,7 +55,7 @@ class Resources:
         name, held = variant(size)
         if name == "Dynamic":
             return ""
-        given = self.module["overrides"][held]["name"] if name == "Pending" else held
+        given = self.module["overrides"][held].get("name") if name == "Pending" else held
         return f", {f'#{held}' if given is None else given}"
 
     def built(self, ty, inner, levels):
@@ -88,7 +88,7 @@ class Resources:
         found = self.module["types"][ty]
         if not levels:
             return f"#{ty}"
-        return self.built(ty, found["inner"], levels) if found["name"] is None else found["name"]
+        return self.built(ty, found["inner"], levels) if found.get("name") is None else found["name"]
 
     def typed(self, ty):
         return {"ty": ty, "type": self.words(ty)}
@@ -97,7 +97,7 @@ class Resources:
         name, data = variant(inner)
         if name != "Struct":
             return None
-        return [{"name": it["name"], **self.typed(it["ty"]), "offset": it["offset"]} for it in data["members"]]
+        return [{"name": it.get("name"), **self.typed(it["ty"]), "offset": it["offset"]} for it in data["members"]]
 
     def types(self):
         for ty, (found, layout) in enumerate(zip(self.module["types"], self.answer["layouts"])):
@@ -108,7 +108,7 @@ class Resources:
         for it in self.module["global_variables"]:
             name, mode = space(it["space"])
             bound = it.get("binding") or {"group": None, "binding": None}
-            yield {"name": it["name"], **bound, "space": name, "access": mode, **self.typed(it["ty"])}
+            yield {"name": it.get("name"), **bound, "space": name, "access": mode, **self.typed(it["ty"])}
 
     def default(self, init):
         expression = None if init is None else self.module["global_expressions"][init]
@@ -120,13 +120,13 @@ class Resources:
 
     def overrides(self):
         for it in self.module["overrides"]:
-            yield {"name": it["name"], "id": it["id"], **self.typed(it["ty"]), "default": self.default(it["init"])}
+            yield {"name": it.get("name"), "id": it.get("id"), **self.typed(it["ty"]), "default": self.default(it.get("init"))}
 
     def value(self, name, ty, binding):
         """What is bound: a value, or each member of a struct."""
         inner = self.module["types"][ty]["inner"]
         if "Struct" in inner:
-            return [it for of in inner["Struct"]["members"] for it in [self.bound(of["name"], of["ty"], of.get("binding"))]]
+            return [it for of in inner["Struct"]["members"] for it in [self.bound(of.get("name"), of["ty"], of.get("binding"))]]
         return [self.bound(name, ty, binding)]
 
     def bound(self, name, ty, binding):
@@ -140,7 +140,7 @@ class Resources:
         function = it["function"]
         names = ("READ", "WRITE", "QUERY", "ATOMIC")
         used = [(at, set(uses.split(" | "))) for at, uses in enumerate(info["global_uses"]) if uses]
-        result = function["result"]
+        result = function.get("result")
         return {
             "name": it["name"],
             "stage": it["stage"].lower(),
@@ -148,7 +148,7 @@ class Resources:
             "workgroup_overrides": it.get("workgroup_size_overrides") or [None] * 3,
             "uses": [{"global": at, **{name.lower(): name in uses for name in names}} for at, uses in used],
             "sampled": sorted(info["sampling_set"], key=lambda pair: (pair["image"], pair["sampler"])),
-            "inputs": [part for of in function["arguments"] for part in self.value(of["name"], of["ty"], of.get("binding"))],
+            "inputs": [part for of in function["arguments"] for part in self.value(of.get("name"), of["ty"], of.get("binding"))],
             "outputs": self.value(None, result["ty"], result.get("binding")) if result else [],
         }
 
