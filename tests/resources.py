@@ -114,9 +114,7 @@ class Resources:
         expression = None if init is None else self.module["global_expressions"][init]
         name, literal = variant(expression) if expression is not None else (None, None)
         kind, value = variant(literal) if name == "Literal" else ("F16", None)
-        if kind == "F16":
-            return None
-        return str(value).lower() if isinstance(value, bool) else value
+        return None if kind == "F16" else value
 
     def overrides(self):
         for it in self.module["overrides"]:
