@@ -98,9 +98,13 @@ static void try_refusals(long flags) {
 
 static void try_flags(void) {
     size_t length;
-    for (int bit = 5; bit < 32; bit++) {
+    for (int bit = 16; bit < 32; bit++) {
         uint32_t status = call(1L << bit, sizeof buffer, &length);
         check(status == PETHUVAZH_BAD_FLAGS && length == 0 && is_untouched(0, sizeof buffer), "a bit that is no flag", (unsigned long)bit);
+    }
+    for (int bit = 8; bit < 16; bit += 2) {
+        uint32_t status = call(3L << bit, sizeof buffer, &length);
+        check(status == PETHUVAZH_BAD_FLAGS && length == 0 && is_untouched(0, sizeof buffer), "both policies of a kind", (unsigned long)bit);
     }
 }
 
@@ -119,7 +123,7 @@ static void try_lines(void) {
 #ifdef TWICE
 static void try_other(void) {
     size_t length, other;
-    for (uint32_t flags = 0; flags < 32; flags++) {
+    for (uint32_t flags = 0; flags < 256; flags++) {
         uint32_t status = call(flags, sizeof buffer, &length);
         memcpy(whole, buffer, length);
         memset(buffer, BEFORE, sizeof buffer);

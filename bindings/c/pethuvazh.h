@@ -25,7 +25,7 @@ extern "C" {
 enum {
     PETHUVAZH_ACCEPTED = 0,      /* a module without a fault, each type of which has a layout; the text is the report on it */
     PETHUVAZH_REFUSED = 1,       /* a module with a fault, or with a type without a layout; the text is the report on it */
-    PETHUVAZH_BAD_FLAGS = 2,     /* a bit is set that is no flag; *length is 0 */
+    PETHUVAZH_BAD_FLAGS = 2,     /* a bit is set that is no flag, or both policies of a kind are; *length is 0 */
     PETHUVAZH_OUT_OF_MEMORY = 5, /* malloc or realloc refused; *length is 0; also of pethuvazh_answer_into */
     PETHUVAZH_NOT_MODULE = 6     /* the input is no module; the text says why */
 };
@@ -36,7 +36,19 @@ enum {
     PETHUVAZH_NON_UNIFORM_TEXTURES = 2,         /* arrays of sampled textures and samplers may be indexed by non-uniform values */
     PETHUVAZH_NON_UNIFORM_STORAGE_TEXTURES = 4, /* so may arrays of storage textures */
     PETHUVAZH_FOR_PEOPLE = 8,                   /* reports in lines for people, and not by one line of JSON */
-    PETHUVAZH_NAGA_UNIFORMITY = 16              /* decides uniform control flow as naga specifies it; --uniformity=naga */
+    PETHUVAZH_NAGA_UNIFORMITY = 16,             /* decides uniform control flow as naga specifies it; --uniformity=naga */
+    PETHUVAZH_DRAWING = 32,                     /* draws structs in lines for people; --drawing */
+    PETHUVAZH_RESOURCES = 64,                   /* reports what entry points use and exchange; --resources */
+    PETHUVAZH_BOUNDS_CHECKS = 128,              /* reports what a back end checks of indexes; --bounds-checks */
+    /* Policies of bounds checks, as naga's, each of which asks for that report too. A kind of access without one is unchecked. */
+    PETHUVAZH_INDEX_RESTRICT = 1 << 8,
+    PETHUVAZH_INDEX_READ_ZERO_SKIP_WRITE = 2 << 8,
+    PETHUVAZH_BUFFER_RESTRICT = 1 << 10,
+    PETHUVAZH_BUFFER_READ_ZERO_SKIP_WRITE = 2 << 10,
+    PETHUVAZH_IMAGE_LOAD_RESTRICT = 1 << 12,
+    PETHUVAZH_IMAGE_LOAD_READ_ZERO_SKIP_WRITE = 2 << 12,
+    PETHUVAZH_BINDING_ARRAY_RESTRICT = 1 << 14,
+    PETHUVAZH_BINDING_ARRAY_READ_ZERO_SKIP_WRITE = 2 << 14
 };
 
 /* Reports on the module that `json` is: `json_length` bytes of UTF-8, in which serde_json prints a naga 30 Module. The text is what the

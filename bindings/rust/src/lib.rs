@@ -36,7 +36,52 @@ pub enum Uniformity {
     Off,
 }
 
-/// What is checked of a module. The default is all that naga's validator checks for a device with no capability, and uniform control flow
+/// What becomes of an index that may be out of bounds, as naga's `proc::BoundsCheckPolicy`.
+#[derive(Clone, Copy, Debug, Default, PartialEq, Eq, Hash)]
+pub enum BoundsCheckPolicy {
+    /// Some index within bounds takes its place.
+    Restrict,
+    /// A read is zero, and a write is dropped.
+    ReadZeroSkipWrite,
+    /// It is used as it is.
+    #[default]
+    Unchecked,
+}
+
+impl BoundsCheckPolicy {
+    fn bits(self) -> u32 {
+        match self {
+            BoundsCheckPolicy::Unchecked => 0,
+            BoundsCheckPolicy::Restrict => 1,
+            BoundsCheckPolicy::ReadZeroSkipWrite => 2,
+        }
+    }
+}
+
+/// The policy for each kind of access, as naga's `proc::BoundsCheckPolicies`.
+#[derive(Clone, Copy, Debug, Default, PartialEq, Eq, Hash)]
+pub struct BoundsCheckPolicies {
+    /// For arrays, vectors and matrices where no other kind applies.
+    pub index: BoundsCheckPolicy,
+    /// For uniform and storage buffers.
+    pub buffer: BoundsCheckPolicy,
+    /// For loads of texels.
+    pub image_load: BoundsCheckPolicy,
+    /// For arrays of resources.
+    pub binding_array: BoundsCheckPolicy,
+}
+
+impl BoundsCheckPolicies {
+    fn bits(self) -> u32 {
+        BOUNDS_CHECKS
+            | self.index.bits() << 8
+            | self.buffer.bits() << 10
+            | self.image_load.bits() << 12
+            | self.binding_array.bits() << 14
+    }
+}
+
+/// What is checked of a module, and what is reported. The default is all that naga's validator checks for a device with no capability, and uniform control flow
 /// after WGSL.
 #[derive(Clone, Copy, Debug, Default, PartialEq, Eq, Hash)]
 pub struct Options {
@@ -46,10 +91,18 @@ pub struct Options {
     pub non_uniform_textures: bool,
     /// Lets arrays of storage textures be indexed by non-uniform values.
     pub non_uniform_storage_textures: bool,
+    /// Reports what a back end checks of indexes under these policies.
+    pub bounds_checks: Option<BoundsCheckPolicies>,
+    /// Reports what entry points use and exchange: resources with their bindings, inputs, outputs and overrides.
+    pub resources: bool,
+    /// Draws structs in a text for people.
+    pub drawing: bool,
 }
 
 /// The bit for a text for people.
 const FOR_PEOPLE: u32 = 8;
+/// The bit for bounds checks.
+const BOUNDS_CHECKS: u32 = 128;
 
 impl Options {
     fn bits(self) -> u32 {
@@ -61,6 +114,9 @@ impl Options {
         uniformity
             | u32::from(self.non_uniform_textures) << 1
             | u32::from(self.non_uniform_storage_textures) << 2
+            | u32::from(self.drawing) << 5
+            | u32::from(self.resources) << 6
+            | self.bounds_checks.map_or(0, BoundsCheckPolicies::bits)
     }
 }
 

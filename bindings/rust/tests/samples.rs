@@ -1,7 +1,8 @@
 //! Reports on the modules of `tests/samples/json`, beside what naga's own code found. That the bytes are those of the program `report` is
 //! for `tests/bindings` to say, which builds that.
 
-use pethuvazh::{answer_lines, report_json, report_text, Error, Options, Report, Uniformity};
+use pethuvazh::{answer_lines, report_json, report_text, BoundsCheckPolicies, BoundsCheckPolicy};
+use pethuvazh::{Error, Options, Report, Uniformity};
 use std::fs;
 use std::path::PathBuf;
 
@@ -37,6 +38,7 @@ fn case(line: &str) -> (&str, Options) {
         },
         non_uniform_textures: capabilities & 1 != 0,
         non_uniform_storage_textures: capabilities & 2 != 0,
+        ..Options::default()
     };
     (line.trim_end()[from..].strip_suffix('}').unwrap(), options)
 }
@@ -65,6 +67,32 @@ fn options_are_heeded() {
     };
     assert!(!report_json(&module, all).unwrap().is_accepted);
     assert!(report_json(&module, any_flow).unwrap().is_accepted);
+}
+
+#[test]
+fn more_is_reported_on_request() {
+    let module = fs::read(samples().join("json/real/textured_quad.json")).unwrap();
+    let policies = BoundsCheckPolicies {
+        index: BoundsCheckPolicy::Restrict,
+        image_load: BoundsCheckPolicy::ReadZeroSkipWrite,
+        ..BoundsCheckPolicies::default()
+    };
+    let all = Options {
+        bounds_checks: Some(policies),
+        resources: true,
+        ..Options::default()
+    };
+    let plain = report_json(&module, Options::default()).unwrap().text;
+    let more = report_json(&module, all).unwrap().text;
+    for member in ["\"bounds\":", "\"resources\":"] {
+        assert!(more.contains(member) && !plain.contains(member), "{member}");
+    }
+    let drawn = Options {
+        drawing: true,
+        ..Options::default()
+    };
+    let plain = report_text(&module, Options::default()).unwrap().text;
+    assert!(report_text(&module, drawn).unwrap().text.len() > plain.len());
 }
 
 #[test]

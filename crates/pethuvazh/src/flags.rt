@@ -1,8 +1,9 @@
 //! The options of a report as bits.
 ghost use Rattle.std.specs.Prelude.{◌≡◌};
-ghost use Rattle.pethuvazh.specs.Flags.{options_of, set_options, with_if};
+ghost use Rattle.pethuvazh.specs.Flags.{options_of, policies_of, policy_of, set_options, with_if, with_policies};
 
 use report_answers::{Flag, Options};
+use shader_bounds::{BoundsCheckPolicies, BoundsCheckPolicy};
 
 /// Decides no uniform flow.
 const ANY_FLOW: u32 = 1;
@@ -14,8 +15,14 @@ const INDEX_STORAGE_TEXTURES: u32 = 4;
 const FOR_PEOPLE: u32 = 8;
 /// Decides uniform flow as naga specifies it, where flow is decided at all.
 const NAGA_FLOW: u32 = 16;
+/// Draws structs in a text for people.
+const DRAWING: u32 = 32;
+/// Reports resources.
+const RESOURCES: u32 = 64;
+/// Reports bounds checks. Two bits for each kind of access follow, and a policy among these does the same.
+const BOUNDS_CHECKS: u32 = 128;
 /// The lowest bit that is no flag.
-const NO_FLAG: u32 = 32;
+const NO_FLAG: u32 = 65_536;
 
 /// Returns the options, with one more flag if that is set.
 #[tactic(auto, unfolding(crate::specs::Flags::with_if))]
@@ -25,7 +32,7 @@ fn with_if(options: Options, is_set: bool, flag: Flag) -> Options
     if is_set { options.with(flag) } else { options }
 }
 
-/// Returns the options that the bits set.
+/// Returns the options that single bits set.
 fn set_options(bits: u32) -> Options
     ensures { result ≡ set_options bits }
 {
@@ -34,16 +41,59 @@ fn set_options(bits: u32) -> Options
     let flow = with_if(naga, bits & ANY_FLOW != 0, Flag::AnyFlow);
     let textures = with_if(flow, bits & INDEX_TEXTURES != 0, Flag::IndexTextures);
     let is_storage = bits & INDEX_STORAGE_TEXTURES != 0;
-    with_if(textures, is_storage, Flag::IndexStorageTextures)
+    let indexing = with_if(textures, is_storage, Flag::IndexStorageTextures);
+    let drawing = with_if(indexing, bits & DRAWING != 0, Flag::Drawing);
+    with_if(drawing, bits & RESOURCES != 0, Flag::Resources)
 }
 
-/// Returns the options that the bits set, if each bit is a flag.
+/// Returns the policy with this number, if it is one's.
+fn policy_of(number: u32) -> Option<BoundsCheckPolicy>
+    ensures { result ≡ policy_of number }
+{
+    match number {
+        0 => Some(BoundsCheckPolicy::Unchecked),
+        1 => Some(BoundsCheckPolicy::Restrict),
+        2 => Some(BoundsCheckPolicy::ReadZeroSkipWrite),
+        _ => None,
+    }
+}
+
+/// Returns the policies that the bits name, if each two of them are a policy's.
+fn policies_of(bits: u32) -> Option<BoundsCheckPolicies>
+    ensures { result ≡ policies_of bits }
+{
+    let index = policy_of(bits / 256 % 4)?;
+    let buffer = policy_of(bits / 1024 % 4)?;
+    let image_load = policy_of(bits / 4096 % 4)?;
+    let binding_array = policy_of(bits / 16_384 % 4)?;
+    Some(BoundsCheckPolicies {
+        index,
+        buffer,
+        image_load,
+        binding_array,
+    })
+}
+
+/// Returns the options, with bounds checks if the bits ask for them.
+fn with_policies(options: Options, bits: u32, policies: BoundsCheckPolicies) -> Options
+    ensures { result ≡ with_policies options bits policies }
+{
+    if bits < BOUNDS_CHECKS {
+        options
+    } else {
+        options.with(Flag::Policies(policies))
+    }
+}
+
+/// Returns the options that the bits set, if each bit is a flag and each two of a policy are one's.
 pub fn options_from(bits: u32) -> Option<Options>
     ensures { result ≡ options_of bits }
 {
-    if bits < NO_FLAG {
-        Some(set_options(bits))
-    } else {
-        None
+    if bits >= NO_FLAG {
+        return None;
+    }
+    match policies_of(bits) {
+        Some(policies) => Some(with_policies(set_options(bits), bits, policies)),
+        None => None,
     }
 }
