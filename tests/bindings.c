@@ -104,7 +104,8 @@ static void try_flags(void) {
     }
     for (int bit = 8; bit < 16; bit += 2) {
         uint32_t status = call(3L << bit, sizeof buffer, &length);
-        check(status == PETHUVAZH_BAD_FLAGS && length == 0 && is_untouched(0, sizeof buffer), "both policies of a kind", (unsigned long)bit);
+        int is_fine = status == PETHUVAZH_BAD_FLAGS && length == 0 && is_untouched(0, sizeof buffer);
+        check(is_fine, "both policies of a kind", (unsigned long)bit);
     }
 }
 

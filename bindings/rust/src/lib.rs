@@ -81,8 +81,8 @@ impl BoundsCheckPolicies {
     }
 }
 
-/// What is checked of a module, and what is reported. The default is all that naga's validator checks for a device with no capability, and uniform control flow
-/// after WGSL.
+/// What is checked of a module, and what is reported. The default is all that naga's validator checks for a device with no capability, and
+/// uniform control flow after WGSL.
 #[derive(Clone, Copy, Debug, Default, PartialEq, Eq, Hash)]
 pub struct Options {
     /// By which rules uniform control flow is decided.

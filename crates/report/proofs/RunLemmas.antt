@@ -29,7 +29,8 @@ of_all P (Some all) input e holds = subst P (sym e) holds
 module _ (options : Options) (before after : Option (List ℕ)) where
   abbrev Answer : (old new : Option (List ℕ)) → Status → Type 0
   Answer old new status =
-      (m : Module) × (text : List ℕ) × IfSome before (λ input. IsTextOf input m) × IsAnswerOf options m status text × Appends old new text
+      (input : List ℕ) × IfSome before (λ all. all ≡ input) × (m : Module) × (text : List ℕ) × IsTextOf input m
+      × IsAnswerOf options input m status text × Appends old new text
 
   abbrev Refusal : (failed : Bool) (old new errors told : Option (List ℕ)) → Type 0
   Refusal failed old new errors told = (text : List ℕ) × IfSome before (λ input. IsReport options input outcomes.NotModule text)
@@ -38,9 +39,11 @@ module _ (options : Options) (before after : Option (List ℕ)) where
   answer : (old new : Option (List ℕ)) (input text : List ℕ) (accepted : Bool) → IfSome before (λ all. all ≡ input) →
       IsModuleReport options input accepted text → Appends old new text → Answer old new (verdict accepted)
   answer old new input text accepted e report appended = (
+    input,
+    e,
     report.m,
     text,
-    of_all (λ all. IsTextOf all report.m) before input e report.stands,
+    report.stands,
     record { accepted = accepted; reported = report.output; ended = refl },
     appended,
   )

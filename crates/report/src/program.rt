@@ -30,8 +30,15 @@ pub fn run<R: Source, W: Sink, E: Sink, P: Progress>(
     // With statuses 0 and 1 the whole input was read, and the report on the module for which its JSON stands was written.
     ensures end { OnAnswered result (IsAtEnd (R.remaining reader.new)) }
     ensures json { OnAnswered result (IfSome (R.remaining reader.old) (λ input. IsUtf8 input × IsSome (document input))) }
-    ensures answer { OnAnswered result ((input : List ℕ) × (m : Module) × (text : List ℕ) × IsAnswerOf options input m result text
+    ensures answer { OnAnswered result ((input : List ℕ) × IfSome (R.remaining reader.old) (λ all. all ≡ input) × (m : Module)
+        × (text : List ℕ) × IsTextOf input m × IsAnswerOf options input m result text
         × Appends (W.contents writer.old) (W.contents writer.new) text) }
+
+    // With status 6 what was written, or told beside it, is why the input is no module.
+    ensures refusal { OnNotModule result ((text : List ℕ)
+        × IfSome (R.remaining reader.old) (λ input. IsReport options input Outcome.NotModule text)
+        × IsTold options.is_json (E.has_failed errors.new) text (W.contents writer.old) (W.contents writer.new)
+        (E.contents errors.old) (E.contents errors.new)) }
 
     // With statuses 3 and 5 nothing was written.
     ensures nothing { OnUnanswered result (Keeps (W.contents writer.old) (W.contents writer.new)) }
