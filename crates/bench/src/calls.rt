@@ -2,7 +2,8 @@
 ghost use Rattle.shader_ir.specs.TypeTree.{IsBackward};
 
 use shader_arena::UniqueArena;
-use shader_ir::{MathFunction, Type, TypeInner, mark, types_backward};
+use shader_ir::proc::types_backward;
+use shader_ir::{MathFunction, Type, TypeInner, mark};
 use shader_overloads::{AnyOverloadSet, MathOverloads, OverloadSet};
 use shader_type_text::{Pieces, PlainType, builtin_from_word};
 use std::alloc::{AllocError, Global};

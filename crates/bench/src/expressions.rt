@@ -5,7 +5,8 @@ ghost use Rattle.shader_resolve.specs.Context.{IsInRange};
 ghost use Rattle.shader_resolve.specs.DerivesByRule.{AnswerFits};
 
 use shader_arena::{Arena, Handle, UniqueArena};
-use shader_ir::{Expression, Module, Type, TypeResolution, mark, types_backward};
+use shader_ir::proc::{TypeResolution, types_backward};
+use shader_ir::{Expression, Module, Type, mark};
 use shader_resolve::{ResolveContext, ResolveError};
 use std::alloc::{AllocError, Global};
 

@@ -4,10 +4,8 @@ ghost use Rattle.shader_ir.specs.Key.{FitsTypes};
 ghost use Rattle.shader_ir.specs.TypeTree.{IsBackward, PointsBelow};
 
 use shader_arena::UniqueArena;
-use shader_ir::{
-    Layouter, Module, Type, TypeInner, TypeResolution, compare_types, mark, sizes_in_range,
-    types_backward,
-};
+use shader_ir::proc::{Layouter, TypeResolution, compare_types, sizes_in_range, types_backward};
+use shader_ir::{Module, Type, TypeInner, mark};
 use std::alloc::{AllocError, Global};
 
 /// Lays out all types of a module `rounds` times.

@@ -12,7 +12,8 @@ use crate::guarded::is_unknown;
 use crate::typed::type_of;
 use shader_arena::{Handle, UniqueArena};
 use shader_info::FunctionInfo;
-use shader_ir::{Expression, Function, Module, Type, TypeInner, TypeResolution, mark};
+use shader_ir::proc::TypeResolution;
+use shader_ir::{Expression, Function, Module, Type, TypeInner, mark};
 
 fn is_no_struct(inner: &TypeInner) -> bool
     ensures { IsTrue result ↔ IsNoStruct inner.now }

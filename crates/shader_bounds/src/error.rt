@@ -1,6 +1,7 @@
 //! Errors of lengths.
 
-use shader_ir::{ArraySize, ResolveArraySizeError};
+use shader_ir::ArraySize;
+use shader_ir::proc::ResolveArraySizeError;
 use thiserror::Error;
 
 /// The reason why a type has no length with which an index could be compared.

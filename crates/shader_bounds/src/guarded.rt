@@ -8,7 +8,8 @@ use crate::typed::type_of;
 use crate::{IndexableLength, IndexableLengthError, base_length, known_index_among};
 use shader_arena::{Arena, Handle};
 use shader_info::FunctionInfo;
-use shader_ir::{Expression, KnownIndex, Module, TypeResolution, mark};
+use shader_ir::proc::{KnownIndex, TypeResolution};
+use shader_ir::{Expression, Module, mark};
 
 /// The index of an access: the number of an `AccessIndex`, or the operand of an `Access`.
 #[derive(Clone, Copy, Debug)]

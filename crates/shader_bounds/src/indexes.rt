@@ -4,7 +4,8 @@ ghost use Rattle.shader_ir.specs.KnownNumbers.{initial_index};
 ghost use Rattle.shader_bounds.specs.Indexes.{constant_at, known_index_among, override_at};
 
 use shader_arena::{Arena, Handle};
-use shader_ir::{Expression, KnownIndex, Module, mark};
+use shader_ir::proc::KnownIndex;
+use shader_ir::{Expression, Module, mark};
 
 /// Returns the index given by the literal at the handle.
 fn initial_index(

@@ -7,9 +7,8 @@ ghost use Rattle.shader_bounds.specs.Lengths.{resolved, resolved_length, resolve
 
 use crate::IndexableLengthError;
 use shader_arena::Handle;
-use shader_ir::{
-    ArraySize, GlobalCtx, Module, ResolveArraySizeError, TypeInner, TypeResolution, mark,
-};
+use shader_ir::proc::{ResolveArraySizeError, TypeResolution};
+use shader_ir::{ArraySize, GlobalCtx, Module, TypeInner, mark};
 
 /// The number of items of a type that an index may select.
 #[derive(Clone, Copy, Debug, PartialEq, Eq)]

@@ -7,7 +7,8 @@ ghost use Rattle.shader_bounds.specs.Typed.{inner_at, type_at};
 use crate::typed::type_of;
 use shader_arena::{Handle, UniqueArena};
 use shader_info::FunctionInfo;
-use shader_ir::{AddressSpace, Type, TypeInner, TypeResolution, mark};
+use shader_ir::proc::TypeResolution;
+use shader_ir::{AddressSpace, Type, TypeInner, mark};
 
 /// The treatment of an index that may be out of bounds.
 #[derive(Clone, Copy, Debug, PartialEq, Eq, Hash)]

@@ -5,7 +5,8 @@ ghost use Rattle.shader_bounds.specs.Typed.{type_at};
 
 use shader_arena::Handle;
 use shader_info::FunctionInfo;
-use shader_ir::{TypeResolution, mark};
+use shader_ir::mark;
+use shader_ir::proc::TypeResolution;
 
 /// Returns the recorded type of an expression, if any.
 pub(crate) fn type_of(

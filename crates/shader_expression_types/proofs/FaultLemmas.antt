@@ -7,7 +7,8 @@ use Rattle.shader_analysis_spec.proofs.TypeLemmas.{types_are_unique}
 use Rattle.shader_analysis_spec.specs.Derivable.{Derives, IsRefused, function_context}
 use Rattle.shader_analysis_spec.specs.Faults.{Capability, IndexTextures, IndexStorageTextures, Cause, Untyped, MissingCapability}
 use Rattle.shader_analysis_spec.specs.Faults.{NoResource, BindingArrayElement, NonUniformControlFlow, CountFull, IndexesBindings}
-use Rattle.shader_analysis_spec.specs.Faults.{StepFault, untyped, no_capability, bad_element, element_capability, allows}
+use Rattle.shader_analysis_spec.specs.Faults.{untyped, no_capability, bad_element, element_capability, allows}
+use Rattle.shader_analysis_spec.specs.StepFaults.{StepFault}
 use Rattle.shader_analysis_spec.specs.Infos.{Picks}
 use Rattle.shader_analysis_spec.specs.Program.{Function, Module, Expression, IsExpressionAt}
 use Rattle.shader_analysis_spec.specs.Steps.{StepOrigin}

@@ -1,6 +1,7 @@
 -- The faults of a function that are detected while its expressions are typed.
 use Rattle.std.specs.Prelude.{◌≡◌, ℕ, List}
-use Rattle.shader_analysis_spec.specs.Faults.{Cause, Untyped, MissingCapability, BindingArrayElement, StepFault}
+use Rattle.shader_analysis_spec.specs.Faults.{Cause, Untyped, MissingCapability, BindingArrayElement}
+use Rattle.shader_analysis_spec.specs.StepFaults.{StepFault}
 use Rattle.shader_analysis_spec.specs.Program.{Function, Module}
 use Rattle.shader_info.specs.declared.error.ExpressionError.TheVariants as expression
 use Rattle.shader_info.specs.declared.error.FunctionError.{FunctionError}

@@ -10,7 +10,8 @@ ghost use Rattle.shader_passes.specs.Facts.{origin_at};
 use bitflags::Flags;
 use shader_arena::{Handle, UniqueArena};
 use shader_info::{Capabilities, ExpressionError, NonUniformResult};
-use shader_ir::{Expression, ImageClass, Type, TypeInner, TypeResolution, mark};
+use shader_ir::proc::TypeResolution;
+use shader_ir::{Expression, ImageClass, Type, TypeInner, mark};
 use shader_passes::facts::{Fact, origin_of};
 
 /// Returns the capability that is needed to index a binding array of such elements by a value that differs among invocations. There is none

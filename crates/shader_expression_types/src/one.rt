@@ -9,7 +9,8 @@ ghost use Rattle.shader_resolve.specs.DerivesByRule.{memory_of};
 ghost use Rattle.shader_resolve.specs.WellFormed.{OperandsBelow};
 
 use shader_arena::Handle;
-use shader_ir::{Expression, TypeResolution, mark};
+use shader_ir::proc::TypeResolution;
+use shader_ir::{Expression, mark};
 use shader_resolve::{ResolveContext, ResolveError};
 use std::alloc::Global;
 

@@ -25,7 +25,7 @@ pub enum UniformityDisruptor {
 #[derive(Debug, Drop, Error)]
 pub enum ExpressionError {
     /// The expression has no type.
-    #[error("{0}")]
+    #[error("Resolve")]
     Resolve(ResolveError),
     /// An array of resources is indexed by a value that differs among invocations, without these capabilities of the device.
     #[error("MissingCapabilities")]
@@ -42,7 +42,7 @@ pub enum ExpressionError {
 #[derive(Debug, Drop, Error)]
 pub enum FunctionError {
     /// An expression is rejected.
-    #[error("Expression {handle:?}: {source}")]
+    #[error("Expression")]
     Expression {
         handle: Handle<mark::Expression>,
         source: ExpressionError,

@@ -6,7 +6,8 @@ ghost use Rattle.shader_info.specs.Fit.{Fits, IsKnown, IsResourceInRange, IsOpen
 
 use crate::{ExpressionInfo, FunctionInfo, GlobalOrArgument, Sampling, SamplingKey};
 use shader_arena::UniqueArena;
-use shader_ir::{Function, Module, StructMember, Type, TypeInner, TypeResolution, mark};
+use shader_ir::proc::TypeResolution;
+use shader_ir::{Function, Module, StructMember, Type, TypeInner, mark};
 use std::collections::HashSet;
 
 fn members_point_below(members: &[StructMember], count: usize) -> bool

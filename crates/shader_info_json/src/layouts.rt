@@ -3,7 +3,7 @@ ghost use Rattle.std.specs.Prelude.{Some, codes};
 ghost use Rattle.std.specs.List.{join_by};
 ghost use Rattle.shader_info_json.specs.Layouts.{layout_cause_text, layout_error_text, layout_text};
 
-use shader_ir::{LayoutError, LayoutErrorInner, TypeLayout};
+use shader_ir::proc::{LayoutError, LayoutErrorInner, TypeLayout};
 use std::fmt;
 
 /// The layout of a type.

@@ -8,9 +8,8 @@ use crate::flags::AccessText;
 use crate::names::{
     BoolText, cooperative_name, dimension_name, format_name, kind_name, role_name, size_name,
 };
-use shader_ir::{
-    AddressSpace, ArraySize, ImageClass, Scalar, TypeInner, TypeResolution, VectorSize,
-};
+use shader_ir::proc::TypeResolution;
+use shader_ir::{AddressSpace, ArraySize, ImageClass, Scalar, TypeInner, VectorSize};
 use std::fmt;
 
 /// A scalar type.

@@ -6,5 +6,4 @@ pub mod LayoutLemmas
 pub mod MemberLemmas
 pub mod PowerLemmas
 pub mod ReachLemmas
-pub mod SlotLemmas
 pub mod TypeTreeLemmas

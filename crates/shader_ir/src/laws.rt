@@ -6,7 +6,8 @@ ghost use Rattle.shader_ir.specs.Scalars.{abstract_float, abstract_int, named_sc
 ghost use Rattle.shader_ir.specs.declared.scalar.TheConstants.Scalar.{ABSTRACT_FLOAT, ABSTRACT_INT, BOOL, F16};
 ghost use Rattle.shader_ir.specs.declared.scalar.TheConstants.Scalar.{F32, F64, I16, I32, I64, U16, U32, U64};
 
-use crate::{Alignment, ScalarKind};
+use crate::ScalarKind;
+use crate::proc::Alignment;
 
 /// States that the constants of `Scalar` are the twelve named scalars (naga's `Scalar`; the widths of the abstract ones are this
 /// project's).

@@ -43,13 +43,6 @@ pub use operators::{
     BinaryOperator, DerivativeAxis, DerivativeControl, MathFunction, RelationalFunction,
     SwizzleComponent, UnaryOperator,
 };
-pub use proc::{
-    Alignment, ConcreteIntScalars, ExpressionOperands, KnownIndex, Label, LayoutError,
-    LayoutErrorInner, Layouter, MAX_TYPE_SIZE, Operands, ResolveArraySizeError, StatementOperands,
-    TypeLayout, TypeResolution, UpdateError, UpdateReport, VectorSizes, compare_types,
-    concrete_int_scalars, expression_operands, sizes_in_range, sizes_in_range_from,
-    statement_operands, types_backward, vector_size_str, vector_sizes,
-};
 pub use same::Same;
 pub use scalar::{CooperativeRole, CooperativeSize, Scalar, ScalarKind, VectorSize};
 pub use shader_arena::TryCopy;

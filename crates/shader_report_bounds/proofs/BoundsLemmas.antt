@@ -62,7 +62,7 @@ named_cause IsCause (error.Expression e (expression.Resolve reason)) named fault
 named_cause IsCause (error.Expression e (expression.MissingCapabilities wanted)) named fault = (_, named.2)
 named_cause IsCause (error.Expression e expression.ExpectedGlobalOrArgument) named fault = (_, named)
 named_cause IsCause (error.Expression e expression.BindingArrayElement) named fault = (_, named)
-named_cause IsCause (error.NonUniformControlFlow needs e disruptor) named fault = (_, named)
+named_cause IsCause (error.NonUniformControlFlow needs e disruptor) named fault = (_, named.1)
 named_cause IsCause (error.CountFull e) named fault = (_, named)
 named_cause IsCause error.OutOfMemory named fault = absurd (fault refl)
 

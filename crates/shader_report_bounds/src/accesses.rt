@@ -7,7 +7,8 @@ use shader_bounds::{
     BoundsCheckPolicies, BoundsCheckPolicy, GuardedIndex, IndexableLength, length_of_base,
 };
 use shader_info::FunctionInfo;
-use shader_ir::{Expression, Function, KnownIndex, Module, mark};
+use shader_ir::proc::KnownIndex;
+use shader_ir::{Expression, Function, Module, mark};
 use std::alloc::{AllocError, Global};
 
 /// The index of an access.

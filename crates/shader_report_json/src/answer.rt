@@ -17,8 +17,8 @@ use shader_info_json::{
     FunctionAnswer, FunctionsText, LayoutErrorText, LayoutsText, RefusalText, ResolutionsText,
     fault_name,
 };
-use shader_ir::proc::{LayoutError, Layouter, TypeLayout, UpdateError};
-use shader_ir::{Module, TypeResolution, mark};
+use shader_ir::proc::{LayoutError, Layouter, TypeLayout, TypeResolution, UpdateError};
+use shader_ir::{Module, mark};
 use shader_resolve::{ModuleFault, check_module};
 use std::alloc::{AllocError, Global};
 

@@ -5,7 +5,8 @@ ghost use Rattle.std.specs.List.{join_by};
 ghost use Rattle.shader_type_text.specs.Texts.{conclusion_text, inner_text, predeclared_text, resolution_text, rule_text, sized_text};
 
 use crate::scalars::ScalarText;
-use shader_ir::{PredeclaredType, Scalar, TypeInner, TypeResolution, VectorSize, vector_size_str};
+use shader_ir::proc::{TypeResolution, vector_size_str};
+use shader_ir::{PredeclaredType, Scalar, TypeInner, VectorSize};
 use shader_overloads::{Conclusion, Rule};
 use std::fmt;
 

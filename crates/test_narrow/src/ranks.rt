@@ -6,7 +6,8 @@ ghost use Rattle.shader_ir.specs.declared.proc.type_resolution.TypeResolution.Th
 ghost use Rattle.shader_ir.specs.declared.types.TypeInner.{TypeInner};
 ghost use Rattle.shader_overloads.specs.Rank.{leaf_rank};
 
-use shader_ir::{TypeInner, TypeResolution};
+use shader_ir::TypeInner;
+use shader_ir::proc::TypeResolution;
 use shader_overloads::{Rule, SetCall};
 use shader_overloads_laws::conversion_rank;
 use std::alloc::{AllocError, Global};

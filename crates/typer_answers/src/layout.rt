@@ -5,7 +5,8 @@ ghost use Rattle.shader_ir.specs.Layout.{HasStride};
 ghost use Rattle.typer_answers.specs.Layouts.{layout_of_spelled};
 
 use shader_arena::{Arena, UniqueArena};
-use shader_ir::{GlobalCtx, Layouter, Type, TypeLayout, UpdateError};
+use shader_ir::proc::{Layouter, TypeLayout, UpdateError};
+use shader_ir::{GlobalCtx, Type};
 use shader_type_text::{SpelledType, insert_type};
 use std::alloc::{AllocError, Global};
 

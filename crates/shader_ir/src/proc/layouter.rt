@@ -2,8 +2,9 @@
 ghost use Rattle.std.specs.Prelude.{◌≡◌, ◌<◌, ◌≤◌, [], IfOk, IfErr, Some, length, slice_get, take};
 ghost use Rattle.std.specs.Int.{next_multiple_of};
 
+use crate::proc::Alignment;
 use crate::proc::sizes::MAX_TYPE_SIZE;
-use crate::{Alignment, GlobalCtx, Scalar, StructMember, TypeInner, mark};
+use crate::{GlobalCtx, Scalar, StructMember, TypeInner, mark};
 use shader_arena::{Handle, HandleVec};
 use std::alloc::{AllocError, AllocFailed, Global};
 use std::fmt;
@@ -67,13 +68,13 @@ pub enum UpdateError {
     OutOfMemory,
 }
 
-impl From<AllocFailed<TypeLayout>> for UpdateError {
+impl<T: Drop> From<AllocFailed<T>> for UpdateError {
     ghost use Rattle.std.specs.Prelude.{◌≡◌};
     ghost use Rattle.shader_ir.specs.declared.proc.layouter.UpdateError.TheVariants.{OutOfMemory};
 
     ghost from_gives = { λ _ error. error ≡ OutOfMemory };
 
-    fn from(_error: AllocFailed<TypeLayout>) -> UpdateError {
+    fn from(_failed: AllocFailed<T>) -> UpdateError {
         UpdateError::OutOfMemory
     }
 }

@@ -1,5 +1,5 @@
 //! The operands of expressions and statements, and how each is used.
-ghost use Rattle.std.specs.Prelude.{◌≡◌, ◌≤◌, [], ◌∷◌, length};
+ghost use Rattle.std.specs.Prelude.{◌≡◌, ◌≤◌, [], ◌∷◌, take};
 ghost use Rattle.std.specs.Iterator.{YieldsFirst, item_count};
 ghost use Rattle.shader_ir.specs.Slots.{retained, read, read_optional, reads};
 ghost use Rattle.shader_ir.specs.Body.{RayPipeline};
@@ -37,24 +37,25 @@ type Slot = Option<(Handle<mark::Expression>, Label)>;
 /// The most operands a variant has besides a list.
 const SLOTS: usize = 8;
 
-/// An iterator over the remaining operands of at most eight, in order.
+/// An iterator over the remaining operands of at most eight, in order. It looks at the first `count` slots alone.
 #[derive(Drop)]
 struct Slots {
     slots: [Slot; SLOTS],
     next: usize,
+    count: usize,
 }
 
 impl Model for Slots {
-    ghost use Rattle.std.specs.Prelude.{◌≡◌, ℕ, List, drop, length};
+    ghost use Rattle.std.specs.Prelude.{◌≡◌, ◌≤◌, ℕ, List, drop, length, take};
     ghost use Rattle.shader_ir.specs.declared.proc.operands.Label.{Label};
     ghost use Rattle.shader_ir.specs.declared.proc.operands.TheConstants.{SLOTS};
     ghost use Rattle.shader_ir.specs.Slots.{retained};
 
     ghost Value = { List (ℕ × Label) };
 
-    ghost view = { λ operands. retained (drop operands.next operands.slots) };
+    ghost view = { λ operands. retained (drop operands.next (take operands.count operands.slots)) };
 
-    ghost invariant = { λ operands. length operands.slots ≡ SLOTS };
+    ghost invariant = { λ operands. length operands.slots ≡ SLOTS × operands.count ≤ SLOTS };
 }
 
 impl Iterator for Slots {
@@ -65,11 +66,10 @@ impl Iterator for Slots {
     ghost remaining = { item_count (λ operands. operands) };
 
     fn next(&mut self) -> Option<(Handle<mark::Expression>, Label)> {
-        while self.next < SLOTS {
-            let slot = self.slots[self.next];
+        while let Some(slot) = self.slots[..self.count].get(self.next) {
             self.next += 1;
             if slot.is_some() {
-                return slot;
+                return *slot;
             }
         }
         None
@@ -101,18 +101,61 @@ impl<'a> Model for Operands<'a> {
 }
 
 impl<'a> Operands<'a> {
-    /// Returns at most eight operands, without the absent ones.
-    fn few(slots: &[Slot]) -> Operands<'a>
-        requires { length slots.now ≤ SLOTS }
-        ensures { result ≡ retained slots.now }
+    /// Returns the operands in the first slots, without the absent ones.
+    fn few(slots: [Slot; SLOTS], count: usize) -> Operands<'a>
+        requires { count ≤ SLOTS }
+        ensures { result ≡ retained (take count slots) }
     {
         Operands {
             slots: Slots {
-                slots: padded(slots),
+                slots,
                 next: 0,
+                count,
             },
             list: &[],
         }
+    }
+
+    /// Returns no operands.
+    fn none() -> Operands<'a>
+        ensures { result ≡ [] }
+    {
+        Operands::few([None; SLOTS], 0)
+    }
+
+    /// Returns one operand, if it is present.
+    fn one(slot: Slot) -> Operands<'a>
+        ensures { result ≡ retained (slot ∷ []) }
+    {
+        Operands::few([slot, None, None, None, None, None, None, None], 1)
+    }
+
+    /// Returns two operands, without the absent ones.
+    fn two(first: Slot, second: Slot) -> Operands<'a>
+        ensures { result ≡ retained (first ∷ second ∷ []) }
+    {
+        Operands::few([first, second, None, None, None, None, None, None], 2)
+    }
+
+    /// Returns three operands, without the absent ones.
+    fn three(first: Slot, second: Slot, third: Slot) -> Operands<'a>
+        ensures { result ≡ retained (first ∷ second ∷ third ∷ []) }
+    {
+        Operands::few([first, second, third, None, None, None, None, None], 3)
+    }
+
+    /// Returns four operands, without the absent ones.
+    fn four(first: Slot, second: Slot, third: Slot, fourth: Slot) -> Operands<'a>
+        ensures { result ≡ retained (first ∷ second ∷ third ∷ fourth ∷ []) }
+    {
+        Operands::few([first, second, third, fourth, None, None, None, None], 4)
+    }
+
+    /// Returns five operands, without the absent ones.
+    fn five(first: Slot, second: Slot, third: Slot, fourth: Slot, fifth: Slot) -> Operands<'a>
+        ensures { result ≡ retained (first ∷ second ∷ third ∷ fourth ∷ fifth ∷ []) }
+    {
+        Operands::few([first, second, third, fourth, fifth, None, None, None], 5)
     }
 
     /// Returns operands that are all read.
@@ -122,7 +165,8 @@ impl<'a> Operands<'a> {
         Operands {
             slots: Slots {
                 slots: [None; SLOTS],
-                next: SLOTS,
+                next: 0,
+                count: 0,
             },
             list,
         }
@@ -144,18 +188,6 @@ impl<'a> Iterator for Operands<'a> {
         self.list = rest;
         Some((*expression, Label::Read))
     }
-}
-
-/// Returns the slots, padded with empty ones.
-fn padded(slots: &[Slot]) -> [Slot; SLOTS]
-    requires { length slots.now ≤ SLOTS }
-    ensures { retained result ≡ retained slots.now }
-{
-    let mut all = [None; SLOTS];
-    for (position, slot) in slots.iter().enumerate() {
-        all[position] = *slot;
-    }
-    all
 }
 
 /// Returns an operand that is read.
@@ -246,14 +278,14 @@ pub fn expression_operands(expression: &Expression) -> ExpressionOperands<'_>
     match expression {
         Expression::Compose { components, .. } => Operands::many(components.as_slice()),
         Expression::Access { base, index } => {
-            Operands::few(&[Some((*base, Label::Part)), read(*index)])
+            Operands::two(Some((*base, Label::Part)), read(*index))
         }
-        Expression::AccessIndex { base, .. } => Operands::few(&[Some((*base, Label::Part))]),
-        Expression::ArrayLength(array) => Operands::few(&[Some((*array, Label::Query))]),
-        Expression::ImageQuery { image, query } => Operands::few(&[
+        Expression::AccessIndex { base, .. } => Operands::one(Some((*base, Label::Part))),
+        Expression::ArrayLength(array) => Operands::one(Some((*array, Label::Query))),
+        Expression::ImageQuery { image, query } => Operands::two(
             Some((*image, Label::Query)),
             read_optional(query.level()),
-        ]),
+        ),
         Expression::ImageSample { .. } | Expression::ImageLoad { .. } => image_operands(expression),
         Expression::Binary { .. } | Expression::Select { .. } | Expression::Math { .. } => {
             arithmetic_operands(expression)
@@ -266,14 +298,14 @@ pub fn expression_operands(expression: &Expression) -> ExpressionOperands<'_>
         | Expression::Relational { argument: one, .. }
         | Expression::As { expr: one, .. }
         | Expression::RayQueryVertexPositions { query: one, .. }
-        | Expression::RayQueryGetIntersection { query: one, .. } => { Operands::few(&[read(*one)]) }
+        | Expression::RayQueryGetIntersection { query: one, .. } => { Operands::one(read(*one)) }
         Expression::CooperativeLoad { tile, .. } => {
-            Operands::few(&[read(tile.pointer), read(tile.stride)])
+            Operands::two(read(tile.pointer), read(tile.stride))
         }
         Expression::CooperativeMultiplyAdd { a, b, c } => {
-            Operands::few(&[read(*a), read(*b), read(*c)])
+            Operands::three(read(*a), read(*b), read(*c))
         }
-        _ => Operands::few(&[]),
+        _ => Operands::none(),
     }
 }
 
@@ -292,29 +324,32 @@ fn image_operands(expression: &Expression) -> ExpressionOperands<'_>
             offset,
             level,
             ..
-        } => Operands::few(&[
-            read(*image),
-            read(*sampler),
-            read(*coordinate),
-            read_optional(*array_index),
-            read_optional(*depth_ref),
-            read_optional(*offset),
-            read_optional(level.handle()),
-            read_optional(level.gradient_y()),
-        ]),
+        } => Operands::few(
+            [
+                read(*image),
+                read(*sampler),
+                read(*coordinate),
+                read_optional(*array_index),
+                read_optional(*depth_ref),
+                read_optional(*offset),
+                read_optional(level.handle()),
+                read_optional(level.gradient_y()),
+            ],
+            SLOTS,
+        ),
         Expression::ImageLoad {
             image,
             coordinate,
             array_index,
             sample,
             level,
-        } => Operands::few(&[
+        } => Operands::five(
             read(*image),
             read(*coordinate),
             read_optional(*array_index),
             read_optional(*sample),
             read_optional(*level),
-        ]),
+        ),
         _ => unreachable!(),
     }
 }
@@ -325,24 +360,24 @@ fn arithmetic_operands(expression: &Expression) -> ExpressionOperands<'_>
     ensures { result ≡ expression_operands expression.now }
 {
     match expression {
-        Expression::Binary { left, right, .. } => Operands::few(&[read(*left), read(*right)]),
+        Expression::Binary { left, right, .. } => Operands::two(read(*left), read(*right)),
         Expression::Select {
             condition,
             accept,
             reject,
-        } => Operands::few(&[read(*condition), read(*accept), read(*reject)]),
+        } => Operands::three(read(*condition), read(*accept), read(*reject)),
         Expression::Math {
             arg,
             arg1,
             arg2,
             arg3,
             ..
-        } => Operands::few(&[
+        } => Operands::four(
             read(*arg),
             read_optional(*arg1),
             read_optional(*arg2),
             read_optional(*arg3),
-        ]),
+        ),
         _ => unreachable!(),
     }
 }
@@ -355,14 +390,12 @@ pub fn statement_operands(statement: &Statement) -> StatementOperands<'_>
         Statement::If { condition: one, .. }
         | Statement::Switch { selector: one, .. }
         | Statement::WorkGroupUniformLoad { pointer: one, .. }
-        | Statement::SubgroupCollectiveOperation { argument: one, .. } => Operands::few(&[read(
-            *one,
-        )]),
+        | Statement::SubgroupCollectiveOperation { argument: one, .. } => Operands::one(read(*one)),
         Statement::Loop { break_if: one, .. }
         | Statement::Return { value: one }
-        | Statement::SubgroupBallot { predicate: one, .. } => Operands::few(&[read_optional(*one)]),
+        | Statement::SubgroupBallot { predicate: one, .. } => Operands::one(read_optional(*one)),
         Statement::Store { pointer, value } => {
-            Operands::few(&[Some((*pointer, Label::Write)), read(*value)])
+            Operands::two(Some((*pointer, Label::Write)), read(*value))
         }
         Statement::ImageStore { .. } | Statement::ImageAtomic { .. } => texel_operands(statement),
         Statement::Atomic {
@@ -375,14 +408,14 @@ pub fn statement_operands(statement: &Statement) -> StatementOperands<'_>
         Statement::RayQuery { query, fun } => ray_query_operands(*query, *fun),
         Statement::RayPipelineFunction(fun) => ray_pipeline_operands(*fun),
         Statement::SubgroupGather { mode, argument, .. } => {
-            Operands::few(&[read(*argument), read_optional(mode.index())])
+            Operands::two(read(*argument), read_optional(mode.index()))
         }
-        Statement::CooperativeStore { target, tile } => Operands::few(&[
+        Statement::CooperativeStore { target, tile } => Operands::three(
             read(*target),
             Some((tile.pointer, Label::Write)),
             read(tile.stride),
-        ]),
-        _ => Operands::few(&[]),
+        ),
+        _ => Operands::none(),
     }
 }
 
@@ -397,25 +430,25 @@ fn texel_operands(statement: &Statement) -> StatementOperands<'_>
             coordinate,
             array_index,
             value,
-        } => Operands::few(&[
+        } => Operands::four(
             Some((*image, Label::Write)),
             read(*coordinate),
             read_optional(*array_index),
             read(*value),
-        ]),
+        ),
         Statement::ImageAtomic {
             image,
             coordinate,
             array_index,
             fun,
             value,
-        } => Operands::few(&[
+        } => Operands::five(
             Some((*image, Label::Atomic)),
             read(*coordinate),
             read_optional(*array_index),
             read(*value),
             read_optional(fun.compare()),
-        ]),
+        ),
         _ => unreachable!(),
     }
 }
@@ -428,11 +461,11 @@ fn atomic_operands<'a>(
 ) -> StatementOperands<'a>
     ensures { result ≡ retained (Some (pointer, Label.ReadWrite) ∷ read value ∷ read_optional (exchange_compare fun) ∷ []) }
 {
-    Operands::few(&[
+    Operands::three(
         Some((pointer, Label::ReadWrite)),
         read(value),
         read_optional(fun.compare()),
-    ])
+    )
 }
 
 /// Returns the operands of a statement of a ray pipeline.
@@ -444,11 +477,11 @@ fn ray_pipeline_operands<'a>(fun: RayPipelineFunction) -> StatementOperands<'a>
             acceleration_structure,
             descriptor,
             payload,
-        } => Operands::few(&[
+        } => Operands::three(
             read(acceleration_structure),
             read(descriptor),
             read(payload),
-        ]),
+        ),
     }
 }
 
@@ -463,12 +496,12 @@ fn ray_query_operands<'a>(
         RayQueryFunction::Initialize {
             acceleration_structure,
             descriptor,
-        } => Operands::few(&[read(query), read(acceleration_structure), read(descriptor)]),
+        } => Operands::three(read(query), read(acceleration_structure), read(descriptor)),
         RayQueryFunction::GenerateIntersection { hit_t } => {
-            Operands::few(&[read(query), read(hit_t)])
+            Operands::two(read(query), read(hit_t))
         }
         RayQueryFunction::Proceed { .. }
         | RayQueryFunction::ConfirmIntersection
-        | RayQueryFunction::Terminate => Operands::few(&[read(query)]),
+        | RayQueryFunction::Terminate => Operands::one(read(query)),
     }
 }

@@ -5,9 +5,8 @@ ghost use Rattle.shader_ir.specs.Queries.{pointer_base, pointer_space, scalar_of
 ghost use Rattle.shader_ir.specs.Alignments.{vector_count};
 ghost use Rattle.shader_ir.specs.TypeTree.{PointsBelow};
 
-use crate::{
-    AddressSpace, ArraySize, Scalar, ScalarKind, Type, TypeInner, TypeResolution, VectorSize, mark,
-};
+use crate::proc::TypeResolution;
+use crate::{AddressSpace, ArraySize, Scalar, ScalarKind, Type, TypeInner, VectorSize, mark};
 use shader_arena::UniqueArena;
 
 impl TypeInner {

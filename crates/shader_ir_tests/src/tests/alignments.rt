@@ -1,5 +1,6 @@
 //! Tests of alignments.
-use shader_ir::{Alignment, CooperativeSize, VectorSize};
+use shader_ir::proc::Alignment;
+use shader_ir::{CooperativeSize, VectorSize};
 
 #[test]
 fn rounds_up(rt: HostRuntime) {

@@ -5,9 +5,9 @@
 //! passes and prints a line with `was refused`. The first N at which no test prints one is beyond all requests.
 use crate::tests::OUT_OF_MEMORY;
 use shader_arena::{Arena, Handle, UniqueArena};
+use shader_ir::proc::{Layouter, UpdateError, sizes_in_range};
 use shader_ir::{
-    ArraySize, Count, GlobalCtx, Items, Layouter, Map, Name, Scalar, StructMember, Type, TypeInner,
-    UpdateError, mark, sizes_in_range,
+    ArraySize, Count, GlobalCtx, Items, Map, Name, Scalar, StructMember, Type, TypeInner, mark,
 };
 use std::alloc::{AllocError, AllocFailed, Global};
 use std::io::Print;

@@ -1,8 +1,7 @@
 //! Tests of types made of scalars, and of the lists of scalars and of sizes.
 use crate::tests::OUT_OF_MEMORY;
-use shader_ir::{
-    Scalar, TypeInner, VectorSize, concrete_int_scalars, vector_size_str, vector_sizes,
-};
+use shader_ir::proc::{concrete_int_scalars, vector_size_str, vector_sizes};
+use shader_ir::{Scalar, TypeInner, VectorSize};
 
 #[test]
 fn types_are_made_of_scalars(rt: HostRuntime) {

@@ -1,7 +1,7 @@
 //! Tests of the texts of errors that no row shows.
 use crate::tests::OUT_OF_MEMORY;
 use shader_arena::Handle;
-use shader_ir::{LayoutError, LayoutErrorInner, UpdateError};
+use shader_ir::proc::{LayoutError, LayoutErrorInner, UpdateError};
 use std::alloc::{AllocError, Global};
 use std::process::Abort;
 
