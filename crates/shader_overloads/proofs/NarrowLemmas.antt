@@ -7,8 +7,9 @@ use Rattle.shader_ir.specs.declared.types.«Type».{«Type»}
 use Rattle.shader_ir.specs.declared.types.TypeInner.{TypeInner}
 use Rattle.shader_overloads.specs.declared.rule.Rule.{Rule}
 use Rattle.shader_overloads.specs.declared.overload_set.SetCall.{SetCall}
+use Rattle.shader_overloads.specs.declared.overload_set.SetCall.TheVariants.{Arg}
 use Rattle.std.proofs.lemmas.List.Elements.{All-filter}
-use Rattle.shader_overloads.specs.Remaining.{remaining, passes, RuleFits, RulesFit}
+use Rattle.shader_overloads.specs.Remaining.{remaining, passes, supplying, RuleFits, RulesFit}
 use Rattle.shader_overloads.proofs.ListLemmas.{filter_all}
 
 pub filter-filter : {X : Type 0} (p q : X → Bool) (xs : List X) → filter p (filter q xs) ≡ filter (λ x. q x && p x) xs
@@ -41,6 +42,18 @@ module _ (accepting : List «Type» → ℕ → TypeInner → Rule → Bool) (ty
       ∙ sym (remaining-cons call (drop (k + 1) calls) before)
       ∙ ap (λ c. remaining accepting types (c ∷ drop (k + 1) calls) before) (sym at)
       ∙ sym (ap (λ cs. remaining accepting types cs before) (drop_more calls k d within))
+      ∙ rest
+
+  -- one argument supplied to a set: the later ones leave of the set after it what these leave of the set before it
+  pub supplied : (arguments : List TypeInner) (k : ℕ) (d ty : TypeInner) (before after all : List Rule) → k < length arguments →
+      get_or arguments k d ≡ ty → after ≡ filter (accepting types k ty) before →
+      remaining accepting types (supplying k (drop k arguments)) before ≡ all →
+      remaining accepting types (supplying (k + 1) (drop (k + 1) arguments)) after ≡ all
+  supplied arguments k d ty before after all within at step rest =
+      ap (remaining accepting types (supplying (k + 1) (drop (k + 1) arguments))) step
+      ∙ sym (remaining-cons (Arg k ty) (supplying (k + 1) (drop (k + 1) arguments)) before)
+      ∙ ap (λ t. remaining accepting types (supplying k (t ∷ drop (k + 1) arguments)) before) (sym at)
+      ∙ sym (ap (λ ts. remaining accepting types (supplying k ts) before) (drop_more arguments k d within))
       ∙ rest
 
 -- fewer rules still fit

@@ -1,5 +1,5 @@
 -- Acceptance of arguments by rules, and the rules that remain after the calls on a set.
-use Rattle.std.specs.Prelude.{ℕ, Bool, true, false, not, ◌&&◌, ◌||◌, List, filter, slice_get, length}
+use Rattle.std.specs.Prelude.{ℕ, ◌+◌, Bool, true, false, not, ◌&&◌, ◌||◌, List, [], ◌∷◌, filter, slice_get, length}
 use Rattle.std.specs.Prelude.{All, Option, Some, None, option_and_then, is_some, IfSome}
 use Rattle.std.specs.List.{list_all}
 use Rattle.shader_ir.specs.declared.scalar.Scalar as s
@@ -76,6 +76,11 @@ list_accepts types i ty rule = some_list_takes types ty (argument_at types i rul
 abbrev pub passes : (List «Type» → ℕ → TypeInner → Rule → Bool) → List «Type» → Rule → SetCall → Bool
 passes accepting types rule (Arg i ty) = accepting types i ty rule
 passes accepting types rule ConcreteOnly = has_concrete_arguments types rule
+
+-- the calls that supply the types as arguments, the first as argument i
+abbrev pub supplying : ℕ → List TypeInner → List SetCall
+supplying i [] = []
+supplying i (ty ∷ tys) = Arg i ty ∷ supplying (i + 1) tys
 
 -- the rules that pass all calls, in order
 abbrev pub remaining : (List «Type» → ℕ → TypeInner → Rule → Bool) → List «Type» → List SetCall → List Rule → List Rule

@@ -2,6 +2,7 @@
 #![tactic(auto)]
 
 mod any_overload_set;
+mod call;
 mod combinations;
 mod constructor_set;
 pub mod laws;
@@ -18,6 +19,7 @@ mod scalar_set;
 pub mod utils;
 
 pub use any_overload_set::AnyOverloadSet;
+pub use call::rule_of;
 pub use constructor_set::{ConstructorMembers, ConstructorSet, ConstructorSize};
 pub use list::{List, rules_fit};
 pub use mathfunction::MathOverloads;

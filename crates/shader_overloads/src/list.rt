@@ -1,5 +1,5 @@
 //! Overload sets that store their rules one by one.
-ghost use Rattle.std.specs.Prelude.{◌≡◌, ◌≢◌, ◌↔◌, ◌≤◌, ◌<◌, [], All, IsTrue, IfOk, Some, length, slice_get};
+ghost use Rattle.std.specs.Prelude.{◌≡◌, ◌≢◌, ◌↔◌, ◌≤◌, ◌<◌, [], All, IsTrue, IfOk, Some, filter, length, slice_get};
 ghost use Rattle.std.specs.List.{list_all};
 ghost use Rattle.std.specs.Rc.{rc_slice_items};
 ghost use Rattle.shader_ir.specs.Key.{IsNoStruct, inner_of};
@@ -13,7 +13,8 @@ use crate::mask::Mask;
 use crate::masked::{Masked, Table};
 use crate::{OverloadSet, Rule};
 use shader_arena::UniqueArena;
-use shader_ir::{GlobalCtx, Type, TypeInner, TypeResolution, mark};
+use shader_ir::proc::TypeResolution;
+use shader_ir::{GlobalCtx, Type, TypeInner, mark};
 use std::alloc::{AllocError, Global};
 use std::marker::Model;
 use std::rc::RcSlice;
@@ -227,19 +228,62 @@ impl Table for ListTable {
         rule_at(self.rules.as_slice(), number).copy(alloc)
     }
 
-    fn accepts(
+    fn accepted(
         &self,
-        number: usize,
+        mask: Mask,
         i: usize,
         ty: &TypeInner,
         types: &UniqueArena<Type, mark::Type>,
-    ) -> bool {
-        accepts_argument(rule_at(self.rules.as_slice(), number), i, ty, types)
+    ) -> Mask {
+        accepted_of(self.rules.as_slice(), mask, i, ty, types)
     }
 
-    fn is_concrete(&self, number: usize, types: &UniqueArena<Type, mark::Type>) -> bool {
-        has_concrete_arguments(rule_at(self.rules.as_slice(), number), types)
+    fn concrete(&self, mask: Mask, types: &UniqueArena<Type, mark::Type>) -> Mask {
+        concrete_of(self.rules.as_slice(), mask, types)
     }
+}
+
+/// Returns those of the numbers whose rules accept a value of the type as argument `i`.
+fn accepted_of(
+    rules: &[Rule],
+    mask: Mask,
+    i: usize,
+    ty: &TypeInner,
+    types: &UniqueArena<Type, mark::Type>,
+) -> Mask
+    requires within { IsBelow mask (length rules.now) }
+    requires backward { IsBackward types.now }
+    requires ty_in { PointsBelow (length types.now) ty.now }
+    requires fits { RulesFit types.now (rules_at mask rules.now) }
+    ensures rules { rules_at result rules.now ≡ filter (list_accepts types.now i ty.now) (rules_at mask rules.now) }
+    ensures within { IsBelow result (length rules.now) }
+{
+    let mut retained = Mask::empty();
+    let mut left = mask;
+    while let Some(number) = left.take_first() {
+        if accepts_argument(rule_at(rules, number), i, ty, types) {
+            retained.insert(number);
+        }
+    }
+    retained
+}
+
+/// Returns those of the numbers whose rules have no abstract arguments.
+fn concrete_of(rules: &[Rule], mask: Mask, types: &UniqueArena<Type, mark::Type>) -> Mask
+    requires within { IsBelow mask (length rules.now) }
+    requires backward { IsBackward types.now }
+    requires fits { RulesFit types.now (rules_at mask rules.now) }
+    ensures rules { rules_at result rules.now ≡ filter (has_concrete_arguments types.now) (rules_at mask rules.now) }
+    ensures within { IsBelow result (length rules.now) }
+{
+    let mut retained = Mask::empty();
+    let mut left = mask;
+    while let Some(number) = left.take_first() {
+        if has_concrete_arguments(rule_at(rules, number), types) {
+            retained.insert(number);
+        }
+    }
+    retained
 }
 
 /// Returns the least number of arguments of a remaining rule.

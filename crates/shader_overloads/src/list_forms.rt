@@ -8,7 +8,8 @@ ghost use Rattle.shader_overloads.specs.ListForms.{rows};
 
 use crate::utils::pairs;
 use crate::{Conclusion, ConstructorSize, Rule};
-use shader_ir::{Items, Scalar, ScalarKind, TypeInner, TypeResolution};
+use shader_ir::proc::TypeResolution;
+use shader_ir::{Items, Scalar, ScalarKind, TypeInner};
 use std::alloc::{AllocError, Global};
 
 /// The number of rules of the longest list.

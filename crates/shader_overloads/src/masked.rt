@@ -4,7 +4,7 @@ ghost use Rattle.shader_ir.specs.declared.types.«Type».{«Type»};
 ghost use Rattle.shader_ir.specs.declared.types.TypeInner.{TypeInner};
 ghost use Rattle.shader_ir.specs.TypeTree.{IsBackward, PointsBelow};
 ghost use Rattle.shader_overloads.specs.declared.rule.Rule.{Rule};
-ghost use Rattle.shader_overloads.specs.Masks.{IsBelow, NumberFits, rules_at};
+ghost use Rattle.shader_overloads.specs.Masks.{IsBelow, rules_at};
 ghost use Rattle.shader_overloads.specs.Remaining.{has_concrete_arguments, RulesFit};
 
 use crate::Rule;
@@ -42,28 +42,6 @@ pub trait Table: Sized + Drop {
         requires { number < length (table_rules self.now) }
         ensures { IfOk result (λ rule. slice_get (table_rules self.now) number ≡ Some rule) };
 
-    /// Returns whether the rule with a number accepts a value of the type as argument `i`.
-    fn accepts(
-        &self,
-        number: usize,
-        i: usize,
-        ty: &TypeInner,
-        types: &UniqueArena<Type, mark::Type>,
-    ) -> bool
-        requires number_in { number < length (table_rules self.now) }
-        requires backward { IsTrue reads_types → IsBackward types.now }
-        requires ty_in { IsTrue reads_types → PointsBelow (length types.now) ty.now }
-        requires fits { IsTrue reads_types → NumberFits types.now (table_rules self.now) number }
-        ensures { (rule : Rule) → slice_get (table_rules self.now) number ≡ Some rule →
-            result ≡ accepting self.now types.now i ty.now rule };
-
-    /// Returns whether the rule with a number has no abstract argument.
-    fn is_concrete(&self, number: usize, types: &UniqueArena<Type, mark::Type>) -> bool
-        requires number_in { number < length (table_rules self.now) }
-        requires backward { IsTrue reads_types → IsBackward types.now }
-        requires fits { IsTrue reads_types → NumberFits types.now (table_rules self.now) number }
-        ensures { (rule : Rule) → slice_get (table_rules self.now) number ≡ Some rule → result ≡ has_concrete_arguments types.now rule };
-
     /// Returns those of the numbers whose rules accept a value of the type as argument `i`.
     fn accepted(
         &self,
@@ -78,17 +56,7 @@ pub trait Table: Sized + Drop {
         requires fits { IsTrue reads_types → RulesFit types.now (rules_at mask (table_rules self.now)) }
         ensures rules { rules_at result (table_rules self.now)
             ≡ filter (accepting self.now types.now i ty.now) (rules_at mask (table_rules self.now)) }
-        ensures within { IsBelow result (length (table_rules self.now)) }
-    {
-        let mut retained = Mask::empty();
-        let mut left = mask;
-        while let Some(number) = left.take_first() {
-            if self.accepts(number, i, ty, types) {
-                retained.insert(number);
-            }
-        }
-        retained
-    }
+        ensures within { IsBelow result (length (table_rules self.now)) };
 
     /// Returns those of the numbers whose rules have no abstract arguments.
     fn concrete(&self, mask: Mask, types: &UniqueArena<Type, mark::Type>) -> Mask
@@ -97,17 +65,7 @@ pub trait Table: Sized + Drop {
         requires fits { IsTrue reads_types → RulesFit types.now (rules_at mask (table_rules self.now)) }
         ensures rules { rules_at result (table_rules self.now)
             ≡ filter (has_concrete_arguments types.now) (rules_at mask (table_rules self.now)) }
-        ensures within { IsBelow result (length (table_rules self.now)) }
-    {
-        let mut retained = Mask::empty();
-        let mut left = mask;
-        while let Some(number) = left.take_first() {
-            if self.is_concrete(number, types) {
-                retained.insert(number);
-            }
-        }
-        retained
-    }
+        ensures within { IsBelow result (length (table_rules self.now)) };
 }
 
 /// A table of rules, and the numbers of the remaining ones.

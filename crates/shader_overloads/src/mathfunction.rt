@@ -225,7 +225,7 @@ impl MathOverloads for MathFunction {
     fn overloads(self, alloc: Global) -> Result<AnyOverloadSet, AllocError>
         ensures rules { IfOk result (λ set. rules_in set ≡ rules_of self) }
         ensures kind { IfOk result (λ set. ◌≡◌ {A = List «Type» → ℕ → TypeInner → Rule → Bool} (acceptance_in set) (acceptance_of self)) }
-        ensures fits { (types : List «Type») → IfOk result (λ set. RulesFit types (rules_in set)) }
+        ensures fits { IfOk result (λ set. (types : List «Type») → RulesFit types (rules_in set)) }
         ensures found { is_listed self ≡ false → IsOk result }
     {
         match regular_set(self) {

@@ -30,7 +30,8 @@ ghost use Rattle.shader_overloads.specs.Counts.{arguments_at, IsGreatestCount, I
 
 use crate::Rule;
 use shader_arena::UniqueArena;
-use shader_ir::{GlobalCtx, Type, TypeInner, TypeResolution, mark};
+use shader_ir::proc::TypeResolution;
+use shader_ir::{GlobalCtx, Type, TypeInner, mark};
 use std::alloc::{AllocError, Global};
 
 /// The candidate rules for a call of a built-in function, the preferred one first.

@@ -19,9 +19,8 @@ use crate::scalar_set::scalar_at;
 use crate::{Conclusion, ConstructorSet, ConstructorSize, OverloadSet, Rule, ScalarSet};
 use bitflags::Flags;
 use shader_arena::UniqueArena;
-use shader_ir::{
-    GlobalCtx, Items, PredeclaredType, Scalar, Type, TypeInner, TypeResolution, VectorSize, mark,
-};
+use shader_ir::proc::TypeResolution;
+use shader_ir::{GlobalCtx, Items, PredeclaredType, Scalar, Type, TypeInner, VectorSize, mark};
 use std::alloc::{AllocError, Global};
 use std::marker::Model;
 
@@ -231,20 +230,6 @@ impl Table for RegularTable {
         let size = size_at(number / 12);
         let scalar = scalar_at(number % 12);
         build_rule(alloc, self.arity, size, scalar, self.conclude)
-    }
-
-    fn accepts(
-        &self,
-        number: usize,
-        i: usize,
-        ty: &TypeInner,
-        _types: &UniqueArena<Type, mark::Type>,
-    ) -> bool {
-        self.accepted_numbers(i, ty).has(number)
-    }
-
-    fn is_concrete(&self, number: usize, _types: &UniqueArena<Type, mark::Type>) -> bool {
-        self.concrete_numbers().has(number)
     }
 
     fn accepted(

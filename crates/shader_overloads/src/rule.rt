@@ -8,9 +8,9 @@ ghost use Rattle.shader_overloads.specs.Resolutions.{ConcludesNoMembers, resolut
 ghost use Rattle.shader_overloads.specs.Rules.{is_scalar_or_vector, vector_size};
 
 use crate::ConstructorSize;
+use shader_ir::proc::TypeResolution;
 use shader_ir::{
-    Items, MathFunction, PredeclaredType, Scalar, SpecialTypes, TypeInner, TypeResolution,
-    VectorSize,
+    Items, MathFunction, PredeclaredType, Scalar, SpecialTypes, TypeInner, VectorSize,
 };
 use std::alloc::{AllocError, Global};
 use thiserror::Error;

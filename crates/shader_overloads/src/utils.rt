@@ -9,7 +9,8 @@ ghost use Rattle.shader_overloads.specs.Remaining.{has_no_struct};
 
 pub use crate::combinations::{PairsLeft, TriplesLeft, pairs, triples};
 use crate::{Conclusion, ConstructorSize, List, Rule};
-use shader_ir::{Items, Scalar, TypeInner, TypeResolution, VectorSize};
+use shader_ir::proc::TypeResolution;
+use shader_ir::{Items, Scalar, TypeInner, VectorSize};
 use std::alloc::{AllocError, Global};
 use std::marker::Model;
 

@@ -8,9 +8,8 @@ mod sets;
 
 pub use crate::builders::{Built, inner};
 use shader_arena::{Arena, UniqueArena};
-use shader_ir::{
-    Constant, Expression, GlobalCtx, Override, Scalar, Type, TypeResolution, VectorSize, mark,
-};
+use shader_ir::proc::TypeResolution;
+use shader_ir::{Constant, Expression, GlobalCtx, Override, Scalar, Type, VectorSize, mark};
 use shader_overloads::{Conclusion, ConstructorSize, OverloadSet, Rule};
 use std::alloc::{AllocError, Global};
 use std::process::Abort;

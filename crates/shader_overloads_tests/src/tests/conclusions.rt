@@ -1,9 +1,10 @@
 //! Tests of conclusions in a module.
 use crate::tests::{OUT_OF_MEMORY, SCALAR, VEC2, inner};
 use shader_arena::Handle;
+use shader_ir::proc::TypeResolution;
 use shader_ir::{
     Items, Map, MathFunction, PredeclaredType, Scalar, SpecialTypes, StructMember, TypeInner,
-    TypeResolution, VectorSize,
+    VectorSize,
 };
 use shader_overloads::Conclusion;
 use std::alloc::Global;

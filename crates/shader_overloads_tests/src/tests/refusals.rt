@@ -7,7 +7,8 @@ ghost use Rattle.shader_overloads.specs.Remaining.{CallFits};
 
 use crate::tests::{Built, SCALAR, VEC2, counted, inner, is_rule, list_allowed, list_rules};
 use shader_arena::UniqueArena;
-use shader_ir::{MathFunction, Scalar, Type, mark, types_backward};
+use shader_ir::proc::types_backward;
+use shader_ir::{MathFunction, Scalar, Type, mark};
 use shader_overloads::utils::{list, rule};
 use shader_overloads::{AnyOverloadSet, List, MathOverloads, OverloadSet, Rule, SetCall, narrow};
 use std::alloc::{AllocError, Global};
