@@ -6,7 +6,8 @@ ghost use Rattle.shader_resolve.specs.PointerLaws.{AccessesAreLifted, AccessesAr
 
 use crate::ResolveError;
 use shader_arena::Handle;
-use shader_ir::{TypeResolution, mark};
+use shader_ir::mark;
+use shader_ir::proc::TypeResolution;
 
 /// States that a well-formed module meets the preconditions of type resolution: everything named by the context of a function, of an entry
 /// point or of the global expressions is in range, and so is everything that their expressions name besides operands; and the operands that

@@ -10,5 +10,5 @@ mod well_formed;
 pub use context::ResolveContext;
 pub use error::ResolveError;
 pub use well_formed::{
-    MOST_LEVELS, ModuleFault, ModuleLocation, check_module, find_fault, nests_within,
+    FaultAt, MOST_LEVELS, ModuleFault, ModuleLocation, check_module, find_fault, nests_within,
 };

@@ -6,8 +6,8 @@
 //!
 //! `resolve` is sound and complete with respect to the rules: unless `past` fails or, for the rules that allocate, memory runs out, it
 //! returns a type exactly if the rule gives one, and then that type; if the rule rejects the expression, it returns the rule's error. Since
-//! rules depend only on the keys of operand types (`shader_ir::compare_types`), it makes no difference whether `past` returns a handle or
-//! an equal value.
+//! rules depend only on the keys of operand types (`shader_ir::proc::compare_types`), it makes no difference whether `past` returns a
+//! handle or an equal value.
 //!
 //! The modules below follow the groups of rules: `leaves` reads no operands; `access`, `pointers`, `images` and `operations` read shapes of
 //! types; `builtins` resolves overloads by `shader_overloads`.
@@ -24,9 +24,10 @@ use access::{access, splat, swizzle};
 use images::{gather, image_extent, sample};
 use operations::{cast, component_test};
 use shader_arena::Handle;
+use shader_ir::proc::TypeResolution;
 use shader_ir::{
     BinaryOperator, Expression, ImageQuery, MathFunction, RelationalFunction, Scalar, TypeInner,
-    TypeResolution, mark,
+    mark,
 };
 use std::alloc::Global;
 use values::{copied, scalar_type};

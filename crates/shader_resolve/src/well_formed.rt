@@ -13,7 +13,7 @@ mod statements;
 use data::check_data;
 use expressions::check_expressions;
 use functions::check_function;
-pub use locations::{ModuleLocation, find_fault};
+pub use locations::{FaultAt, ModuleLocation, find_fault};
 pub use nesting::{MOST_LEVELS, nests_within};
 use shader_ir::Module;
 use thiserror::Error;

@@ -7,7 +7,8 @@ ghost use Rattle.shader_resolve.specs.CongruenceLaws.{HaveEqualKeys};
 ghost use Rattle.shader_resolve.specs.Outcome.{ForNothing};
 
 use shader_arena::{Handle, UniqueArena};
-use shader_ir::{Expression, Type, TypeResolution, compare_types, mark};
+use shader_ir::proc::{TypeResolution, compare_types};
+use shader_ir::{Expression, Type, mark};
 use shader_resolve::laws::equal_operand_types_give_equal_types;
 use shader_resolve::{ResolveContext, ResolveError};
 use std::alloc::Global;

@@ -1,5 +1,6 @@
 //! Errors of typing a function under construction.
 use shader_resolve::ResolveError;
+use std::alloc::{AllocError, AllocFailed};
 use thiserror::Error;
 
 /// The reason why an expression is given no type.
@@ -14,4 +15,28 @@ pub enum TypifyError {
     /// The typing rule rejects the expression, or memory ran out.
     #[error(transparent)]
     Resolve(ResolveError),
+}
+
+impl From<AllocError> for TypifyError {
+    ghost use Rattle.std.specs.Prelude.{◌≡◌};
+    ghost use Rattle.shader_resolve.specs.declared.error.ResolveError.TheVariants.{OutOfMemory};
+    ghost use Rattle.shader_typifier.specs.declared.error.TypifyError.TheVariants.{Resolve};
+
+    ghost from_gives = { λ _ error. error ≡ Resolve OutOfMemory };
+
+    fn from(_error: AllocError) -> TypifyError {
+        TypifyError::Resolve(ResolveError::OutOfMemory)
+    }
+}
+
+impl<T: Drop> From<AllocFailed<T>> for TypifyError {
+    ghost use Rattle.std.specs.Prelude.{◌≡◌};
+    ghost use Rattle.shader_resolve.specs.declared.error.ResolveError.TheVariants.{OutOfMemory};
+    ghost use Rattle.shader_typifier.specs.declared.error.TypifyError.TheVariants.{Resolve};
+
+    ghost from_gives = { λ _ error. error ≡ Resolve OutOfMemory };
+
+    fn from(_failed: AllocFailed<T>) -> TypifyError {
+        TypifyError::Resolve(ResolveError::OutOfMemory)
+    }
 }

@@ -3,7 +3,7 @@
 
 mod error;
 pub mod laws;
-mod names;
+mod operands;
 mod typifier;
 
 pub use error::TypifyError;

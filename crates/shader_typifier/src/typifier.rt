@@ -10,9 +10,10 @@ ghost use Rattle.shader_typifier.specs.Grown.{AreTyped, Grows, IsRefusedAs, IsRe
 ghost use Rattle.shader_typifier.specs.Registered.{IsMissing, IsRegistered, with_resolution};
 
 use crate::TypifyError;
-use crate::names::{names_in_range, operands_below};
+use crate::operands::operands_below;
 use shader_arena::{Arena, Handle, UniqueArena};
-use shader_ir::{Expression, Type, TypeInner, TypeResolution, mark};
+use shader_ir::proc::TypeResolution;
+use shader_ir::{Expression, Type, TypeInner, mark};
 use shader_resolve::{ResolveContext, ResolveError};
 use std::alloc::{AllocError, Global};
 use std::marker::Model;
@@ -43,7 +44,7 @@ impl Typifier {
         }
     }
 
-    /// Removes all types, for the next function, and keeps their memory for reuse.
+    /// Removes all types, for the next function.
     pub fn reset(&mut self)
         ensures { self.new ≡ [] }
     {
@@ -100,7 +101,7 @@ impl Typifier {
         ensures typed { IfOk result (IsTyped context.now self.now expression.now) }
         ensures refused { IfErr result (IsRefusedAs context.now self.now expression.now) }
     {
-        if !names_in_range(context, expression) {
+        if !context.names_in_range(expression) {
             return Err(TypifyError::HandleOutOfRange);
         }
         if !operands_below(expression, self.len()) {

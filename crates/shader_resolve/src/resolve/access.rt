@@ -9,9 +9,8 @@ use super::Resolved;
 use super::values::vector_type;
 use crate::ResolveError;
 use shader_arena::{Handle, UniqueArena};
-use shader_ir::{
-    AddressSpace, Scalar, StructMember, Type, TypeInner, TypeResolution, VectorSize, mark,
-};
+use shader_ir::proc::TypeResolution;
+use shader_ir::{AddressSpace, Scalar, StructMember, Type, TypeInner, VectorSize, mark};
 
 /// The component that an access selects in a type.
 #[derive(Clone, Copy)]

@@ -13,7 +13,8 @@ ghost use Rattle.shader_resolve.specs.Outcome.{BuiltinArgumentsInvalid, ForRules
 use super::Resolved;
 use crate::{ResolveContext, ResolveError};
 use shader_arena::UniqueArena;
-use shader_ir::{MathFunction, Type, TypeInner, TypeResolution, mark};
+use shader_ir::proc::TypeResolution;
+use shader_ir::{MathFunction, Type, TypeInner, mark};
 use shader_overloads::{AnyOverloadSet, MathOverloads, OverloadSet, Rule};
 use std::alloc::{AllocError, Global};
 

@@ -7,9 +7,8 @@ use super::Resolved;
 use super::values::{scalar_type, vector_type};
 use crate::{ResolveContext, ResolveError};
 use shader_arena::Handle;
-use shader_ir::{
-    AddressSpace, Expression, Literal, Scalar, TypeInner, TypeResolution, VectorSize, mark,
-};
+use shader_ir::proc::TypeResolution;
+use shader_ir::{AddressSpace, Expression, Literal, Scalar, TypeInner, VectorSize, mark};
 
 /// Returns the scalar of a literal.
 fn scalar_of_literal(literal: Literal) -> Scalar

@@ -6,7 +6,8 @@ ghost use Rattle.shader_resolve.specs.Outcome.{ForWords, IncompatibleOperands, I
 use super::Resolved;
 use super::values::{copied, matrix_type, scalar_type, vector_type};
 use crate::{ResolveContext, ResolveError};
-use shader_ir::{BinaryOperator, Scalar, ScalarKind, TypeInner, TypeResolution};
+use shader_ir::proc::TypeResolution;
+use shader_ir::{BinaryOperator, Scalar, ScalarKind, TypeInner};
 use std::alloc::{AllocError, Global};
 use std::fmt::Debug;
 

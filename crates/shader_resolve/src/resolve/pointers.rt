@@ -4,7 +4,8 @@ use super::Resolved;
 use super::values::{cooperative_type, scalar_type, vector_type};
 use crate::{ResolveContext, ResolveError};
 use shader_arena::Handle;
-use shader_ir::{CooperativeRole, CooperativeSize, Scalar, TypeInner, TypeResolution, mark};
+use shader_ir::proc::TypeResolution;
+use shader_ir::{CooperativeRole, CooperativeSize, Scalar, TypeInner, mark};
 
 impl<'a> ResolveContext<'a> {
     ghost use Rattle.std.specs.Prelude.{◌≡◌, length};

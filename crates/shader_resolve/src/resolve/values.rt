@@ -2,7 +2,8 @@
 ghost use Rattle.std.specs.Prelude.{◌≡◌};
 ghost use Rattle.shader_ir.specs.Key.{HoldsNoMembers};
 
-use shader_ir::{CooperativeRole, CooperativeSize, Scalar, TypeInner, TypeResolution, VectorSize};
+use shader_ir::proc::TypeResolution;
+use shader_ir::{CooperativeRole, CooperativeSize, Scalar, TypeInner, VectorSize};
 use std::alloc::Global;
 
 pub fn scalar_type(scalar: Scalar) -> TypeResolution

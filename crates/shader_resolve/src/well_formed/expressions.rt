@@ -5,7 +5,8 @@ ghost use Rattle.shader_resolve.specs.WellFormed.{expression_callee};
 
 use super::{Bounds, ModuleFault};
 use shader_arena::{Arena, Handle};
-use shader_ir::{Expression, Module, Operands, expression_operands, mark};
+use shader_ir::proc::{Operands, expression_operands};
+use shader_ir::{Expression, Module, mark};
 
 /// Returns whether a handle is below a bound.
 #[inline(always)]

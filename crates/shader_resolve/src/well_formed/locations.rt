@@ -15,6 +15,8 @@ use super::statements::check_block;
 use super::{Bounds, ModuleFault};
 use shader_arena::{Arena, Handle};
 use shader_ir::{Constant, Expression, Function, GlobalVariable, Module, Override, mark};
+use std::fmt;
+use thiserror::Error;
 
 /// A location in a function.
 #[derive(Clone, Copy)]
@@ -58,6 +60,46 @@ pub enum ModuleLocation {
     EntryPointBody(usize),
 }
 
+impl fmt::Display for ModuleLocation {
+    fn fmt<W: fmt::Write>(&self, f: &mut fmt::Formatter<W>) -> fmt::Result {
+        match *self {
+            ModuleLocation::SpecialTypes => f.write_str("the special types"),
+            ModuleLocation::Constant(handle) => write!(f, "constant {handle:?}"),
+            ModuleLocation::Override(handle) => write!(f, "override {handle:?}"),
+            ModuleLocation::GlobalVariable(handle) => write!(f, "global variable {handle:?}"),
+            ModuleLocation::Type(handle) => write!(f, "type {handle:?}"),
+            ModuleLocation::DiagnosticFilter(handle) => write!(f, "diagnostic filter {handle:?}"),
+            ModuleLocation::GlobalExpression(handle) => write!(f, "global expression {handle:?}"),
+            ModuleLocation::Function(handle) => write!(f, "function {handle:?}"),
+            ModuleLocation::FunctionExpression(function, handle) => {
+                write!(f, "function {function:?}, expression {handle:?}")
+            }
+            ModuleLocation::FunctionBody(handle) => write!(
+                f,
+                "function {handle:?}, its statements"
+            ),
+            ModuleLocation::EntryPoint(index) => write!(f, "entry point {index}"),
+            ModuleLocation::EntryPointExpression(index, handle) => {
+                write!(f, "entry point {index}, expression {handle:?}")
+            }
+            ModuleLocation::EntryPointBody(index) => write!(
+                f,
+                "entry point {index}, its statements"
+            ),
+        }
+    }
+}
+
+/// A violation of well-formedness and its location.
+#[derive(Clone, Copy, Debug, PartialEq, Eq, Error)]
+#[error("{location}: {fault}")]
+pub struct FaultAt {
+    /// The location.
+    pub location: ModuleLocation,
+    /// The violation.
+    pub fault: ModuleFault,
+}
+
 /// Returns the location in the module of a location in a function.
 fn in_function(function: Handle<mark::Function>, location: LocationInFunction) -> ModuleLocation
     ensures { result ≡ in_function function location }
@@ -86,17 +128,26 @@ fn in_entry_point(index: usize, location: LocationInFunction) -> ModuleLocation
 
 type Located<P> = Result<(), (P, ModuleFault)>;
 
-/// Returns the first faulty location of a module, with a violation that occurs there, or `None` if the module is well formed.
-///
-/// The order is that of the variants of `ModuleLocation` and by handle within each, except that the locations of one function or entry
-/// point are consecutive. Like `check_module`, this assumes nothing of the module's handles and allocates nothing; it visits the module
-/// once.
-pub fn find_fault(module: &Module) -> Option<(ModuleLocation, ModuleFault)>
+fn first_fault(module: &Module) -> Option<(ModuleLocation, ModuleFault)>
     ensures none { IsNone result ↔ IsWellFormed «module».now }
     ensures first { IfSome result (λ found. IsFirstModuleFault «module».now found.0 found.1) }
     ensures is_there { IfSome result (λ found. ModuleHasFault «module».now found.1) }
 {
     find_in_module(module).err()
+}
+
+/// Returns the first faulty location of a module, with a violation that occurs there, or `None` if the module is well formed.
+///
+/// The order is that of the variants of `ModuleLocation` and by handle within each, except that the locations of one function or entry
+/// point are consecutive. Like `check_module`, this assumes nothing of the module's handles and allocates nothing; it visits the module
+/// once.
+pub fn find_fault(module: &Module) -> Option<FaultAt>
+    ensures none { IsNone result ↔ IsWellFormed «module».now }
+    ensures first { IfSome result (λ found. IsFirstModuleFault «module».now found.location found.fault) }
+    ensures is_there { IfSome result (λ found. ModuleHasFault «module».now found.fault) }
+{
+    let (location, fault) = first_fault(module)?;
+    Some(FaultAt { location, fault })
 }
 
 fn find_in_module(module: &Module) -> Located<ModuleLocation>

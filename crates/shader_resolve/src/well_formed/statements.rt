@@ -9,7 +9,8 @@ ghost use Rattle.shader_resolve.specs.Statements.{proceed_result, statement_call
 use super::expressions::{is_below, is_optional_below, operands_below};
 use super::{Bounds, ModuleFault};
 use shader_arena::{Handle, Range};
-use shader_ir::{Block, Module, RayQueryFunction, Statement, mark, statement_operands};
+use shader_ir::proc::statement_operands;
+use shader_ir::{Block, Module, RayQueryFunction, Statement, mark};
 
 /// Returns the first violation in a block's statements, each statement before those in its blocks.
 #[cycle(blocks)]

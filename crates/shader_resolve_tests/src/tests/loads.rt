@@ -4,10 +4,8 @@ ghost use Rattle.shader_ir.specs.Key.{FitsTypes};
 
 use crate::congruence::loads_have_equal_keys;
 use shader_arena::{Arena, Handle, UniqueArena};
-use shader_ir::{
-    AddressSpace, Module, Scalar, Type, TypeInner, TypeResolution, VectorSize, compare_types, mark,
-    types_backward,
-};
+use shader_ir::proc::{TypeResolution, compare_types, types_backward};
+use shader_ir::{AddressSpace, Module, Scalar, Type, TypeInner, VectorSize, mark};
 use shader_resolve::laws::contexts_of_well_formed_modules_fit;
 use shader_resolve::{ResolveContext, check_module};
 use std::alloc::Global;

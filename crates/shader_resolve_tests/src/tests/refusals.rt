@@ -9,9 +9,10 @@ mod tables;
 
 use crate::tests::refusals::stored::resolve_stored;
 use shader_arena::{Arena, Handle};
+use shader_ir::proc::TypeResolution;
 use shader_ir::{
-    BinaryOperator, Expression, MathFunction, Module, Scalar, ScalarKind, TypeInner,
-    TypeResolution, VectorSize, mark,
+    BinaryOperator, Expression, MathFunction, Module, Scalar, ScalarKind, TypeInner, VectorSize,
+    mark,
 };
 use shader_resolve::{ResolveContext, ResolveError};
 use std::alloc::Global;

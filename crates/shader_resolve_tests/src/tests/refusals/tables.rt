@@ -6,9 +6,9 @@ ghost use Rattle.shader_ir.specs.TypeTree.{IsBackward};
 
 use crate::tests::refusals::at;
 use shader_arena::{Arena, Handle, UniqueArena};
+use shader_ir::proc::{TypeResolution, types_backward};
 use shader_ir::{
-    BinaryOperator, Expression, Literal, Module, Scalar, Type, TypeInner, TypeResolution,
-    VectorSize, mark, types_backward,
+    BinaryOperator, Expression, Literal, Module, Scalar, Type, TypeInner, VectorSize, mark,
 };
 use shader_resolve::{ResolveContext, ResolveError};
 use shader_typifier::{Typifier, TypifyError};

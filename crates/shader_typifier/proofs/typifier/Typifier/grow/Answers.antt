@@ -1,9 +1,9 @@
-use Rattle.std.proofs.Common.{◌≡◌, ◌+◌, ◌∙◌, refl, sym, ap, subst, length, ◌++◌, [], ◌∷◌, Some, slice_get, arith, length-append}
+use Rattle.std.proofs.Common.{◌≡◌, ◌+◌, ◌∙◌, inr, refl, sym, ap, subst, length, ◌++◌, [], ◌∷◌, Some, slice_get, arith, length-append}
 use Rattle.std.proofs.lemmas.List.{take-append-le}
 use Rattle.std.proofs.lemmas.List.Elements.{All-append, All-cons}
 use Rattle.std.proofs.Math.Seq.{take-length}
 use Rattle.shader_ir.specs.Key.{FitsTypes}
-use Rattle.shader_typifier.specs.Grown.{grows, stays}
+use Rattle.shader_typifier.specs.Grown.{for_type, grows, stays}
 use Rattle.shader_typifier.proofs.GrownLemmas.{grown_types_are_typed}
 use Rattle.shader_typifier.proofs.typifier.Typifier.grow.Goals as goal
 
@@ -50,6 +50,16 @@ returns-in_err-resolution-clause-typed c = grown_types_are_typed _ _ _ _ c.loop-
 pub returns-in-Err-clause-typed : goal.returns-in-Err-clause-typed
 returns-in-Err-clause-typed c =
     let same : c.push.new.self.items ≡ c.loop-position.self = cc in rw same (grown_types_are_typed _ _ _ _ c.loop-position.invariant.grown)
+
+pub returns-in-Err-clause-refused : goal.returns-in-Err-clause-refused
+returns-in-Err-clause-refused c =
+    let same : c.push.new.self.items ≡ c.loop-position.self = cc in
+    let at : c.from_index-next.result ≡ length c.loop-position.self = c.from_index-next.ensures ∙ sym c.loop-position.invariant.reached in
+    rw same (record {
+      expression = c.index.result.now;
+      is_there = subst (λ v. slice_get c.args.expressions.now v ≡ Some c.index.result.now) at c.index.ensures;
+      refused = inr (for_type c.in_ok-resolution.resolution c.in_ok-resolution.ensures.typed.reported refl);
+    })
 
 pub returns-clause-typed : goal.returns-clause-typed
 returns-clause-typed c = grown_types_are_typed _ _ _ _ c.loop-position.invariant.grown

@@ -1,7 +1,7 @@
 use Rattle.std.proofs.Common.{rules, refl, subst, inr}
 use Rattle.shader_resolve.specs.DerivesByRule.{memory_of}
 use Rattle.shader_resolve.specs.TypingRules.{typing_rule}
-use Rattle.shader_typifier.proofs.TypedLemmas.{IsOutcomeOf, derivation_gives, may_query, reported_fits}
+use Rattle.shader_typifier.proofs.TypedLemmas.{IsOutcomeOf, derivation_gives, is_refused_as, may_query, reported_fits}
 use Rattle.shader_typifier.proofs.typifier.Typifier.next_type.Goals as goal
 
 pub resolve-resolved-requires : goal.resolve-resolved-requires
@@ -23,18 +23,21 @@ resolve-resolved-requires c κs = (
 pub returns-in-Err-clause-refused : goal.returns-in-Err-clause-refused
 returns-in-Err-clause-refused c =
     let queries = typing_rule c.args.context.now c.args.expression.now in
-    subst (IsOutcomeOf c.args.self.now queries) c.in-Err.is
-    (derivation_gives c.args.self.now _ (memory_of c.args.expression.now) c.resolve-resolved.result queries
-    c.resolve-resolved.ensures.follows (λ operand reported post. search rules))
+    let memory = memory_of c.args.expression.now in
+    is_refused_as c.args.context.now c.args.self.now c.args.expression.now c.in-Err.failure
+    (subst (IsOutcomeOf c.args.self.now memory queries) c.in-Err.is
+    (derivation_gives c.args.self.now memory _ c.resolve-resolved.result queries
+    c.resolve-resolved.ensures.follows (λ operand reported post. search rules)))
 
 pub returns-then-fits-clause-typed : goal.returns-then-fits-clause-typed
 returns-then-fits-clause-typed c =
     let queries = typing_rule c.args.context.now c.args.expression.now in
+    let memory = memory_of c.args.expression.now in
     record {
       names = search rules;
       operands = search rules;
-      reported = subst (IsOutcomeOf c.args.self.now queries) c.in-Ok.is
-          (derivation_gives c.args.self.now _ (memory_of c.args.expression.now) c.resolve-resolved.result queries
+      reported = subst (IsOutcomeOf c.args.self.now memory queries) c.in-Ok.is
+          (derivation_gives c.args.self.now memory _ c.resolve-resolved.result queries
           c.resolve-resolved.ensures.follows (λ operand reported post. search rules));
       fits = search rules;
     }
@@ -42,10 +45,11 @@ returns-then-fits-clause-typed c =
 pub returns-else-fits-clause-refused : goal.returns-else-fits-clause-refused
 returns-else-fits-clause-refused c =
     let queries = typing_rule c.args.context.now c.args.expression.now in
+    let memory = memory_of c.args.expression.now in
     inr (record {
       resolution = c.in-Ok.resolution;
-      reported = subst (IsOutcomeOf c.args.self.now queries) c.in-Ok.is
-          (derivation_gives c.args.self.now _ (memory_of c.args.expression.now) c.resolve-resolved.result queries
+      reported = subst (IsOutcomeOf c.args.self.now memory queries) c.in-Ok.is
+          (derivation_gives c.args.self.now memory _ c.resolve-resolved.result queries
           c.resolve-resolved.ensures.follows (λ operand reported post. search rules));
       unfit = λ fits. search rules;
     })

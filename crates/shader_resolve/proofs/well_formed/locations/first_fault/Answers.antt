@@ -1,5 +1,5 @@
 use Rattle.shader_resolve.proofs.FaultyLocationLemmas.{err-is-first, err-is_there, none-decides}
-use Rattle.shader_resolve.proofs.well_formed.locations.find_fault.Goals as goal
+use Rattle.shader_resolve.proofs.well_formed.locations.first_fault.Goals as goal
 
 pub returns-clause-none : goal.returns-clause-none
 returns-clause-none c = rw (c.err.ensures.value, c.find_in_module.ensures) (none-decides c.args.«module».now)
