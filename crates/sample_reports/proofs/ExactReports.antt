@@ -9,6 +9,7 @@ use Rattle.shader_analysis_spec.specs.Exact.{IsExact, IsExactModule}
 use Rattle.shader_analysis_spec.specs.Faults.{BindingArrayElement, Cause, CountFull, IsAccepted, IsFirstFault, MissingCapability}
 use Rattle.shader_analysis_spec.specs.Faults.{NoResource, NonUniformControlFlow, Settings, Untyped}
 use Rattle.shader_analysis_spec.specs.Infos.{Picks, bit_of}
+use Rattle.shader_analysis_spec.specs.Needs.{has_need}
 use Rattle.shader_analysis_spec.specs.Origins.{ResultOrigin}
 use Rattle.shader_analysis_spec.specs.Program.{Function, Module}
 use Rattle.shader_analysis_spec.specs.Uses.{Uses}
@@ -124,7 +125,7 @@ kind_is IsCause (error.Expression e (expression.MissingCapabilities wanted)) kin
 kind_is IsCause (error.Expression e expression.ExpectedGlobalOrArgument) kind reported named = (NoResource e, named, cc)
 kind_is IsCause (error.Expression e expression.BindingArrayElement) kind reported named = (BindingArrayElement e, named, cc)
 kind_is IsCause (error.NonUniformControlFlow needs e flow_disruptor) kind reported named =
-    (NonUniformControlFlow needs.0 e (disruptor_of flow_disruptor), named, cc)
+    (NonUniformControlFlow (has_need needs.0) e (disruptor_of flow_disruptor), named.1, cc)
 kind_is IsCause (error.CountFull e) kind reported named = (CountFull e, named, cc)
 kind_is IsCause error.OutOfMemory kind reported named = cc
 

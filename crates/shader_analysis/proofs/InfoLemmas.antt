@@ -9,9 +9,10 @@ use Rattle.shader_analysis_spec.proofs.EarlierLemmas.{is_item}
 use Rattle.shader_analysis_spec.specs.Counts.{count_of}
 use Rattle.shader_analysis_spec.specs.Derivable.{AreTypes, function_context}
 use Rattle.shader_analysis_spec.specs.Faults.{BindingArrayElement, Cause, CountFull, Disruptor, MissingCapability}
-use Rattle.shader_analysis_spec.specs.Faults.{NoResource, NonUniformControlFlow, Settings, StepFault, Untyped}
+use Rattle.shader_analysis_spec.specs.Faults.{NoResource, NonUniformControlFlow, Settings, Untyped}
+use Rattle.shader_analysis_spec.specs.StepFaults.{StepFault}
 use Rattle.shader_analysis_spec.specs.Infos.{Info, Picks}
-use Rattle.shader_analysis_spec.specs.Needs.{bit_of_need}
+use Rattle.shader_analysis_spec.specs.Needs.{Need, bit_of_need}
 use Rattle.shader_analysis_spec.specs.Program.{Function, Module}
 use Rattle.shader_analysis_spec.specs.Steps.{MeetsSteps, StepExpressionNeed, StepKill, StepNeed, StepResult}
 use Rattle.shader_pass_laws.proofs.Arguments.{typed_functions_have_arguments}
@@ -125,7 +126,8 @@ pub no_fault : (m : Module) (infos : List Info) (f : Function) (settings : Setti
     ((e : ℕ) (capability : _) → StepFault m infos f settings (MissingCapability e capability) → ⊥) →
     ((e : ℕ) → StepFault m infos f settings (BindingArrayElement e) → ⊥) →
     ((e : ℕ) → StepFault m infos f settings (NoResource e) → ⊥) →
-    ((needs e : ℕ) (flow_disruptor : Disruptor) → StepFault m infos f settings (NonUniformControlFlow needs e flow_disruptor) → ⊥) →
+    ((needs : Need → Bool) (e : ℕ) (flow_disruptor : Disruptor) →
+    StepFault m infos f settings (NonUniformControlFlow needs e flow_disruptor) → ⊥) →
     ((e : ℕ) → StepFault m infos f settings (CountFull e) → ⊥) → (cause : Cause) → StepFault m infos f settings cause → ⊥
 no_fault m infos f settings typed capable element resources undisrupted counted (Untyped e refusal) h = typed e refusal h
 no_fault m infos f settings typed capable element resources undisrupted counted (MissingCapability e capability) h = capable e capability h

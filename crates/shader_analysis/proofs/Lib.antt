@@ -4,6 +4,7 @@ pub mod RefusalLemmas
 pub mod InfoLemmas
 pub mod RetainedLemmas
 pub mod FlowViolationFaults
+pub mod Growing
 pub mod NextLemmas
 pub mod PositionLemmas
 pub mod TypedLemmas

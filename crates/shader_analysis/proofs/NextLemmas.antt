@@ -2,7 +2,8 @@
 use Rattle.std.proofs.Common.{◌≡◌, refl, sym, ap, subst, ◌∙◌, ℕ, ◌<◌, List, [], ◌∷◌, ◌++◌, Some, slice_get, length, take, arith}
 use Rattle.std.proofs.Math.Seq.{take-length}
 use Rattle.shader_analysis_spec.specs.Derivable.{AreTypes}
-use Rattle.shader_analysis_spec.specs.Faults.{Cause, IsAccepted, IsFirstFault, OfEntryPoint, OfFunction, Settings, StepFault}
+use Rattle.shader_analysis_spec.specs.Faults.{Cause, IsAccepted, IsFirstFault, OfEntryPoint, OfFunction, Settings}
+use Rattle.shader_analysis_spec.specs.StepFaults.{StepFault}
 use Rattle.shader_analysis_spec.specs.Exact.{IsExactModule}
 use Rattle.shader_analysis_spec.specs.Program.{Function, Module}
 use Rattle.shader_analysis_spec.specs.Steps.{MeetsSteps}

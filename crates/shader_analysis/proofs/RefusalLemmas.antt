@@ -6,7 +6,8 @@ use Rattle.std.proofs.lemmas.Option.{slice_get_within, same_Some}
 use Rattle.shader_analysis_spec.specs.Derivable.{AreTypes, IsRefused}
 use Rattle.shader_analysis_spec.specs.Exact.{IsExact, IsExactModule}
 use Rattle.shader_analysis_spec.specs.Faults.{Cause, ComesBefore, IsAccepted, IsFault, IsFirstFault, ModuleFault, OfEntryPoint, OfFunction}
-use Rattle.shader_analysis_spec.specs.Faults.{OfGlobalExpression, Settings, Site, StepFault, in_entry_point, in_expression, in_function}
+use Rattle.shader_analysis_spec.specs.Faults.{OfGlobalExpression, Settings, Site, in_entry_point, in_expression, in_function}
+use Rattle.shader_analysis_spec.specs.StepFaults.{StepFault}
 use Rattle.shader_analysis_spec.specs.Infos.{EachNamed, Info, NamesEarlier, Pairwise}
 use Rattle.shader_analysis_spec.specs.Program.{Function, Module}
 use Rattle.shader_analysis_spec.specs.Steps.{MeetsSteps}
@@ -48,7 +49,7 @@ named_more P Q more (error.Expression e (expression.Resolve failure)) h = more _
 named_more P Q more (error.Expression e (expression.MissingCapabilities wanted)) h = (h.0, h.1, more _ h.2)
 named_more P Q more (error.Expression e expression.ExpectedGlobalOrArgument) h = more _ h
 named_more P Q more (error.Expression e expression.BindingArrayElement) h = more _ h
-named_more P Q more (error.NonUniformControlFlow needs e flow_disruptor) h = more _ h
+named_more P Q more (error.NonUniformControlFlow needs e flow_disruptor) h = (h.0, more _ h.1)
 named_more P Q more (error.CountFull e) h = more _ h
 named_more P Q more error.OutOfMemory h = tt
 
@@ -68,7 +69,7 @@ module _ (m : Module) (settings : Settings) (well : IsWellFormed m) (stored : Li
   fault_is = (faults_agree m (infos_of stored) f settings named).0
 
   no_fault : ((cause : Cause) → StepFault m (infos_of stored) f settings cause → ⊥) → (cause : Cause) → IsFault m f settings cause → ⊥
-  no_fault none cause h = let reported = (faults_agree m (infos_of stored) f settings named).1 cause h in none reported.0 reported.1
+  no_fault none cause h = let reported = (faults_agree m (infos_of stored) f settings named).1 cause h in none reported.0 reported.2
 
 -- no global expression is without a type
 no_untyped : (m : Module) (types : List TypeResolution) → AreTypes (context_of m [] []) m.global_expressions types →

@@ -2,6 +2,7 @@ pub mod AddedTypes
 pub mod Analyzable
 pub mod Analyzed
 pub mod Fitting
+pub mod Growth
 pub mod Recording
 pub mod Processed
 pub mod Reached

@@ -3,6 +3,7 @@
 mod analyze;
 mod analyzer;
 mod module_info;
+mod next;
 mod validation;
 
 pub use analyze::analyze_module;

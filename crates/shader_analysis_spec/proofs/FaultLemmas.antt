@@ -1,17 +1,18 @@
 -- Faults by the stored infos are interprocedural faults, and conversely.
-use Rattle.std.proofs.Common.{◌≡◌, refl, sym, ap, subst, ◌∙◌, ℕ, ◌↔◌, List, Option, IsTrue}
+use Rattle.std.proofs.Common.{◌≡◌, refl, sym, ap, subst, ◌∙◌, ℕ, ◌↔◌, Bool, List, Option, IsTrue}
 use Rattle.std.specs.List.{Contains}
 use Rattle.std.proofs.lemmas.Option.{same_Some}
 use Rattle.shader_analysis_spec.specs.Program.{Function, Module, Leaf, Call, Body, statements}
 use Rattle.shader_analysis_spec.specs.Exact.{IsExact}
-use Rattle.shader_analysis_spec.specs.FaultLaws.{FaultsAgree}
+use Rattle.shader_analysis_spec.specs.FaultLaws.{AreAlikeButForSource, are_same, of_sources, FaultsAgree}
 use Rattle.shader_analysis_spec.specs.Faults.{Settings, Cause, NonUniformControlFlow, Disruptor, Source, EarlierReturn, EarlierDiscard}
 use Rattle.shader_analysis_spec.specs.Faults.{PassesArgument}
 use Rattle.shader_analysis_spec.specs.Faults.{Around, branch, deeper, later, MayDisrupt, a_source, a_return, a_kill, a_call, HasFault}
 use Rattle.shader_analysis_spec.specs.Faults.{untyped}
 use Rattle.shader_analysis_spec.specs.Faults.{no_capability, bad_element, no_image_resource, no_sampler_resource, no_image_passed}
 use Rattle.shader_analysis_spec.specs.Faults.{no_sampler_passed}
-use Rattle.shader_analysis_spec.specs.Faults.{flow_violation, count_full, StepFault, RecordsPair, IsFault, IsOriginOf, PairAt}
+use Rattle.shader_analysis_spec.specs.Faults.{flow_violation, count_full, IsFault, IsOriginOf, PairAt}
+use Rattle.shader_analysis_spec.specs.StepFaults.{StepFault, RecordsPair}
 use Rattle.shader_analysis_spec.specs.Flow.{At, Disrupted}
 use Rattle.shader_analysis_spec.specs.Infos.{Info, Resource, EachNamed, by_call}
 use Rattle.shader_analysis_spec.specs.Kills.{Kills, KillsAt}
@@ -31,7 +32,7 @@ use Rattle.shader_analysis_spec.proofs.Summaries.{weaker}
 module _ (O O' : ℕ → ℕ → Type 0) (K K' : ℕ → Type 0) (N N' : Need → ℕ → Type 0) (P P' : ℕ → Resource → Resource →
     Type 0) (m : Module) (settings : Settings) (f : Function)
     (S : ℕ → ℕ → Type 0) (R : Cause → Cause → Type 0) (same : (c : Cause) → R c c)
-    (occurs_for : (n e h k : ℕ) → S h k → R (NonUniformControlFlow n e (Source h)) (NonUniformControlFlow n e (Source k)))
+    (occurs_for : (n : Need → Bool) (e h k : ℕ) → S h k → R (NonUniformControlFlow n e (Source h)) (NonUniformControlFlow n e (Source k)))
     (to_o : (e h : ℕ) → O e h → (k : ℕ) × S h k × O' e k)
     (to_k : (c : ℕ) (arguments : List ℕ) (result : Option ℕ) → Contains (statements f.body) (Leaf (Call c arguments result)) → K c → K' c)
     (to_n : (n : Need) (e : ℕ) → N n e ↔ N' n e)
@@ -55,7 +56,7 @@ module _ (O O' : ℕ → ℕ → Type 0) (K K' : ℕ → Type 0) (N N' : Need �
   around h _ _ (later a) = let (k, s, a') = around h _ _ a in (k, s, later a')
 
   disrupts : (b : Body) (p : At f.body b) (d : Disruptor) → MayDisrupt O K N P m settings f b p d →
-      (d' : Disruptor) × ((n e : ℕ) → R (NonUniformControlFlow n e d) (NonUniformControlFlow n e d')) ×
+      (d' : Disruptor) × ((n : Need → Bool) (e : ℕ) → R (NonUniformControlFlow n e d) (NonUniformControlFlow n e d')) ×
       MayDisrupt O' K' N' P' m settings f b p d'
   disrupts b p _ (a_source {h = h} a) = let (k, s, a') = around h b p a in (Source k, λ n e. occurs_for n e h k s, a_source a')
   disrupts b p _ (a_return q d) = (EarlierReturn, λ n e. same _, a_return q (disrupted _ q d))
@@ -89,8 +90,7 @@ module _ (O O' : ℕ → ℕ → Type 0) (K K' : ℕ → Type 0) (N N' : Need �
           disrupted = disrupted _ x.at x.disrupted;
           need = x.need;
           needed = (to_n x.need e).0 x.needed;
-          small = x.small;
-          bits = λ need. (λ set. (to_n need e).0 ((x.bits need).0 set), λ needed. (x.bits need).1 ((to_n need e).1 needed));
+          all = λ need. (λ is. (to_n need e).0 ((x.all need).0 is), λ needed. (x.all need).1 ((to_n need e).1 needed));
           disrupts = blame;
         }),
       )
@@ -144,15 +144,16 @@ module _ (m : Module) (infos : List Info) (f : Function) (settings : Settings) (
       kills_to needs_same pairs_to cause fault in
       subst (IsFault m f settings) (sym same) moved_fault
 
-  of_call_paths : (cause : Cause) → IsFault m f settings cause → (reported : Cause) × StepFault m infos f settings reported
+  of_call_paths : (cause : Cause) → IsFault m f settings cause →
+      (reported : Cause) × AreAlikeButForSource cause reported × StepFault m infos f settings reported
   of_call_paths cause fault =
       let (other, same, moved_fault) = moved (IsOriginOf m f) (StepOrigin m infos f) (KillsAt m) (RecordsKills infos)
       (λ n e. ExpressionNeeds m n f e)
-      (StepExpressionNeed infos f) (PairAt m) (RecordsPair infos) m settings f (λ h k. Unit {0}) (λ c d. Unit {0}) (λ c. tt)
-      (λ n e h k is. tt)
+      (StepExpressionNeed infos f) (PairAt m) (RecordsPair infos) m settings f (λ h k. Unit {0}) AreAlikeButForSource
+      (λ c. are_same) (λ n e h k is. of_sources)
       (λ e h o. let (k, step) = origins.to_step m infos f has_result e h o.0 o.1 in (k, tt, step))
       kills_from (λ n e. ((needs_same n e).1, (needs_same n e).0)) pairs_from cause fault in
-      (other, moved_fault)
+      (other, same, moved_fault)
 
 pub faults_agree : FaultsAgree
 faults_agree m infos f settings named = (to_call_paths m infos f settings named, of_call_paths m infos f settings named)

@@ -6,7 +6,7 @@ use Rattle.shader_analysis_spec.specs.Program.{Function, Module, Leaf, Call}
 use Rattle.shader_analysis_spec.specs.Calls.{here, via, CallsTo}
 use Rattle.shader_analysis_spec.specs.Infos.{Info, EachNamed, Picks, by_call}
 use Rattle.shader_analysis_spec.specs.Origins.{Origin, source, result, Leads, itself, through, IsSource}
-use Rattle.shader_analysis_spec.specs.Kills.{Kills, kills, HasOrigin}
+use Rattle.shader_analysis_spec.specs.Kills.{Counts, Kills, kills, HasOrigin}
 use Rattle.shader_analysis_spec.specs.Steps.{StepKill, own, callee, RecordsVaried, RecordsKills}
 use Rattle.shader_analysis_spec.proofs.Order.{info_of_call, call_of_info}
 use Rattle.shader_analysis_spec.proofs.FlowLemmas.{more_disrupted, occurs_within}
@@ -16,7 +16,7 @@ abbrev pub HasKills : Module → Function → Info → Type 0
 HasKills m f info = IsTrue info.may_kill ↔ Kills m f
 
 further : {m : Module} {f d : Function} → CallsTo m f d → Kills m d → Kills m f
-further call (kills path known all p d) = kills (via call path) known all p d
+further call (kills path known target there all p d) = kills (via call path) known target there all p d
 
 -- the record at a position
 abbrev recorded : Option Info → Bool
@@ -52,24 +52,30 @@ module _ (m : Module) (infos : List Info) (f : Function) (named : EachNamed (Has
   of_step : StepKill infos f info → Kills m f
   of_step (callee stored may) = let (d, call, _, has) = call_of_info (HasKills m) m infos f named stored in further call (has.0 may)
   of_step (own p d) =
-      kills here (λ c. recorded (slice_get infos c))
-      (λ d call known.
-      let (r, i, is_r, is_i, has) = named call.callee (by_call call.holds) in
-      let may : IsTrue i.may_kill = subst (λ o. IsTrue (recorded o)) is_i known in
-      subst (Kills m) (same_Some r d (sym is_r ∙ call.calls)) (has.0 may))
-      p (more_disrupted (RecordsVaried info) (HasOrigin m f) (RecordsKills infos) (λ c. IsTrue (recorded (slice_get infos c)))
-      f.body to_origin
+      let known : ℕ → Bool = λ c. recorded (slice_get infos c) in
+      kills here known (λ c. get_or m.functions c f) (λ c counted. (counted_kills c counted).0) (λ c counted. (counted_kills c counted).1)
+      p (more_disrupted (RecordsVaried info) (HasOrigin m f) (RecordsKills infos) (λ c. IsTrue (known c)) f.body to_origin
       (λ c arguments result b q is_killing. subst (λ o. IsTrue (recorded o)) (sym is_killing.1) is_killing.2) _ p d)
+    where
+      counted_kills : (c : ℕ) → Counts f (λ c. recorded (slice_get infos c)) c →
+          (slice_get m.functions c ≡ Some (get_or m.functions c f)) × Kills m (get_or m.functions c f)
+      counted_kills c counted =
+          let (r, i, is_r, is_i, has) = named c (by_call counted.3) in
+          let there = slice_get-get_or m.functions c f (slice_get_within m.functions c r is_r) in
+          let found = has.0 (subst (λ o. IsTrue (recorded o)) is_i counted.0) in
+          (there, subst (Kills m) (same_Some r _ (sym is_r ∙ there)) found)
 
   to_step : Kills m f → StepKill infos f info
-  to_step (kills (via {c = d} call path) known all p at) =
-      let (i, stored, has) = info_of_call (HasKills m) m infos f named d call in callee stored (has.1 (kills path known all p at))
-  to_step (kills here known all p at) = own p (more_disrupted (HasOrigin m f) (RecordsVaried info) (λ c. IsTrue (known c))
+  to_step (kills (via {c = d} call path) known target there all p at) =
+      let (i, stored, has) = info_of_call (HasKills m) m infos f named d call in
+      callee stored (has.1 (kills path known target there all p at))
+  to_step (kills here known target there all p at) = own p (more_disrupted (HasOrigin m f) (RecordsVaried info) (λ c. IsTrue (known c))
       (RecordsKills infos) f.body of_origin
       (λ c arguments result b q k.
       let holds = occurs_within f.body (Leaf (Call c arguments result)) b q in
       let (r, i, is_r, is_i, has) = named c (by_call holds) in
-      (i, is_i, has.1 (all r (record { callee = c; arguments = arguments; result = result; holds = holds; calls = is_r }) k)))
+      let counted : Counts f known c = (k, arguments, result, holds) in
+      (i, is_i, has.1 (subst (Kills m) (same_Some _ r (sym (there c counted) ∙ is_r)) (all c counted))))
       _ p at)
 
   pub exact_kills : (IsTrue info.may_kill ↔ StepKill infos f info) → HasKills m f info

@@ -1,14 +1,24 @@
 -- The step equations of needs give the interprocedural needs.
-use Rattle.std.proofs.Common.{ℕ, ◌↔◌, List, sym, ◌∙◌, subst}
+use Rattle.std.proofs.Common.{ℕ, ◌↔◌, IsTrue, List, sym, ◌∙◌, subst, arith}
+use Rattle.std.proofs.lemmas.Bool.Decides.{nat_tests}
 use Rattle.std.specs.List.{slice_index}
 use Rattle.std.specs.Int.{IsBitSet}
 use Rattle.std.proofs.lemmas.Option.{same_Some}
 use Rattle.shader_analysis_spec.specs.Program.{Function, Module}
 use Rattle.shader_analysis_spec.specs.Calls.{here, via, CallsTo}
 use Rattle.shader_analysis_spec.specs.Infos.{Info, EachNamed, by_result}
-use Rattle.shader_analysis_spec.specs.Needs.{Need, bit_of_need, Needs, by_statement, by_expression, ExpressionNeeds, by_form, by_callee}
+use Rattle.shader_analysis_spec.specs.Needs.{Need, bit_of_need, has_need, Needs, ExpressionNeeds}
+use Rattle.shader_analysis_spec.specs.Needs.{by_statement, by_expression, by_form, by_callee}
 use Rattle.shader_analysis_spec.specs.Steps.{StepExpressionNeed, StepNeed, own, callee, statement, expression}
+use Rattle.shader_analysis_spec.proofs.JoinLemmas.{bit_to, of_bit}
 use Rattle.shader_analysis_spec.proofs.Order.{info_of_call, call_of_info}
+
+-- a number has a need exactly if its bit of the need is set
+pub bit_of : (number : ℕ) (n : Need) → IsTrue (has_need number n) ↔ IsBitSet number (bit_of_need n)
+bit_of number n = (
+  λ is. of_bit number (bit_of_need n) (grind (arith, nat_tests, is)),
+  λ set. let one = bit_to number (bit_of_need n) set in grind (arith, nat_tests, one),
+)
 
 abbrev pub HasNeeds : Module → Function → Info → Type 0
 HasNeeds m f info = (n : Need) → IsBitSet info.needs (bit_of_need n) ↔ Needs m n f

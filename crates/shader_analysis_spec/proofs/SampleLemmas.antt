@@ -124,7 +124,7 @@ kill_calls_nothing : CallsNothing (taking None (Then (Leaf Kill) End))
 kill_calls_nothing callee arguments found h = let same = only (Leaf Kill) (Leaf (Call callee arguments found)) h in absurd (cc)
 
 no_kill : (m : Module) (f : Function) → taking None (Then (Leaf Kill) End) ≡ f → Kills m f → ⊥
-no_kill m f is (kills {r = r} {b = b} path known all p d) =
+no_kill m f is (kills {r = r} {b = b} path known target there all p d) =
     let same : taking None (Then (Leaf Kill) End) ≡ r = is ∙ alone m f r (subst CallsNothing is kill_calls_nothing) path in
     at r (ap (λ (v : Function). v.body) same) p d
   where
@@ -135,7 +135,8 @@ no_kill m f is (kills {r = r} {b = b} path known all p d) =
 
 pub branches_kill : BranchesKill
 branches_kill m = (
-  kills here (λ c. false) (λ d call h. absurd (cc)) (inside start accept) (in_branch start accepts (taken_varies m branching)),
+  kills here (λ c. false) (λ c. taking None (Then (Leaf Kill) End)) (λ c counted. absurd (let no = counted.0 in cc))
+      (λ c counted. absurd (let no = counted.0 in cc)) (inside start accept) (in_branch start accepts (taken_varies m branching)),
   λ h. no_kill m (taking None (Then (Leaf Kill) End)) refl h,
 )
 

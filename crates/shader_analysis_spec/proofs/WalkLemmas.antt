@@ -22,7 +22,8 @@ use Rattle.shader_analysis_spec.specs.Exact.{IsExact}
 use Rattle.shader_analysis_spec.specs.Faults.{Settings, Cause, NonUniformControlFlow, IsFault, IsOriginOf, PairAt, flow_violation}
 use Rattle.shader_analysis_spec.specs.Filters.{Governs}
 use Rattle.shader_analysis_spec.specs.Infos.{Info}
-use Rattle.shader_analysis_spec.specs.Needs.{Need, ExpressionNeeds, by_form, by_callee}
+use Rattle.shader_analysis_spec.specs.Needs.{Need, ExpressionNeeds, by_form, by_callee, has_need}
+use Rattle.shader_analysis_spec.proofs.NeedsLemmas.{bit_of}
 use Rattle.shader_analysis_spec.proofs.FlowLemmas.{more_disrupted}
 use Rattle.shader_analysis_spec.proofs.ReasonLemmas.{reason}
 use Rattle.shader_analysis_spec.specs.Kills.{HasOrigin, KillsAt}
@@ -315,7 +316,7 @@ module _ (m : Module) (settings : Settings) (f : Function) (info : Info) (exact 
       let same : Disrupted by_source (KillsAt m) f.body _ p =
       more_disrupted (HasOrigin m f) by_source (KillsAt m) (KillsAt m) f.body turned_origin (λ c arguments result b q k. k) _ p d in
       let (disruptor, disrupts) = reason (IsOriginOf m f) (KillsAt m) (λ n e. ExpressionNeeds m n f e) (PairAt m) m settings f _ p same in (
-        NonUniformControlFlow (slice_index info.expression_needs e) e disruptor,
+        NonUniformControlFlow (has_need (slice_index info.expression_needs e)) e disruptor,
         flow_violation checks grave (record {
           start = i;
           finish = j;
@@ -326,8 +327,10 @@ module _ (m : Module) (settings : Settings) (f : Function) (info : Info) (exact 
           disrupted = same;
           need = n;
           needed = needs;
-          small = exact.tables.few_expression_needs e;
-          bits = λ need. exact.expression_needs need e (need_within n e needs);
+          all = λ need.
+              let bit = bit_of (slice_index info.expression_needs e) need in
+              let exact = exact.expression_needs need e (need_within n e needs) in
+              (λ is. exact.0 (bit.0 is), λ needed. bit.1 (exact.1 needed));
           disrupts = disrupts;
         }),
       )

@@ -1,5 +1,5 @@
 -- Laws about faults, types and filters.
-use Rattle.std.specs.Prelude.{◌≡◌, ℕ, List, Option, Some, slice_get}
+use Rattle.std.specs.Prelude.{◌≡◌, ℕ, Bool, List, Option, Some, slice_get}
 use Rattle.shader_ir.specs.declared.module.DiagnosticFilterNode.{DiagnosticFilterNode}
 use Rattle.shader_ir.specs.declared.module.Severity.{Severity}
 use Rattle.shader_ir.specs.declared.proc.type_resolution.TypeResolution.{TypeResolution}
@@ -10,16 +10,25 @@ use Rattle.shader_resolve.specs.Typing.{typing}
 use Rattle.shader_analysis_spec.specs.Program.{Function, Module, Expression}
 use Rattle.shader_analysis_spec.specs.Derivable.{Derives, IsRefused}
 use Rattle.shader_analysis_spec.specs.Exact.{IsExact}
-use Rattle.shader_analysis_spec.specs.Faults.{Settings, Cause, StepFault, IsFault}
+use Rattle.shader_analysis_spec.specs.Faults.{Settings, Cause, NonUniformControlFlow, Source, IsFault}
+use Rattle.shader_analysis_spec.specs.StepFaults.{StepFault}
 use Rattle.shader_analysis_spec.specs.Filters.{Governs}
+use Rattle.shader_analysis_spec.specs.Needs.{Need}
 use Rattle.shader_analysis_spec.specs.Infos.{Info, EachNamed}
 
+-- both causes are the same, but for the source that is named for disrupted flow
+pub data AreAlikeButForSource : Cause → Cause → Type 0 where
+  are_same : {cause : Cause} → AreAlikeButForSource cause cause
+  of_sources : {needs : Need → Bool} {expression h other : ℕ} →
+      AreAlikeButForSource (NonUniformControlFlow needs expression (Source h)) (NonUniformControlFlow needs expression (Source other))
+
 -- if the infos of the functions that f names are exact, a fault by these infos is a fault by the interprocedural definitions. Conversely,
--- if there is an interprocedural fault, there is one by the infos, which may name another source in its disruptor
+-- each interprocedural fault is one by the infos, which may name another source for disrupted flow
 abbrev pub FaultsAgree : Type 0
 FaultsAgree = (m : Module) (infos : List Info) (f : Function) (settings : Settings) → EachNamed (IsExact m) m infos f →
     ((cause : Cause) → StepFault m infos f settings cause → IsFault m f settings cause)
-    × ((cause : Cause) → IsFault m f settings cause → (reported : Cause) × StepFault m infos f settings reported)
+    × ((cause : Cause) → IsFault m f settings cause →
+    (reported : Cause) × AreAlikeButForSource cause reported × StepFault m infos f settings reported)
 
 -- an expression has at most one type, and none if its typing rule rejects it
 abbrev pub TypesAreUnique : Type 0

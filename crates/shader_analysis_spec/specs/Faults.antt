@@ -1,6 +1,5 @@
--- The faults for which the analysis rejects a module.
+-- The faults for which the analysis rejects a module, over call paths.
 use Rattle.std.specs.Prelude.{◌≡◌, ℕ, ◌<◌, ◌≤◌, ◌^◌, ◌↔◌, Bool, false, IsTrue, List, [], Option, Some, None, slice_get}
-use Rattle.std.specs.Int.{IsBitSet}
 use Rattle.std.specs.List.{Contains}
 use Rattle.shader_ir.specs.Key.{found_inner, inner_of}
 use Rattle.shader_ir.specs.declared.expression.Expression.TheVariants as form
@@ -19,12 +18,11 @@ use Rattle.shader_analysis_spec.specs.Counts.{count_of}
 use Rattle.shader_analysis_spec.specs.Derivable.{Derives, IsRefused, function_context}
 use Rattle.shader_analysis_spec.specs.Filters.{Governs}
 use Rattle.shader_analysis_spec.specs.Flow.{At, rest, inside, Child, BranchOn, Disrupted}
-use Rattle.shader_analysis_spec.specs.Infos.{Info, Resource, InArgument}
+use Rattle.shader_analysis_spec.specs.Infos.{Resource, InArgument}
 use Rattle.shader_analysis_spec.specs.Kills.{KillsAt}
-use Rattle.shader_analysis_spec.specs.Needs.{Need, bit_of_need, ExpressionNeeds}
+use Rattle.shader_analysis_spec.specs.Needs.{Need, ExpressionNeeds}
 use Rattle.shader_analysis_spec.specs.Origins.{Origin}
 use Rattle.shader_analysis_spec.specs.Pairs.{resource, samples, IsPair}
-use Rattle.shader_analysis_spec.specs.Steps.{StepOrigin, RecordsKills, StepExpressionNeed}
 
 -- a capability of the device: to index a binding array by a value that differs among invocations
 pub data Capability : Type 0 where
@@ -51,7 +49,7 @@ pub data Cause : Type 0 where
   MissingCapability : (expression : ℕ) → Capability → Cause
   NoResource : (expression : ℕ) → Cause
   BindingArrayElement : (expression : ℕ) → Cause
-  NonUniformControlFlow : (needs expression : ℕ) → Disruptor → Cause
+  NonUniformControlFlow : (needs : Need → Bool) (expression : ℕ) → Disruptor → Cause
   CountFull : (expression : ℕ) → Cause
 
 -- the capability that is needed to index a binding array of these elements by an index that differs among invocations, if there is one
@@ -103,7 +101,7 @@ module _ (OriginOf : ℕ → ℕ → Type 0) (Kills : ℕ → Type 0) (NeededBy 
         MayDisrupt b p EarlierDiscard
 
   -- a disrupted Emit covers the expression, and these are the needs of the expression
-  pub record IsFlowViolation (needs expression : ℕ) (disruptor : Disruptor) : Type 0 where
+  pub record IsFlowViolation (needs : Need → Bool) (expression : ℕ) (disruptor : Disruptor) : Type 0 where
     pub start : ℕ
     pub finish : ℕ
     pub left : Body
@@ -113,8 +111,7 @@ module _ (OriginOf : ℕ → ℕ → Type 0) (Kills : ℕ → Type 0) (NeededBy 
     pub disrupted : Disrupted HasOriginOf Kills f.body _ at
     pub need : Need
     pub needed : NeededBy need expression
-    pub small : needs < 16
-    pub bits : (n : Need) → IsBitSet needs (bit_of_need n) ↔ NeededBy n expression
+    pub all : (n : Need) → IsTrue (needs n) ↔ NeededBy n expression
     pub disrupts : MayDisrupt _ at disruptor
 
   -- a fault of f
@@ -139,20 +136,11 @@ module _ (OriginOf : ℕ → ℕ → Type 0) (Kills : ℕ → Type 0) (NeededBy 
     no_sampler_passed : {e c i : ℕ} {p : Resource} → PassesArgument f c i e → resource f e ≡ None → PairOf c p (InArgument i) →
         HasFault (NoResource e)
     -- an expression that needs undisrupted flow is emitted in disrupted flow, and that is checked
-    flow_violation : {needs e : ℕ} {disruptor : Disruptor} → IsTrue settings.checks_flow →
+    flow_violation : {needs : Need → Bool} {e : ℕ} {disruptor : Disruptor} → IsTrue settings.checks_flow →
         Governs m.diagnostic_filters f.diagnostic_filter_leaf severity.Error → IsFlowViolation needs e disruptor →
         HasFault (NonUniformControlFlow needs e disruptor)
     -- the reference count of an expression exceeds every usize
     count_full : {e : ℕ} → 2 ^ 64 ≤ count_of f e → HasFault (CountFull e)
-
--- the info of the function at position c records that it samples p with q
-abbrev pub RecordsPair : List Info → ℕ → Resource → Resource → Type 0
-RecordsPair infos c p q = (info : Info) × (slice_get infos c ≡ Some info) × Contains info.pairs (p, q)
-
--- a fault of f, by the stored infos of the functions before it
-abbrev pub StepFault : Module → List Info → Function → Settings → Cause → Type 0
-StepFault m infos f settings = HasFault (StepOrigin m infos f) (RecordsKills infos) (StepExpressionNeed infos f)
-    (RecordsPair infos) m settings f
 
 -- h is an origin of expression e of f
 abbrev pub IsOriginOf : Module → Function → ℕ → ℕ → Type 0

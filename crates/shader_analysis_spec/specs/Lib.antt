@@ -17,6 +17,7 @@ pub mod Origins
 pub mod Pairs
 pub mod Program
 pub mod Samples
+pub mod StepFaults
 pub mod Steps
 pub mod FlowPass
 pub mod Uses

@@ -1,5 +1,6 @@
 -- Needs of uniform flow, interprocedurally.
-use Rattle.std.specs.Prelude.{◌≡◌, ℕ, ◌<◌, ◌≤◌, Bool, true, false, Some, slice_get, IsTrue}
+use Rattle.std.specs.Prelude.{◌≡◌, ◌==◌, ℕ, ◌<◌, ◌≤◌, Bool, true, false, Some, slice_get, IsTrue}
+use Rattle.std.specs.Int.{bit_at}
 use Rattle.std.specs.List.{Contains}
 use Rattle.shader_ir.specs.declared.expression.Expression.TheVariants as form
 use Rattle.shader_ir.specs.declared.expression.SampleLevel.{SampleLevel}
@@ -18,6 +19,10 @@ bit_of_need WorkGroupBarrier = 0
 bit_of_need Derivative = 1
 bit_of_need ImplicitLevel = 2
 bit_of_need CooperativeOperation = 3
+
+-- whether the number has the bit of the need
+abbrev pub has_need : ℕ → Need → Bool
+has_need number n = bit_at number (bit_of_need n) == 1
 
 -- true if the level is computed from neighbouring invocations
 abbrev pub is_implicit : SampleLevel → Bool

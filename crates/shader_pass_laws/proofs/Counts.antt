@@ -12,7 +12,8 @@ use Rattle.shader_ir.specs.Slots.{retained, read_optional}
 use Rattle.shader_resolve.specs.Context.{context_of}
 use Rattle.shader_resolve.specs.WellFormed.{ExpressionInRange, FunctionInRange, LocalInRange, StatementInRange}
 use Rattle.shader_analysis_spec.specs.Counts.{one_of, times, count_of}
-use Rattle.shader_analysis_spec.specs.Faults.{Cause, CountFull, Settings, StepFault, untyped, no_capability, bad_element, no_image_resource}
+use Rattle.shader_analysis_spec.specs.Faults.{Cause, CountFull, Settings, untyped, no_capability, bad_element, no_image_resource}
+use Rattle.shader_analysis_spec.specs.StepFaults.{StepFault}
 use Rattle.shader_analysis_spec.specs.Faults.{no_sampler_resource, no_image_passed, no_sampler_passed, flow_violation, count_full}
 use Rattle.shader_analysis_spec.specs.Infos.{Info}
 use Rattle.shader_analysis_spec.specs.Program.{Function, Module, Expression, Label, Step, expression_operands}

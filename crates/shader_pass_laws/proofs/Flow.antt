@@ -6,7 +6,8 @@ use Rattle.std.specs.List.{Contains}
 use Rattle.std.proofs.lemmas.Bool.{or_cases}
 use Rattle.shader_ir.specs.declared.statement.SwitchValue.{SwitchValue}
 use Rattle.shader_analysis_spec.specs.Faults.{Around, branch, deeper, Disruptor, Source, EarlierReturn, EarlierDiscard}
-use Rattle.shader_analysis_spec.specs.Faults.{MayDisrupt, a_source, a_return, a_kill, a_call, RecordsPair, Settings}
+use Rattle.shader_analysis_spec.specs.Faults.{MayDisrupt, a_source, a_return, a_kill, a_call, Settings}
+use Rattle.shader_analysis_spec.specs.StepFaults.{RecordsPair}
 use Rattle.shader_analysis_spec.specs.Faults as faults
 use Rattle.shader_analysis_spec.specs.Flow.{At, rest, inside, Child, inner, accept, reject, body, continuing}
 use Rattle.shader_analysis_spec.specs.Flow.{case_of, CasesIn, from_first, after, BranchOn, Disrupted}

@@ -1,5 +1,5 @@
 -- The first violation is emitted in disrupted flow, and its disruptor may be blamed.
-use Rattle.std.proofs.Common.{◌≡◌, refl, sym, ap, subst, ◌∙◌, ℕ, ◌⊎◌, inl, inr, List, [], ◌∷◌}
+use Rattle.std.proofs.Common.{◌≡◌, refl, sym, ap, subst, ◌∙◌, ℕ, ◌<◌, ◌⊎◌, inl, inr, List, [], ◌∷◌}
 use Rattle.std.proofs.Common.{Bool, true, false, ◌||◌, IsTrue, Option, Some, None, is_some}
 use Rattle.std.specs.Option.{option_or}
 use Rattle.std.specs.List.{Contains}
@@ -8,7 +8,7 @@ use Rattle.shader_ir.specs.declared.statement.SwitchValue.{SwitchValue}
 use Rattle.shader_analysis_spec.specs.Faults.{Disruptor, Settings}
 use Rattle.shader_analysis_spec.specs.Flow.{At, start, rest, inside, inner, accept, reject, body, continuing}
 use Rattle.shader_analysis_spec.specs.Flow.{case_of, CasesIn, from_first, after, accepts, rejects, selects}
-use Rattle.shader_analysis_spec.specs.Needs.{Need, bit_of_need}
+use Rattle.shader_analysis_spec.specs.Needs.{Need, bit_of_need, has_need}
 use Rattle.shader_analysis_spec.specs.Program.{Function, Module, Simple, Emit, Step, Leaf, Nested, If}
 use Rattle.shader_analysis_spec.specs.Program.{Switch, Loop, Body, End, Then, Cases, NoCase, Case}
 use Rattle.shader_analysis_spec.specs.Steps.{StepExpressionNeed}
@@ -32,6 +32,7 @@ use Rattle.shader_passes.specs.Facts.{needs_at}
 use Rattle.shader_passes.specs.InfoOf.{PointsBackwards, infos_of}
 use Rattle.shader_pass_laws.specs.Refused.{IsComputedViolation, FlowViolationsAreFaults, computed_violation}
 use Rattle.shader_pass_laws.proofs.Flow as flow
+use Rattle.shader_analysis_spec.proofs.NeedsLemmas.{bit_of}
 use Rattle.shader_pass_laws.proofs.Needs.{need_within, needs_bits, needs_small, requiring_within, number_requiring, some_need}
 use Rattle.shader_pass_laws.proofs.Varied.{of_origin}
 
@@ -78,7 +79,8 @@ module _ (m : Module) (infos : List FunctionInfo) (f : Function) (settings : Set
   Left = flow.Left m infos f settings below
 
   abbrev Bad : FlowViolation → Type 0
-  Bad x = IsComputedViolation m infos f settings x.requirements.0 x.expression (disruptor_of x.disruptor)
+  Bad x = (x.requirements.0 < 16)
+      × IsComputedViolation m infos f settings (has_need x.requirements.0) x.expression (disruptor_of x.disruptor)
 
   emitted : (begin finish : ℕ) (b : Body) (p : At f.body (Then (Leaf (Emit begin finish)) b)) (o : Option UniformityDisruptor)
       (r : Option ℕ) →
@@ -93,20 +95,25 @@ module _ (m : Module) (infos : List FunctionInfo) (f : Function) (settings : Set
       let small = needs_small m infos f e in
       let some = some_need (needs_at facts e) small n.1 in
       let P : FlowViolation → Type 0 = λ v. Bad v in
-      subst P same (record {
-        start = begin;
-        finish = finish;
-        left = b;
-        at = p;
-        from = within.0;
-        to = within.1;
-        disrupted = flow.disrupted_at m infos f settings below (Then (Leaf (Emit begin finish)) b) p (sym is);
-        need = some.0;
-        needed = (needs_bits m infos f e some.0 lt).0 some.1;
-        small = small;
-        bits = λ need. needs_bits m infos f e need lt;
-        disrupts = w;
-      })
+      subst P same (
+        small,
+        record {
+          start = begin;
+          finish = finish;
+          left = b;
+          at = p;
+          from = within.0;
+          to = within.1;
+          disrupted = flow.disrupted_at m infos f settings below (Then (Leaf (Emit begin finish)) b) p (sym is);
+          need = some.0;
+          needed = (needs_bits m infos f e some.0 lt).0 some.1;
+          all = λ need.
+              let bit = bit_of (needs_at facts e) need in
+              let exact = needs_bits m infos f e need lt in
+              (λ is. exact.0 (bit.0 is), λ needed. bit.1 (exact.1 needed));
+          disrupts = w;
+        },
+      )
   emitted begin finish b p (Some d) None k is w x h = absurd (cc)
   emitted begin finish b p None r k is w x h = absurd (cc)
 
@@ -202,7 +209,7 @@ module _ (m : Module) (infos : List FunctionInfo) (f : Function) (settings : Set
       let set = (needs_bits m infos f e n (need_within m infos f e n needed)).1 needed in
       of_any (requires_uniform_flow facts) (positions_between begin finish) e h (number_requiring (needs_at facts e) (bit_of_need n) set)
 
-  found_where : (needs e : ℕ) (d : Disruptor) → IsComputedViolation m infos f settings needs e d →
+  found_where : (needs : Need → Bool) (e : ℕ) (d : Disruptor) → IsComputedViolation m infos f settings needs e d →
       IsTrue (found VB KB (emits_requiring facts) false f.body)
   found_where needs e d x =
       (pass_finds_violations VB KB (emits_requiring facts) f.body).1 (

@@ -2,7 +2,8 @@
 use Rattle.std.proofs.Common.{◌≡◌, refl, sym, ap, subst, ◌∙◌, ℕ, ◌⊎◌, inl, inr, List, [], Option, Some, None, fold, slice_get, unwrap_or}
 use Rattle.std.specs.Option.{option_and_then, option_map}
 use Rattle.std.specs.List.{Contains, enumerate_from}
-use Rattle.shader_analysis_spec.specs.Faults.{Cause, NoResource, Settings, StepFault, untyped, no_capability, bad_element}
+use Rattle.shader_analysis_spec.specs.Faults.{Cause, NoResource, Settings, untyped, no_capability, bad_element}
+use Rattle.shader_analysis_spec.specs.StepFaults.{StepFault}
 use Rattle.shader_analysis_spec.specs.Faults.{no_image_resource}
 use Rattle.shader_analysis_spec.specs.Faults.{no_sampler_resource, no_image_passed, no_sampler_passed, flow_violation, count_full}
 use Rattle.shader_analysis_spec.specs.Infos.{Info, Resource, InGlobal, InArgument, Picks}

@@ -1,8 +1,10 @@
 -- Agreement of rejections by the passes over one function with its faults by the stored infos.
-use Rattle.std.specs.Prelude.{◌≡◌, ℕ, ◌<◌, ◌≤◌, ◌^◌, List, Option, Some, None, fold, length}
+use Rattle.std.specs.Prelude.{◌≡◌, ℕ, ◌<◌, ◌≤◌, ◌^◌, Bool, List, Option, Some, None, fold, length}
 use Rattle.std.specs.List.{enumerate_from}
 use Rattle.shader_analysis_spec.specs.Counts.{count_of}
-use Rattle.shader_analysis_spec.specs.Faults.{Cause, CountFull, NoResource, Disruptor, IsFlowViolation, RecordsPair, Settings, StepFault}
+use Rattle.shader_analysis_spec.specs.Faults.{Cause, CountFull, NoResource, Disruptor, IsFlowViolation, Settings}
+use Rattle.shader_analysis_spec.specs.StepFaults.{RecordsPair, StepFault}
+use Rattle.shader_analysis_spec.specs.Needs.{Need, has_need}
 use Rattle.shader_analysis_spec.specs.Program.{Function, Module, statements}
 use Rattle.shader_analysis_spec.specs.Steps.{RecordsKills, StepExpressionNeed, StepOrigin}
 use Rattle.shader_info.specs.declared.info.FunctionInfo.{FunctionInfo}
@@ -28,8 +30,8 @@ module _ (m : Module) (infos : List FunctionInfo) (f : Function) (settings : Set
   abbrev pub StoredFault : Cause → Type 0
   StoredFault cause = StepFault m (infos_of infos) f settings cause
 
-  -- a violation by an expression with a disruptor, by the stored infos
-  abbrev pub IsComputedViolation : (needs expression : ℕ) → Disruptor → Type 0
+  -- a violation by an expression with these needs, with a disruptor, by the stored infos
+  abbrev pub IsComputedViolation : (needs : Need → Bool) (expression : ℕ) → Disruptor → Type 0
   IsComputedViolation needs e disruptor =
       IsFlowViolation (StepOrigin m (infos_of infos) f) (RecordsKills (infos_of infos)) (StepExpressionNeed (infos_of infos) f)
       (RecordsPair (infos_of infos)) m settings f needs e disruptor
@@ -51,6 +53,6 @@ FullCountsAreFaults = (m : Module) (infos : List FunctionInfo) (f : Function) (s
 abbrev pub FlowViolationsAreFaults : Type 0
 FlowViolationsAreFaults = (m : Module) (infos : List FunctionInfo) (f : Function) (settings : Settings) → PointsBackwards f →
     ((x : FlowViolation) → computed_violation m infos f ≡ Some x →
-    IsComputedViolation m infos f settings x.requirements.0 x.expression (disruptor_of x.disruptor))
-    × (computed_violation m infos f ≡ None → (needs e : ℕ) (disruptor : Disruptor) →
+    (x.requirements.0 < 16) × IsComputedViolation m infos f settings (has_need x.requirements.0) x.expression (disruptor_of x.disruptor))
+    × (computed_violation m infos f ≡ None → (needs : Need → Bool) (e : ℕ) (disruptor : Disruptor) →
     IsComputedViolation m infos f settings needs e disruptor → ⊥)

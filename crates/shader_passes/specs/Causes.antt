@@ -1,8 +1,9 @@
 -- The fault that an error reports.
-use Rattle.std.specs.Prelude.{◌≡◌, ◌==◌, ℕ, bit_and}
+use Rattle.std.specs.Prelude.{◌≡◌, ◌==◌, ◌<◌, ℕ, bit_and}
 use Rattle.shader_analysis_spec.specs.Faults.{Capability, IndexTextures, IndexStorageTextures, Settings, Disruptor}
 use Rattle.shader_analysis_spec.specs.Faults.{Source, EarlierReturn, EarlierDiscard, Cause, Untyped, MissingCapability}
 use Rattle.shader_analysis_spec.specs.Faults.{NoResource, BindingArrayElement, NonUniformControlFlow, CountFull}
+use Rattle.shader_analysis_spec.specs.Needs.{has_need}
 use Rattle.shader_info.specs.declared.error.ExpressionError.{ExpressionError}
 use Rattle.shader_info.specs.declared.error.ExpressionError.TheVariants as expression
 use Rattle.shader_info.specs.declared.error.FunctionError.{FunctionError}
@@ -43,6 +44,6 @@ IsNamedOf IsCause e expression.BindingArrayElement = IsCause (BindingArrayElemen
 abbrev pub IsNamed : (Cause → Type 0) → FunctionError → Type 0
 IsNamed IsCause (error.Expression e source) = IsNamedOf IsCause e source
 IsNamed IsCause (error.NonUniformControlFlow needs e flow_disruptor) =
-    IsCause (NonUniformControlFlow needs.0 e (disruptor_of flow_disruptor))
+    (needs.0 < 16) × IsCause (NonUniformControlFlow (has_need needs.0) e (disruptor_of flow_disruptor))
 IsNamed IsCause (error.CountFull e) = IsCause (CountFull e)
 IsNamed IsCause error.OutOfMemory = Unit {0}

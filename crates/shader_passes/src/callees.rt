@@ -10,7 +10,8 @@ use crate::facts::{Fact, first_origin, function_requirements, requirements_of, r
 use bitflags::Flags;
 use shader_arena::{Handle, Range};
 use shader_info::{FunctionInfo, GlobalUse, NonUniformResult, UniformityRequirements};
-use shader_ir::{Items, NamedExpressions, Statement, mark, statement_operands};
+use shader_ir::proc::statement_operands;
+use shader_ir::{Items, NamedExpressions, Statement, mark};
 use std::alloc::{AllocError, Global};
 
 /// Returns the bits of the uses at a position, or none past the end.
@@ -37,8 +38,9 @@ fn recorded_uses(infos: &[FunctionInfo], function: Handle<mark::Function>) -> &[
 fn add_uses(uses: &mut [u8], other: &[GlobalUse])
     ensures { (g : ℕ) → g < length uses.new → slice_index uses.new g ≡ bit_or (slice_index uses.old g) (bits_at other.now g) }
 {
-    for (position, bits) in uses.iter_mut().enumerate() {
-        *bits = *bits | bits_at(other, position);
+    let both = uses.len().min(other.len());
+    for position in 0..both {
+        uses[position] = uses[position] | other[position].known().0;
     }
 }
 

@@ -9,7 +9,8 @@ use crate::sources::is_source;
 use bitflags::Flags;
 use shader_arena::Handle;
 use shader_info::{FunctionInfo, NonUniformResult, UniformityRequirements};
-use shader_ir::{Expression, Function, Module, Operands, SampleLevel, expression_operands, mark};
+use shader_ir::proc::{Operands, expression_operands};
+use shader_ir::{Expression, Function, Module, SampleLevel, mark};
 use std::alloc::{AllocError, Global};
 
 /// The analysis results for one expression.

@@ -13,10 +13,8 @@ use crate::facts::{Fact, root_of};
 use bitflags::Flags;
 use shader_arena::{Arena, Handle};
 use shader_info::GlobalUse;
-use shader_ir::{
-    Expression, Function, Label, LocalVariable, Module, Operands, Statement, expression_operands,
-    mark, statement_operands,
-};
+use shader_ir::proc::{Label, Operands, expression_operands, statement_operands};
+use shader_ir::{Expression, Function, LocalVariable, Module, Statement, mark};
 use std::alloc::{AllocError, Global};
 use std::marker::Model;
 

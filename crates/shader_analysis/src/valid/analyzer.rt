@@ -13,7 +13,8 @@ mod expressions;
 mod passes;
 
 ghost use Rattle.std.specs.Prelude.{◌≡◌, IfErr, IfOk, false};
-ghost use Rattle.shader_analysis_spec.specs.Faults.{Cause, StepFault};
+ghost use Rattle.shader_analysis_spec.specs.Faults.{Cause};
+ghost use Rattle.shader_analysis_spec.specs.StepFaults.{StepFault};
 ghost use Rattle.shader_analysis_spec.specs.Steps.{MeetsSteps};
 ghost use Rattle.shader_info.specs.Fit.{Fits};
 ghost use Rattle.shader_passes.specs.Causes.{IsNamed, settings_of};

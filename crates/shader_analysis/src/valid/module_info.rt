@@ -1,6 +1,7 @@
 //! The analysis results for a module.
 ghost use Rattle.std.specs.Prelude.{◌≡◌, ◌<◌, ◌≤◌, [], ◌∷◌, ◌++◌, length, slice_get, Some, false, IfErr, IfOk, OnOk, OnErr};
-ghost use Rattle.shader_analysis_spec.specs.Faults.{Cause, StepFault};
+ghost use Rattle.shader_analysis_spec.specs.Faults.{Cause};
+ghost use Rattle.shader_analysis_spec.specs.StepFaults.{StepFault};
 ghost use Rattle.shader_analysis_spec.specs.Program.{Function};
 ghost use Rattle.shader_analysis_spec.specs.Steps.{MeetsSteps};
 ghost use Rattle.shader_info.specs.Fit.{Fits};
@@ -16,7 +17,8 @@ use crate::valid::analyzer::function_info;
 use shader_arena::Handle;
 use shader_expression_types::type_of;
 use shader_info::{AnalysisError, AnalysisLocation, Capabilities, FunctionInfo, ValidationFlags};
-use shader_ir::{Function, GlobalCtx, Module, TypeResolution, mark};
+use shader_ir::proc::TypeResolution;
+use shader_ir::{Function, GlobalCtx, Module, mark};
 use shader_resolve::{ResolveContext, ResolveError};
 use std::alloc::{AllocFailed, Global};
 use std::marker::Model;

@@ -11,7 +11,7 @@ use shader_info::{AnalysisError, Capabilities, FunctionError, ValidationFlags};
 use shader_ir::Module;
 use shader_ir::proc::{LayoutError, Layouter, UpdateError};
 use shader_resolve::{ModuleFault, check_module};
-use std::alloc::Global;
+use std::alloc::{AllocError, AllocFailed, Global};
 use thiserror::Error;
 
 /// The reason why a module isn't valid.
@@ -29,6 +29,28 @@ pub enum ValidationError {
     /// An allocation failed.
     #[error("Out of memory")]
     OutOfMemory,
+}
+
+impl From<AllocError> for ValidationError {
+    ghost use Rattle.std.specs.Prelude.{◌≡◌};
+    ghost use Rattle.shader_analysis.specs.declared.valid.validation.ValidationError.TheVariants.{OutOfMemory};
+
+    ghost from_gives = { λ _ error. error ≡ OutOfMemory };
+
+    fn from(_error: AllocError) -> ValidationError {
+        ValidationError::OutOfMemory
+    }
+}
+
+impl<T: Drop> From<AllocFailed<T>> for ValidationError {
+    ghost use Rattle.std.specs.Prelude.{◌≡◌};
+    ghost use Rattle.shader_analysis.specs.declared.valid.validation.ValidationError.TheVariants.{OutOfMemory};
+
+    ghost from_gives = { λ _ error. error ≡ OutOfMemory };
+
+    fn from(_failed: AllocFailed<T>) -> ValidationError {
+        ValidationError::OutOfMemory
+    }
 }
 
 /// Checks that all types have a layout.

@@ -3,7 +3,8 @@ use crate::tests::infos::{OUT_OF_MEMORY, info};
 use shader_arena::{Handle, UniqueArena};
 use shader_bounds::{BoundsCheckPolicies, BoundsCheckPolicy};
 use shader_info::{ExpressionInfo, GlobalUse};
-use shader_ir::{Items, TypeResolution};
+use shader_ir::Items;
+use shader_ir::proc::TypeResolution;
 
 const POLICIES: BoundsCheckPolicies = BoundsCheckPolicies {
     index: BoundsCheckPolicy::ReadZeroSkipWrite,

@@ -4,7 +4,8 @@ use shader_info::{
     ExpressionInfo, FunctionInfo, GlobalOrArgument, GlobalUse, Sampling, SamplingKey, Uniformity,
     UniformityRequirements,
 };
-use shader_ir::{Items, Scalar, ShaderStages, TypeInner, TypeResolution, mark};
+use shader_ir::proc::TypeResolution;
+use shader_ir::{Items, Scalar, ShaderStages, TypeInner, mark};
 use std::alloc::Global;
 use std::collections::HashSet;
 use std::process::Abort;

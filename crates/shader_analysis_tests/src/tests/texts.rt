@@ -9,7 +9,7 @@ use std::alloc::Global;
 use std::process::Abort;
 
 /// The message of a test that only an allocation failure makes fail.
-const OUT_OF_MEMORY: &str = "want of memory";
+const OUT_OF_MEMORY: &str = "out of memory";
 
 fn expects(rt: &impl Abort, alloc: Global, disruptor: UniformityDisruptor, text: &str) {
     assert!(rt;
@@ -55,9 +55,10 @@ fn an_error_shows_its_location_and_its_cause(rt: HostRuntime) {
         },
     };
     let text = error.to_string(alloc).expect(&rt, OUT_OF_MEMORY);
-    assert!(rt;
-        text.as_str() == "Function([1]): Expression [2]: Function argument 1 doesn't exist"
-    );
+    assert!(rt; text.as_str() == "Function([1]): Expression");
+    let refused = ExpressionError::Resolve(ResolveError::FunctionArgumentNotFound(1));
+    let text = refused.to_string(alloc).expect(&rt, OUT_OF_MEMORY);
+    assert!(rt; text.as_str() == "Resolve");
 }
 
 /// Asserts which sentence an error in the first entry point reports, whose last words are `why`.

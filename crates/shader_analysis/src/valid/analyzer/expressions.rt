@@ -2,7 +2,8 @@
 ghost use Rattle.std.specs.Prelude.{◌≡◌, ◌<◌, ◌^◌, ℕ, IfOk, length, map, slice_index};
 
 use shader_info::ExpressionInfo;
-use shader_ir::{Items, TypeResolution};
+use shader_ir::Items;
+use shader_ir::proc::TypeResolution;
 use shader_passes::facts::Fact;
 use shader_passes::uniformity::expression_uniformity;
 use std::alloc::{AllocError, Global};

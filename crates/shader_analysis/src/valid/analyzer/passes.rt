@@ -1,8 +1,10 @@
 //! Computes a function's pairs, reference counts, kills and uses of globals, or the error that rejects the function.
-ghost use Rattle.std.specs.Prelude.{◌≡◌, ◌≢◌, ◌<◌, ℕ, IfErr, IfOk, IfSome, IsTrue, None, Some, false, length, map, slice_get};
+ghost use Rattle.std.specs.Prelude.{◌≡◌, ◌≢◌, ◌<◌, ℕ, Bool, IfErr, IfOk, IfSome, IsTrue, None, Some, false, length, map, slice_get};
 ghost use Rattle.shader_analysis_spec.specs.Counts.{count_of};
-ghost use Rattle.shader_analysis_spec.specs.Faults.{Disruptor, NoResource, NonUniformControlFlow, Settings, StepFault};
+ghost use Rattle.shader_analysis_spec.specs.Faults.{Disruptor, NoResource, NonUniformControlFlow, Settings};
+ghost use Rattle.shader_analysis_spec.specs.StepFaults.{StepFault};
 ghost use Rattle.shader_analysis_spec.specs.Filters.{HaveEarlierParents};
+ghost use Rattle.shader_analysis_spec.specs.Needs.{Need};
 ghost use Rattle.shader_analysis_spec.specs.Program.{Module, statements};
 ghost use Rattle.shader_passes.specs.Causes.{IsNamed, settings_of};
 ghost use Rattle.shader_info.specs.declared.error.ExpressionError.TheVariants as expression;
@@ -135,7 +137,7 @@ pub fn kills(
     requires operands { PointsBackwards function.now }
     requires facts { facts.now ≡ computed_facts «module».now infos.now function.now }
     ensures kills { IfOk result (λ kills. kills ≡ computed_kill «module».now infos.now function.now) }
-    ensures undisrupted { IfOk result (λ _. (capabilities : Capabilities) (needs e : ℕ) (flow_disruptor : Disruptor) →
+    ensures undisrupted { IfOk result (λ _. (capabilities : Capabilities) (needs : Need → Bool) (e : ℕ) (flow_disruptor : Disruptor) →
         StepFault «module».now (infos_of infos.now) function.now (settings_of flags capabilities)
         (NonUniformControlFlow needs e flow_disruptor) → ⊥) }
     ensures fault { IfErr result (λ failure. (capabilities : Capabilities) →
@@ -145,8 +147,9 @@ pub fn kills(
     let mut found = Results { first: None };
     let undisrupted = None;
     let exits = flow_of_block(infos, facts, &mut found, &undisrupted, &function.body);
-    if checks_flow(module, function, flags) {
-        if let Some(flow_violation) = &found.first {
+    // A chain of filters is walked only where there is something to refuse.
+    if let Some(flow_violation) = &found.first {
+        if checks_flow(module, function, flags) {
             return Err(flow_violation_error(flow_violation));
         }
     }

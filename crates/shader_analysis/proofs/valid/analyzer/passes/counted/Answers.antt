@@ -1,6 +1,7 @@
 use Rattle.std.proofs.Common.{◌≤◌, ◌^◌, ℕ, Option, IfSome, subst, sym}
 use Rattle.shader_analysis_spec.specs.Counts.{count_of}
-use Rattle.shader_analysis_spec.specs.Faults.{StepFault, count_full}
+use Rattle.shader_analysis_spec.specs.Faults.{count_full}
+use Rattle.shader_analysis_spec.specs.StepFaults.{StepFault}
 use Rattle.shader_passes.specs.Causes.{IsNamed}
 use Rattle.shader_analysis.proofs.PositionLemmas.{passed_on}
 use Rattle.shader_analysis.proofs.valid.analyzer.passes.counted.Goals as goal

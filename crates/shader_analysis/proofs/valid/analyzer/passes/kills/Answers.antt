@@ -1,16 +1,17 @@
 use Rattle.std.proofs.Common.{sym, ap, subst, ◌∙◌, None}
-use Rattle.shader_analysis_spec.specs.Faults.{StepFault, flow_violation}
+use Rattle.shader_analysis_spec.specs.Faults.{flow_violation}
+use Rattle.shader_analysis_spec.specs.StepFaults.{StepFault}
 use Rattle.shader_pass_laws.proofs.FlowViolation.{flow_violations_are_faults}
 use Rattle.shader_passes.specs.Causes.{IsNamed, settings_of}
 use Rattle.shader_passes.specs.Ends.{block_fault, is_killing}
 use Rattle.shader_passes.specs.Facts.{origin_at}
 use Rattle.shader_passes.specs.InfoOf.{infos_of}
 use Rattle.shader_analysis.proofs.FlowViolationFaults.{no_flow_violation, none_checked}
-use Rattle.shader_analysis.proofs.valid.analyzer.passes.kills.Goals.{then-checks_flow+in_default, else-checks_flow}
+use Rattle.shader_analysis.proofs.valid.analyzer.passes.kills.Goals.{in_default, in-Some+else-checks_flow}
 use Rattle.shader_analysis.proofs.valid.analyzer.passes.kills.Goals as goal
 
-pub returns-in-Some-clause-fault : goal.returns-in-Some-clause-fault
-returns-in-Some-clause-fault c = λ capabilities.
+pub returns-then-checks_flow-clause-fault : goal.returns-then-checks_flow-clause-fault
+returns-then-checks_flow-clause-fault c = λ capabilities.
     let m = c.args.«module».now in
     let infos = c.args.infos.now in
     let f = c.args.function.now in
@@ -18,9 +19,9 @@ returns-in-Some-clause-fault c = λ capabilities.
     let checks = c.checks_flow.ensures.on c.if-checks_flow.true in
     let found = ap (λ v. block_fault (origin_at v) (is_killing infos) v None f.body) (sym c.requires.facts)
     ∙ (sym c.flow_of_block-exits.ensures.first ∙ c.in-Some.is) in
+    let violation = (flow_violations_are_faults m infos f settings c.requires.operands).0 c.in-Some.flow_violation found in
     subst (IsNamed (StepFault m (infos_of infos) f settings)) (sym c.flow_violation_error.ensures)
-    (flow_violation checks.0 checks.1
-    ((flow_violations_are_faults m infos f settings c.requires.operands).0 c.in-Some.flow_violation found))
+    (violation.0, flow_violation checks.0 checks.1 violation.1)
 
 pub returns-clause-undisrupted : goal.returns-clause-undisrupted
 returns-clause-undisrupted c = λ capabilities.
@@ -28,10 +29,11 @@ returns-clause-undisrupted c = λ capabilities.
     let infos = c.args.infos.now in
     let f = c.args.function.now in
     let settings = settings_of c.args.flags capabilities in
-    elim c.if-checks_flow.branch [
-      | then-checks_flow+in_default w ↦
+    elim c.match-found.branch [
+      | in-Some+else-checks_flow w ↦
+          none_checked m infos f settings (λ on governs. w.checks_flow.ensures.off w.if-checks_flow.false (on, governs))
+      | in_default w ↦
           no_flow_violation m infos f settings c.requires.operands
           (ap (λ v. block_fault (origin_at v) (is_killing infos) v None f.body) (sym c.requires.facts)
           ∙ (sym c.flow_of_block-exits.ensures.first ∙ w.in_default.is))
-      | else-checks_flow w ↦ none_checked m infos f settings (λ on governs. c.checks_flow.ensures.off w.if-checks_flow.false (on, governs))
     ]

@@ -1,6 +1,6 @@
 use Rattle.std.proofs.Common.{sym, ap, subst, ◌∙◌, None, fold}
 use Rattle.std.specs.List.{enumerate_from}
-use Rattle.shader_analysis_spec.specs.Faults.{StepFault}
+use Rattle.shader_analysis_spec.specs.StepFaults.{StepFault}
 use Rattle.shader_pass_laws.proofs.MissingResources.{missing_resources_are_faults}
 use Rattle.shader_passes.specs.Causes.{IsNamed}
 use Rattle.shader_passes.specs.InfoOf.{infos_of}

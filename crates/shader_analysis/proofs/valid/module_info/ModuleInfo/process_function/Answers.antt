@@ -1,5 +1,6 @@
 use Rattle.std.proofs.Common.{subst, sym}
-use Rattle.shader_analysis_spec.specs.Faults.{Cause, StepFault}
+use Rattle.shader_analysis_spec.specs.Faults.{Cause}
+use Rattle.shader_analysis_spec.specs.StepFaults.{StepFault}
 use Rattle.shader_analysis_spec.specs.Steps.{MeetsSteps}
 use Rattle.shader_info.specs.Fit.{Fits}
 use Rattle.shader_passes.specs.Causes.{IsNamed, settings_of}
