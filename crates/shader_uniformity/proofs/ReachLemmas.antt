@@ -6,7 +6,7 @@ use Rattle.std.proofs.lemmas.Bool.{cases_eq, cases_lt, false≢true, lt-ltb, ltb
 use Rattle.std.proofs.lemmas.List.Elements.{All-contains, All-contains_itself, All-from_recursion, recursion_from_All}
 use Rattle.std.specs.List.{All, AllByRecursion, Contains}
 use Rattle.shader_uniformity.specs.Cells.{cell, changes, entered, fired, fires, holds, is_from, kind, moment, number, passed, width}
-use Rattle.shader_uniformity.specs.Cells.{width_from, HasMarks}
+use Rattle.shader_uniformity.specs.Cells.{width_from, HasMarks, IsSound, StaysSound}
 use Rattle.shader_uniformity.specs.Marks.{leads, Marked, itself, by_rule, later}
 use Rattle.shader_uniformity.specs.declared.facts.Fact.{Fact}
 use Rattle.shader_uniformity.specs.declared.facts.Fact.TheVariants.{Always, Flow, Argument, Behind, Apart, Leaves, Differs, Holds, Must}
@@ -208,10 +208,6 @@ module _ (rules : List Rule) (start : Fact) where
   pub covers : (x y : Fact) → cell x ≡ cell y → moment y ≤ moment x → Marked rules start y → Marked rules start x
   covers x y e h m = subst (Marked rules start) (sym (in_cell x y e)) (at_later y (moment x) h m)
 
-  -- what a table has is marked, and it has the first fact
-  abbrev pub IsSound : List (Option ℕ) → Type 0
-  IsSound table = (holds table start ≡ true) × ((x : Fact) → holds table x ≡ true → Marked rules start x)
-
   sound_entered : (table : List (Option ℕ)) (y : Fact) → cell y < length table → Marked rules start y →
       ((x : Fact) → holds table x ≡ true → Marked rules start x) → (x : Fact) → holds (entered table y) x ≡ true → Marked rules start x
   sound_entered table y within m s x h = elim (cases_eq (cell x) (cell y)) [
@@ -220,13 +216,13 @@ module _ (rules : List Rule) (start : Fact) where
   ]
 
   sound_passed : (part : List Rule) (table : List (Option ℕ)) (n : ℕ) → length table ≡ n → AllByRecursion (Contains rules) part →
-      AllByRecursion (λ rule. cell rule.effect < n) part → IsSound table → IsSound (passed part table)
+      AllByRecursion (λ rule. cell rule.effect < n) part → IsSound rules start table → IsSound rules start (passed part table)
   sound_passed [] table n long among within s = s
   sound_passed (rule ∷ part) table n long among within s =
       of (λ t l i. sound_passed part t n l among.1 within.1 i) (fires table rule) refl
     where
-      of : ((t : List (Option ℕ)) → length t ≡ n → IsSound t → IsSound (passed part t)) → (b : Bool) → fires table rule ≡ b →
-          IsSound (passed part (fired b table rule.effect))
+      of : ((t : List (Option ℕ)) → length t ≡ n → IsSound rules start t → IsSound rules start (passed part t)) → (b : Bool) →
+          fires table rule ≡ b → IsSound rules start (passed part (fired b table rule.effect))
       of go true e =
           let inside : cell rule.effect < length table = omega (arith, long, within.0) in
           let cause = s.1 rule.cause (and_left (holds table rule.cause) (not (holds table rule.effect)) e) in
@@ -258,7 +254,7 @@ module _ (rules : List Rule) (start : Fact) where
       held_later table p s next le (complete table all begun (Holds p s) m)
 
   -- an empty table with the first fact
-  pub begun : (n : ℕ) → cell start < n → IsSound (entered (empty_table n) start)
+  pub begun : (n : ℕ) → cell start < n → IsSound rules start (entered (empty_table n) start)
   begun n within =
       let long : length (empty_table n) ≡ n = table_long (empty_table n) n n refl refl in
       let inside : cell start < length (empty_table n) = omega (arith, long, within) in (
@@ -266,14 +262,32 @@ module _ (rules : List Rule) (start : Fact) where
         sound_entered (empty_table n) start inside itself (λ x h. absurd (false≢true (sym (vacant n x) ∙ h))),
       )
 
-  pub goes_on : (table : List (Option ℕ)) → All (λ rule. cell rule.effect < length table) rules → IsSound table →
-      IsSound (passed rules table)
+  pub goes_on : (table : List (Option ℕ)) → All (λ rule. cell rule.effect < length table) rules → IsSound rules start table →
+      IsSound rules start (passed rules table)
   goes_on table within s =
       sound_passed rules table (length table) refl (recursion_from_All (Contains rules) rules (All-contains_itself rules))
       (recursion_from_All (λ rule. cell rule.effect < length table) rules within) s
 
-  pub settled : (table : List (Option ℕ)) → changes rules table false ≡ false → IsSound table → HasMarks rules start (passed rules table)
+  pub settled : (table : List (Option ℕ)) → changes rules table false ≡ false → IsSound rules start table →
+      HasMarks rules start (passed rules table)
   settled table h s x =
       let end = settles rules table h in
       let P : List (Option ℕ) → Type 0 = λ v. IsTrue (holds v x) ↔ Marked rules start x in
       subst P (sym end.0) (s.1 x, complete table end.1 s.0 x)
+
+pub stays_same : (rules : List Rule) (table : List (Option ℕ)) → StaysSound rules table table
+stays_same rules table = record { stays = λ start s. s }
+
+pub stays_on : (rules : List Rule) (a b c : List (Option ℕ)) → StaysSound rules a b → StaysSound rules b c → StaysSound rules a c
+stays_on rules a b c h k = record { stays = λ start s. k.stays start (h.stays start s) }
+
+-- so does one rule
+pub stays_fired : (rules : List Rule) (table next : List (Option ℕ)) (rule : Rule) →
+    next ≡ fired (fires table rule) table rule.effect → Contains rules rule →
+    All (λ rule. cell rule.effect < length table) rules → StaysSound rules table next
+stays_fired rules table next rule e among within = record {
+  stays = λ start s.
+      let P : List (Option ℕ) → Type 0 = λ v. IsSound rules start v in
+      subst P (sym e) (sound_passed rules start (rule ∷ []) table (length table) refl (among, tt)
+      (All-contains (λ rule. cell rule.effect < length table) rules rule within among, tt) s);
+}

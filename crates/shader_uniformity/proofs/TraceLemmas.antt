@@ -1,12 +1,9 @@
 -- Traces of facts, from the last one back.
-use Rattle.std.proofs.Common.{◌≡◌, refl, sym, ap, subst, ℕ, ◌≤◌, true, List, [], ◌∷◌, ◌++◌, arith, Option}
-use Rattle.std.proofs.Common.{Some, None, Result, Ok, Err, Vec, Global, IfOk, IfSome}
-use Rattle.std.specs.List.{All, Contains}
-use Rattle.std.proofs.lemmas.Bool.{false≢true}
-use Rattle.std.proofs.lemmas.List.Elements.{All-contains, All-push}
+use Rattle.std.proofs.Common.{◌≡◌, sym, subst, ◌≤◌, true, List, [], ◌∷◌, ◌++◌, arith}
+use Rattle.std.specs.List.{Contains}
 use Rattle.shader_uniformity.specs.Cells.{cell, moment}
 use Rattle.shader_uniformity.specs.Marks.{leads, Marked, itself, by_rule, later}
-use Rattle.shader_uniformity.specs.Traces.{covers, IsTrace, NotesAlso, TracesAreMarks}
+use Rattle.shader_uniformity.specs.Traces.{covers, IsTrace, TracesAreMarks}
 use Rattle.shader_uniformity.specs.declared.facts.Fact.{Fact}
 use Rattle.shader_uniformity.specs.declared.facts.Fact.TheVariants.{Holds}
 use Rattle.shader_uniformity.specs.declared.facts.Rule.{Rule}
@@ -48,25 +45,5 @@ pub trace_end : (order : List Rule) (last : Fact) (trace : List Rule) (needed fi
 trace_end order last [] needed first t c = marked_on [] first needed last (covering first needed c) t
 trace_end order last (x ∷ trace) needed first t c = (t.0, t.1, trace_end order x.cause trace needed first t.2 c)
 
--- a trace by some rules is one by all
-pub trace_among : (rules order : List Rule) (last : Fact) (trace : List Rule) (first : Fact) → All (Contains rules) order →
-    IsTrace order last trace first → IsTrace rules last trace first
-trace_among rules order last [] first all t = t
-trace_among rules order last (x ∷ trace) first all t =
-    (All-contains (Contains rules) order x all t.0, t.1, trace_among rules order x.cause trace first all t.2)
-
-pub notes_more : (rule : Rule) (old new : List Rule) → new ≡ old ++ rule ∷ [] → NotesAlso rule old new
-notes_more rule old new e rules within all =
-    let P : List Rule → Type 0 = λ v. All (Contains rules) v in
-    subst P (sym e) (All-push (Contains rules) old rule all within)
-
 pub trace_first : (order : List Rule) (last : Fact) (trace : List Rule) → trace ≡ [] → IsTrace order last trace last
 trace_first order last trace e = let P : List Rule → Type 0 = λ v. IsTrace order last v last in subst P (sym e) itself
-
--- so it is where there may be none
-pub traces_among : {E : Type 0} (rules order : List Rule) (last first : Fact) → All (Contains rules) order →
-    (result : Result (Option (Vec Rule Global)) E) → IfOk result (λ found. IfSome found (λ trace. IsTrace order last trace.items first)) →
-    IfOk result (λ found. IfSome found (λ trace. IsTrace rules last trace.items first))
-traces_among rules order last first all (Ok (Some trace)) h = trace_among rules order last trace.items first all h
-traces_among rules order last first all (Ok None) h = h
-traces_among rules order last first all (Err e) h = h

@@ -87,6 +87,14 @@ width start rules = width_from (cell start + 1) rules
 abbrev pub HasMarks : List Rule → Fact → List (Option ℕ) → Type 0
 HasMarks rules start table = (fact : Fact) → IsTrue (holds table fact) ↔ Marked rules start fact
 
+-- the table has a first fact, and nothing but what it leads to
+abbrev pub IsSound : List Rule → Fact → List (Option ℕ) → Type 0
+IsSound rules start table = IsTrue (holds table start) × ((fact : Fact) → IsTrue (holds table fact) → Marked rules start fact)
+
+-- so does the new table, of whatever first fact the old one does
+pub record StaysSound (rules : List Rule) (old new : List (Option ℕ)) : Type 0 where
+  pub stays : (start : Fact) → IsSound rules start old → IsSound rules start new
+
 -- a last fact that the table has, with the first one
 abbrev pub ending : List (Option ℕ) → (first last : Fact) → List Rule
 ending table first last = if holds table last then leads first last ∷ [] else []

@@ -1,6 +1,6 @@
 -- How a fact follows from a first one by rules: a trace that goes back from it.
 use Rattle.std.specs.Prelude.{ℕ, List, [], ◌∷◌, Bool, true, false, ◌==◌, ◌&&◌, not, nat_lt, Option, Some, None, slice_get, take}
-use Rattle.std.specs.List.{All, Contains}
+use Rattle.std.specs.List.{Contains}
 use Rattle.shader_uniformity.specs.Words.{Module, Function, EntryPoint}
 use Rattle.shader_uniformity.specs.Cells.{cell, moment}
 use Rattle.shader_uniformity.specs.Fault.{function_rules, severity}
@@ -23,10 +23,6 @@ TracesAreMarks = (rules trace : List Rule) (last first : Fact) → IsTrace rules
 -- the second fact is the first one, or the same at a later moment
 abbrev pub covers : Fact → Fact → Bool
 covers fact needed = (cell fact == cell needed) && not (nat_lt (moment needed) (moment fact))
-
--- whatever rules a list notes, it goes on to do so, where it has one of them more at most
-abbrev pub NotesAlso : Rule → (old new : List Rule) → Type 0
-NotesAlso rule old new = (rules : List Rule) → Contains rules rule → All (Contains rules) old → All (Contains rules) new
 
 module _ (m : Module) (known : List (List Rule)) where
   -- the rules of a function or entry point of a module, with what is known of the functions before it

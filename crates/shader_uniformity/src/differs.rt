@@ -13,7 +13,8 @@ use crate::facts::{Fact, Place, Rule};
 use crate::places::place_at;
 use crate::rules::{Scope, add_rule, reads_at, writes_at};
 use shader_arena::{Arena, Handle, Range};
-use shader_ir::{Expression, SampleLevel, expression_operands, mark};
+use shader_ir::proc::expression_operands;
+use shader_ir::{Expression, SampleLevel, mark};
 use std::alloc::AllocError;
 
 /// Checks whether the level is computed from neighbouring invocations.

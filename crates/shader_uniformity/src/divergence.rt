@@ -2,10 +2,11 @@
 ghost use Rattle.std.specs.Prelude.{◌≡◌, ◌↔◌, None, IfOk, IsTrue, slice_get, map};
 ghost use Rattle.shader_uniformity.specs.Fault.{AreAllKnown, AreFaulty, IsFault, IsKnownBy, IsVerdict};
 
+use crate::cells::holds;
 use crate::facts::{BodyLocation, Fact, Rule};
 use crate::filters::is_severe;
 use crate::known::{function_rules, known_of};
-use crate::reach::{holds, reach};
+use crate::reach::reach;
 use crate::verdict::verdict_of;
 use shader_ir::{EntryPoint, Function, Items, Module};
 use std::alloc::{AllocError, Global};
@@ -67,8 +68,8 @@ fn is_fault(
 {
     let severe = is_severe(&module.diagnostic_filters, function.diagnostic_filter_leaf);
     let rules = function_rules(alloc, module, callees, severe, true, function)?;
-    let table = reach(alloc, &rules, &Fact::Always)?;
-    Ok(holds(&table, &Fact::Must))
+    let reached = reach(alloc, &rules, &Fact::Always)?;
+    Ok(holds(&reached.table, &Fact::Must))
 }
 
 /// Returns which of some entry points do.

@@ -7,9 +7,10 @@ ghost use Rattle.shader_uniformity.specs.Differs.{pointees_from, shared_rule, so
 ghost use Rattle.shader_uniformity.specs.Fault.{arguments_from, beginnings, endings, function_rules, left_from, lefts_from, IsKnown};
 ghost use Rattle.shader_uniformity.specs.Marks.{leads};
 
+use crate::cells::holds;
 use crate::facts::{Fact, Place, Rule};
 use crate::places::places;
-use crate::reach::{holds, reach};
+use crate::reach::reach;
 use crate::rules::{Scope, add_rule, next};
 use crate::walk::add_block;
 use shader_arena::{Arena, Handle};
@@ -248,8 +249,8 @@ fn known_by(
 {
     let mut known = Vec::new(alloc);
     for first in firsts {
-        let table = reach(alloc, rules, first)?;
-        add_ended(&mut known, &table, first, lasts)?;
+        let reached = reach(alloc, rules, first)?;
+        add_ended(&mut known, &reached.table, first, lasts)?;
     }
     Ok(known)
 }

@@ -2,6 +2,7 @@
 #![tactic(auto)]
 
 mod calls;
+mod cells;
 mod differs;
 mod divergence;
 mod facts;

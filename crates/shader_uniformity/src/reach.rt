@@ -1,117 +1,14 @@
 //! What follows from a fact by rules.
-ghost use Rattle.std.specs.Prelude.{◌≡◌, ◌↔◌, ◌<◌, ◌^◌, None, All, IfOk, IsTrue, false, length, replicate, slice_index_or};
-ghost use Rattle.shader_uniformity.specs.Cells.{cell, changes, entered, fired, fires, holds, is_from, kind, moment, number, passed};
-ghost use Rattle.shader_uniformity.specs.Cells.{width, HasMarks};
+ghost use Rattle.std.specs.Prelude.{◌≡◌, ◌<◌, false, All, IfOk, OnOk, length};
+ghost use Rattle.shader_uniformity.specs.Cells.{cell, changes, fired, fires, passed, width, HasMarks, StaysSound};
 
-use crate::facts::{Fact, Jump, Place, Rule};
+use crate::cells::{at, cell, empty, enter, holds};
+use crate::facts::{Fact, Rule};
+use crate::rules::next;
 use std::alloc::{AllocError, Global};
 
-/// Returns the kind of a fact, below 16.
-fn kind(fact: &Fact) -> usize
-    ensures kind { result ≡ kind fact.now }
-    ensures small { result < 16 }
-{
-    match fact {
-        Fact::Always => 0,
-        Fact::Flow => 1,
-        Fact::Must => 2,
-        Fact::Gives => 3,
-        Fact::Argument(_) => 4,
-        Fact::Behind(_) => 5,
-        Fact::Left(_) => 6,
-        Fact::Apart(_) => 7,
-        Fact::Leaves(jump, _) => match jump {
-            Jump::Break => 8,
-            Jump::Continue => 9,
-            Jump::Return => 10,
-        },
-        Fact::Differs(_) => 11,
-        Fact::Holds(place, _) => match place {
-            Place::Local(_) => 12,
-            Place::Pointee(_) => 13,
-            Place::Shared => 14,
-            Place::Fixed => 15,
-        },
-    }
-}
-
-/// Returns the number of a fact among those of its kind.
-fn number(fact: &Fact) -> usize
-    ensures number { result ≡ number fact.now }
-    ensures small { result < 2 ^ 32 }
-{
-    match fact {
-        Fact::Argument(index) => *index as usize,
-        Fact::Behind(index) => *index as usize,
-        Fact::Left(index) => *index as usize,
-        Fact::Apart(position) => *position as usize,
-        Fact::Leaves(_, position) => *position as usize,
-        Fact::Differs(expression) => expression.index(),
-        Fact::Holds(place, _) => match place {
-            Place::Local(index) => *index as usize,
-            Place::Pointee(index) => *index as usize,
-            Place::Shared => 0,
-            Place::Fixed => 0,
-        },
-        Fact::Always | Fact::Flow | Fact::Must | Fact::Gives => 0,
-    }
-}
-
-/// Returns the moment from which a fact holds, 0 for one that holds for good.
-pub fn moment(fact: &Fact) -> u32
-    ensures { result ≡ moment fact.now }
-{
-    match fact {
-        Fact::Holds(_, moment) => *moment,
-        _ => 0,
-    }
-}
-
-/// Returns the cell of a fact.
-pub fn cell(fact: &Fact) -> usize
-    ensures cell { result ≡ cell fact.now }
-    ensures small { result < 2 ^ 37 }
-{
-    16 * number(fact) + kind(fact)
-}
-
-/// Returns the first moment in a cell, where there is one.
-fn first_at(table: &[Option<u32>], place: usize) -> Option<u32>
-    ensures { result ≡ slice_index_or table.now place None }
-{
-    match table.get(place) {
-        Some(first) => *first,
-        None => None,
-    }
-}
-
-fn is_from(first: Option<u32>, moment: u32) -> bool
-    ensures { result ≡ is_from first moment }
-{
-    match first {
-        Some(start) => !(moment < start),
-        None => false,
-    }
-}
-
-/// Checks whether a table has a fact.
-pub fn holds(table: &[Option<u32>], fact: &Fact) -> bool
-    ensures { result ≡ holds table.now fact.now }
-{
-    is_from(first_at(table, cell(fact)), moment(fact))
-}
-
-/// Enters a fact that the table doesn't have.
-pub fn enter(table: &mut Vec<Option<u32>>, fact: &Fact)
-    requires { cell fact.now < length table.old.items }
-    ensures length { length table.new.items ≡ length table.old.items }
-    ensures table { table.new.items ≡ entered table.old.items fact.now }
-{
-    table[cell(fact)] = Some(moment(fact));
-}
-
-/// Enters the effect of a rule where it is new and the cause is there.
-pub fn apply(table: &mut Vec<Option<u32>>, rule: &Rule) -> bool
+/// Applies a rule: enters its effect where that is new and the cause is there. Returns whether it did.
+fn apply(table: &mut Vec<Option<u32>>, rule: &Rule) -> bool
     requires { cell rule.now.effect < length table.old.items }
     ensures length { length table.new.items ≡ length table.old.items }
     ensures table { table.new.items ≡ fired (fires table.old.items rule.now) table.old.items rule.now.effect }
@@ -124,23 +21,48 @@ pub fn apply(table: &mut Vec<Option<u32>>, rule: &Rule) -> bool
     fires
 }
 
-/// Applies each rule once, in order. Returns whether one entered its effect.
-fn pass(table: &mut Vec<Option<u32>>, rules: &[Rule]) -> bool
+/// Applies a rule, and adds its number to the order where it enters its effect. Returns whether it did.
+fn note(
+    table: &mut Vec<Option<u32>>,
+    order: &mut Vec<u32>,
+    rule: &Rule,
+    number: u32,
+) -> Result<bool, AllocError>
+    requires { cell rule.now.effect < length table.old.items }
+    ensures length { OnOk result (length table.new.items ≡ length table.old.items) }
+    ensures table { OnOk result (table.new.items ≡ fired (fires table.old.items rule.now) table.old.items rule.now.effect) }
+    ensures fires { IfOk result (λ new. new ≡ fires table.old.items rule.now) }
+{
+    let fires = apply(table, rule);
+    if fires {
+        order.push(number)?;
+    }
+    Ok(fires)
+}
+
+/// Applies each rule once, as they stand. Returns whether one entered its effect.
+fn pass(
+    table: &mut Vec<Option<u32>>,
+    order: &mut Vec<u32>,
+    rules: &[Rule],
+) -> Result<bool, AllocError>
     requires { All (λ rule. cell rule.effect < length table.old.items) rules.now }
-    ensures length { length table.new.items ≡ length table.old.items }
-    ensures table { table.new.items ≡ passed rules.now table.old.items }
-    ensures changes { result ≡ changes rules.now table.old.items false }
+    ensures length { OnOk result (length table.new.items ≡ length table.old.items) }
+    ensures table { OnOk result (table.new.items ≡ passed rules.now table.old.items) }
+    ensures changes { IfOk result (λ changed. changed ≡ changes rules.now table.old.items false) }
 {
     let mut changed = false;
+    let mut number = 0;
     for rule in rules {
-        let fires = apply(table, rule);
+        let fires = note(table, order, rule, number)?;
         changed = changed | fires;
+        number = next(number)?;
     }
-    changed
+    Ok(changed)
 }
 
 /// Returns a number above the cells of all effects and of the first fact.
-pub fn width(start: &Fact, rules: &[Rule]) -> usize
+fn width(start: &Fact, rules: &[Rule]) -> usize
     ensures { result ≡ width start.now rules.now }
 {
     let mut width = cell(start) + 1;
@@ -150,33 +72,156 @@ pub fn width(start: &Fact, rules: &[Rule]) -> usize
     width
 }
 
-/// Returns an empty table.
-pub fn empty(alloc: Global, width: usize) -> Result<Vec<Option<u32>>, AllocError>
-    ensures { IfOk result (λ table. table.items ≡ replicate width None) }
-{
-    let mut table = Vec::with_capacity(alloc, width)?;
-    for place in 0..width {
-        table.push(None)?;
-    }
-    Ok(table)
+/// The rules that aren't taken yet, by the cells of their causes.
+#[derive(Drop)]
+struct Waiting {
+    /// The number of the last one in each cell.
+    lasts: Vec<Option<u32>>,
+    /// For each rule the number of the one before it in its cell.
+    before: Vec<Option<u32>>,
 }
 
-/// Returns the table of the facts that a first one leads to.
+/// Writes a number into a cell, if there is such a cell.
+fn put(numbers: &mut Vec<Option<u32>>, place: usize, number: Option<u32>) {
+    if place < numbers.len() {
+        numbers[place] = number;
+    }
+}
+
+/// Returns all rules as waiting, by so many cells.
+fn waiting_rules(alloc: Global, width: usize, rules: &[Rule]) -> Result<Waiting, AllocError> {
+    let mut lasts = empty(alloc, width)?;
+    let mut before = Vec::with_capacity(alloc, rules.len())?;
+    let mut number = 0;
+    for rule in rules {
+        let place = cell(&rule.cause);
+        before.push(at(&lasts, place))?;
+        put(&mut lasts, place, Some(number));
+        number = next(number)?;
+    }
+    Ok(Waiting { lasts, before })
+}
+
+/// Takes the last rule that waits in a cell and applies it, if its cause is there. Returns whether it did.
+#[tactic(auto, using(crate::proofs::ReachLemmas::stays_same, crate::proofs::ReachLemmas::stays_fired))]
+fn take_rule(
+    table: &mut Vec<Option<u32>>,
+    order: &mut Vec<u32>,
+    waiting: &mut Waiting,
+    rules: &[Rule],
+    place: usize,
+) -> Result<bool, AllocError>
+    requires { All (λ rule. cell rule.effect < length table.old.items) rules.now }
+    ensures length { OnOk result (length table.new.items ≡ length table.old.items) }
+    ensures table { OnOk result (StaysSound rules.now table.old.items table.new.items) }
+{
+    match at(&waiting.lasts, place) {
+        Some(number) => match rules.get(number as usize) {
+            Some(rule) => {
+                if holds(table, &rule.cause) {
+                    let earlier = at(&waiting.before, number as usize);
+                    put(&mut waiting.lasts, place, earlier);
+                    note(table, order, rule, number)?;
+                    Ok(true)
+                } else {
+                    Ok(false)
+                }
+            }
+            None => Ok(false),
+        },
+        None => Ok(false),
+    }
+}
+
+/// Takes all rules that wait in a cell and whose causes are there, where they stand in the order of their causes' moments.
+#[tactic(auto, using(crate::proofs::ReachLemmas::stays_same, crate::proofs::ReachLemmas::stays_on))]
+fn take_rules(
+    table: &mut Vec<Option<u32>>,
+    order: &mut Vec<u32>,
+    waiting: &mut Waiting,
+    rules: &[Rule],
+    place: usize,
+) -> Result<(), AllocError>
+    requires { All (λ rule. cell rule.effect < length table.old.items) rules.now }
+    ensures length { OnOk result (length table.new.items ≡ length table.old.items) }
+    ensures table { OnOk result (StaysSound rules.now table.old.items table.new.items) }
+{
+    for _ in 0..rules.len() {
+        if !take_rule(table, order, waiting, rules, place)? {
+            return Ok(());
+        }
+    }
+    Ok(())
+}
+
+/// Returns the cell of the effect of a rule in an order, if there is one at this index.
+fn effect_at(rules: &[Rule], order: &[u32], index: usize) -> Option<usize> {
+    match order.get(index) {
+        Some(number) => match rules.get(*number as usize) {
+            Some(rule) => Some(cell(&rule.effect)),
+            None => None,
+        },
+        None => None,
+    }
+}
+
+/// Applies the rules that follow from those in an order, from an index on, and adds those that enter their effects.
+///
+/// A rule waits until its cause is entered and is then taken, so each is taken once. The order grows meanwhile.
+#[tactic(auto, using(crate::proofs::ReachLemmas::stays_same, crate::proofs::ReachLemmas::stays_on))]
+fn spread(
+    alloc: Global,
+    table: &mut Vec<Option<u32>>,
+    order: &mut Vec<u32>,
+    from: usize,
+    rules: &[Rule],
+) -> Result<(), AllocError>
+    requires { All (λ rule. cell rule.effect < length table.old.items) rules.now }
+    ensures length { OnOk result (length table.new.items ≡ length table.old.items) }
+    ensures table { OnOk result (StaysSound rules.now table.old.items table.new.items) }
+{
+    let mut waiting = waiting_rules(alloc, table.len(), rules)?;
+    for index in from..usize::MAX {
+        match effect_at(rules, order, index) {
+            Some(place) => take_rules(table, order, &mut waiting, rules, place)?,
+            None => return Ok(()),
+        }
+    }
+    Ok(())
+}
+
+/// What a first fact leads to.
+#[derive(Drop)]
+pub struct Reached {
+    /// The facts.
+    pub table: Vec<Option<u32>>,
+    /// The numbers of the rules that entered them, in that order.
+    pub order: Vec<u32>,
+}
+
+/// Returns what a first fact leads to.
+///
+/// Goes through the rules as they stand, then through what leads backward, and through all once more to see that nothing follows. That is
+/// all where the rules with causes in one cell stand in the order of the causes' moments, as those of a function do.
 ///
 /// # Errors
 ///
-/// `AllocError` where memory runs out.
-pub fn reach(alloc: Global, rules: &[Rule], start: &Fact) -> Result<Vec<Option<u32>>, AllocError>
-    ensures { IfOk result (λ table. HasMarks rules.now start.now table.items) }
+/// `AllocError` where memory runs out, or there are 2^32 rules.
+pub fn reach(alloc: Global, rules: &[Rule], start: &Fact) -> Result<Reached, AllocError>
+    ensures { IfOk result (λ reached. HasMarks rules.now start.now reached.table.items) }
 {
     let width = width(start, rules);
     let mut table = empty(alloc, width)?;
     enter(&mut table, start);
-    // Each pass but the last enters a fact.
+    let mut order = Vec::new(alloc);
+    pass(&mut table, &mut order, rules)?;
+    // Each round but the last enters a fact.
     for _ in 0..u64::MAX {
-        if !pass(&mut table, rules) {
-            return Ok(table);
+        let from = order.len();
+        if !pass(&mut table, &mut order, rules)? {
+            return Ok(Reached { table, order });
         }
+        spread(alloc, &mut table, &mut order, from, rules)?;
     }
     Err(AllocError)
 }

@@ -1,15 +1,14 @@
 //! Why a fact follows from a first one: the rules on a way back.
-ghost use Rattle.std.specs.Prelude.{◌≡◌, ◌<◌, All, Contains, IfOk, IfSome, OnOk, length, slice_get, take};
+ghost use Rattle.std.specs.Prelude.{◌≡◌, Contains, IfOk, IfSome, slice_get, take, true};
 ghost use Rattle.std.specs.Option.{option_copied};
-ghost use Rattle.shader_uniformity.specs.Cells.{cell};
 ghost use Rattle.shader_uniformity.specs.Fault.{function_rules, severity};
-ghost use Rattle.shader_uniformity.specs.Traces.{covers, rules_at, rules_of_function, rules_of_point, IsTrace, NotesAlso};
+ghost use Rattle.shader_uniformity.specs.Traces.{covers, rules_at, rules_of_function, rules_of_point, IsTrace};
 
+use crate::cells::{cell, moment};
 use crate::facts::{BodyLocation, Fact, Rule};
 use crate::filters::is_severe;
 use crate::known::function_rules;
-use crate::reach::{apply, cell, empty, enter, moment, width};
-use crate::rules::add_rule;
+use crate::reach::reach;
 use shader_arena::Handle;
 use shader_ir::{Function, Items, Module, mark};
 use std::alloc::{AllocError, Global};
@@ -21,77 +20,44 @@ fn covers(fact: &Fact, needed: &Fact) -> bool
     (cell(fact) == cell(needed)) & !(moment(needed) < moment(fact))
 }
 
-/// Enters the effect of a rule where that is new, and the rule.
-#[tactic(auto, using(crate::proofs::TraceLemmas::notes_more))]
-fn note(
-    table: &mut Vec<Option<u32>>,
-    order: &mut Vec<Rule>,
-    rule: &Rule,
-) -> Result<bool, AllocError>
-    requires { cell rule.now.effect < length table.old.items }
-    ensures length { OnOk result (length table.new.items ≡ length table.old.items) }
-    ensures order { OnOk result (NotesAlso rule.now order.old.items order.new.items) }
+/// Returns the rule of a number, if its effect is what is needed.
+fn rule_for(rules: &[Rule], number: u32, needed: &Fact) -> Option<Rule>
+    ensures contains { IfSome result (λ rule. Contains rules.now rule) }
+    ensures covers { IfSome result (λ rule. covers rule.effect needed.now ≡ true) }
 {
-    let fires = apply(table, rule);
-    if fires {
-        let (cause, effect): (Fact, Fact) = (rule.cause, rule.effect);
-        add_rule(order, cause, effect)?;
-    }
-    Ok(fires)
-}
-
-/// Applies each rule once, and notes those that enter their effects. Returns whether one did.
-fn note_pass(
-    table: &mut Vec<Option<u32>>,
-    order: &mut Vec<Rule>,
-    rules: &[Rule],
-) -> Result<bool, AllocError>
-    requires { All (λ rule. cell rule.effect < length table.old.items) rules.now }
-    ensures length { OnOk result (length table.new.items ≡ length table.old.items) }
-    ensures order { OnOk result (All (Contains rules.now) order.old.items → All (Contains rules.now) order.new.items) }
-{
-    let mut changed = false;
-    for rule in rules {
-        let fires = note(table, order, rule)?;
-        changed = changed | fires;
-    }
-    Ok(changed)
-}
-
-/// Returns the rules that enter their effects, in that order, where the first fact is entered before them.
-fn order_of(alloc: Global, rules: &[Rule], first: &Fact) -> Result<Vec<Rule>, AllocError>
-    ensures { IfOk result (λ order. All (Contains rules.now) order.items) }
-{
-    let width = width(first, rules);
-    let mut table = empty(alloc, width)?;
-    enter(&mut table, first);
-    let mut order = Vec::new(alloc);
-    // Each pass but the last enters a fact.
-    for _ in 0..u64::MAX {
-        if !note_pass(&mut table, &mut order, rules)? {
-            return Ok(order);
+    match rules.get(number as usize) {
+        Some(rule) => {
+            if covers(&rule.effect, needed) {
+                Some(*rule)
+            } else {
+                None
+            }
         }
+        None => None,
     }
-    Err(AllocError)
 }
 
 /// Returns a trace of the last fact by rules in an order, if it leads to the first one.
 #[tactic(auto, using(crate::proofs::TraceLemmas::trace_push, crate::proofs::TraceLemmas::trace_end))]
 fn trace_by(
     alloc: Global,
-    order: &[Rule],
+    rules: &[Rule],
+    order: &[u32],
     first: &Fact,
     last: &Fact,
 ) -> Result<Option<Vec<Rule>>, AllocError>
-    ensures { IfOk result (λ found. IfSome found (λ trace. IsTrace order.now last.now trace.items first.now)) }
+    ensures { IfOk result (λ found. IfSome found (λ trace. IsTrace rules.now last.now trace.items first.now)) }
 {
     let mut needed = *last;
     let mut trace = Vec::new(alloc);
     for step in 0..order.len() {
-        let rule = order[order.len() - 1 - step];
-        if covers(&rule.effect, &needed) {
-            trace.push(rule)?;
-            needed = rule.cause;
+        let number = order[order.len() - 1 - step];
+        match rule_for(rules, number, &needed) {
+            Some(rule) => {
+                trace.push(rule)?;
+                needed = rule.cause;
+            }
+            None => {}
         }
     }
     Ok(if covers(first, &needed) {
@@ -201,6 +167,6 @@ pub fn trace(
         IsTrace (rules_at «module».now known.now location) last.now trace.items first.now)) }
 {
     let rules = rules_at(alloc, module, known, location)?;
-    let order = order_of(alloc, &rules, first)?;
-    trace_by(alloc, &order, first, last)
+    let reached = reach(alloc, &rules, first)?;
+    trace_by(alloc, &rules, &reached.order, first, last)
 }

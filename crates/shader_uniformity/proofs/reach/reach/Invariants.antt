@@ -1,6 +1,5 @@
 use Rattle.std.proofs.Common.{◌≡◌, length}
-use Rattle.shader_uniformity.specs.Cells.{width}
-use Rattle.shader_uniformity.proofs.ReachLemmas.{IsSound}
+use Rattle.shader_uniformity.specs.Cells.{width, IsSound}
 use Rattle.shader_uniformity.proofs.reach.reach.Given as goal
 
 abbrev pub invariant-loop : goal.invariant-loop

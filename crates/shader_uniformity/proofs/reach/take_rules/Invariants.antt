@@ -1,0 +1,9 @@
+use Rattle.std.proofs.Common.{◌≡◌, length}
+use Rattle.shader_uniformity.specs.Cells.{StaysSound}
+use Rattle.shader_uniformity.proofs.reach.take_rules.Given as goal
+
+abbrev pub invariant-loop : goal.invariant-loop
+invariant-loop l = record {
+  long : length l.table.items ≡ length l.fn.table.items;
+  sound : StaysSound l.rules l.fn.table.items l.table.items;
+}

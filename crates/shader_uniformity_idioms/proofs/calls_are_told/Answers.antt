@@ -1,0 +1,5 @@
+use Rattle.shader_uniformity_idioms.proofs.Decided as decided
+use Rattle.shader_uniformity_idioms.proofs.calls_are_told.Goals as goal
+
+pub returns : goal.returns
+returns c = decided.calls_are_told
