@@ -1,14 +1,11 @@
--- In a well-formed module the needs of an expression are decided, and are the bits of a number.
-use Rattle.std.proofs.Common.{◌≡◌, ◌↔◌, ◌⊎◌, inl, inr, refl, subst, ℕ, ◌<◌, true, false}
-use Rattle.std.proofs.Common.{Option, Some, None, slice_get, length, bit_or, arith}
-use Rattle.std.specs.Int.{IsBitSet}
+-- In a well-formed module the needs of an expression are decided, and are a set.
+use Rattle.std.proofs.Common.{◌≡◌, ◌↔◌, ◌⊎◌, inl, inr, refl, subst, ℕ, ◌<◌, Bool, true, false, IsTrue}
+use Rattle.std.proofs.Common.{Option, Some, None, slice_get, length, arith}
 use Rattle.std.specs.List.{Contains}
-use Rattle.std.proofs.lemmas.Nat.{or_lt}
-use Rattle.shader_analysis_spec.proofs.JoinLemmas.{no_bit, not_bit, of_bit, of_range, or_of, or_to, range_to}
+use Rattle.shader_analysis_spec.proofs.JoinLemmas.{of_range, range_to}
 use Rattle.shader_analysis_spec.specs.Calls.{CallsTo, here as at_once, via}
 use Rattle.shader_analysis_spec.specs.Infos.{NamesEarlier, by_call, by_result}
-use Rattle.shader_analysis_spec.specs.Needs.{CooperativeOperation, Derivative, ExpressionNeeds, ImplicitLevel, Need, Needs}
-use Rattle.shader_analysis_spec.specs.Needs.{WorkGroupBarrier, bit_of_need, by_callee, by_expression, by_form, by_statement}
+use Rattle.shader_analysis_spec.specs.Needs.{ExpressionNeeds, Need, Needs, by_callee, by_expression, by_form, by_statement}
 use Rattle.shader_analysis_spec.specs.Needs.{expression_requires, statement_requires}
 use Rattle.shader_analysis_spec.specs.Program.{Call, Emit, Expression, Function, IsExpressionAt, Leaf, Module, Step, statements}
 use Rattle.shader_arena.specs.Positions.{positions_between}
@@ -120,99 +117,27 @@ module _ (m : Module) (n : Need) where
     needs_decided : Decided (Needs m n f)
     needs_decided = decided_as Asked (Needs m n f) to_needs from_needs (some_of Asks (statements f.body) step_decided)
 
-  pub needs_of : IsWellFormed m → (f : Function) → IsOf m f → (e : ℕ) → Decided (ExpressionNeeds m n f e)
-  needs_of well f of =
+  need_decided : IsWellFormed m → (f : Function) → IsOf m f → (e : ℕ) → Decided (ExpressionNeeds m n f e)
+  need_decided well f of =
       let is = backward m well f of in
       expression_decided f (length m.functions) is.callees
       (decided_before m well (Needs m n) (λ g below k earlier callees. needs_decided g k earlier callees) (length m.functions)
       (omega arith))
 
--- a number if something holds, and 0 otherwise
-abbrev flag : {P : Type 0} → Decided P → ℕ → ℕ
-flag (inl p) number = number
-flag (inr none) number = 0
+-- whether something holds that is decided
+abbrev holds : {P : Type 0} → Decided P → Bool
+holds (inl p) = true
+holds (inr none) = false
 
-flag_small : {P : Type 0} (d : Decided P) (number : ℕ) → number < 16 → flag d number < 16
-flag_small (inl p) number lt = lt
-flag_small (inr none) number lt = omega arith
-
-has_bit : {P : Type 0} (d : Decided P) (number k : ℕ) → IsBitSet number k → IsBitSet (flag d number) k ↔ P
-has_bit (inl p) number k set = (λ h. p, λ q. set)
-has_bit (inr none) number k set = (λ h. absurd (no_bit k h), λ q. absurd (none q))
-
-lacks_bit : {P : Type 0} (d : Decided P) (number k : ℕ) → (IsBitSet number k → ⊥) → IsBitSet (flag d number) k → ⊥
-lacks_bit (inl p) number k clear h = clear h
-lacks_bit (inr none) number k clear h = no_bit k h
-
-abbrev union : (a b c d : ℕ) → ℕ
-union a b c d = bit_or (bit_or a b) (bit_or c d)
-
-in_union : (a b c d k : ℕ) → IsBitSet (union a b c d) k → (R : Type 0) → (IsBitSet a k → R) → (IsBitSet b k → R) → (IsBitSet c k → R) →
-    (IsBitSet d k → R) → R
-in_union a b c d k h R of_a of_b of_c of_d = elim (or_to (bit_or a b) (bit_or c d) k h) [
-  | inl one ↦ elim (or_to a b k one) [ inl in_a ↦ of_a in_a | inr in_b ↦ of_b in_b ]
-  | inr other ↦ elim (or_to c d k other) [ inl in_c ↦ of_c in_c | inr in_d ↦ of_d in_d ]
-]
+holds_where : {P : Type 0} (d : Decided P) → IsTrue (holds d) ↔ P
+holds_where (inl p) = (λ h. p, λ q. refl)
+holds_where (inr none) = (λ h. absurd (cc), λ q. absurd (none q))
 
 module _ (m : Module) (well : IsWellFormed m) (f : Function) (of : IsOf m f) (e : ℕ) where
-  decide : (n : Need) → Decided (ExpressionNeeds m n f e)
-  decide n = needs_of m n well f of e
+  -- the set of the needs of the expression
+  pub needs_of : Need → Bool
+  needs_of n = holds (need_decided m n well f of e)
 
-  abbrev barrier : ℕ
-  barrier = flag (decide WorkGroupBarrier) 1
-
-  abbrev derivative : ℕ
-  derivative = flag (decide Derivative) 2
-
-  abbrev level : ℕ
-  level = flag (decide ImplicitLevel) 4
-
-  abbrev operation : ℕ
-  operation = flag (decide CooperativeOperation) 8
-
-  -- the number of the needs of the expression
-  pub needs_number : ℕ
-  needs_number = union barrier derivative level operation
-
-  pub needs_small : needs_number < 16
-  unfolding needs_number decide
-  needs_small =
-      or_lt 4 (bit_or barrier derivative) (bit_or level operation)
-      (or_lt 4 barrier derivative (flag_small (decide WorkGroupBarrier) 1 (omega arith)) (flag_small (decide Derivative) 2 (omega arith)))
-      (or_lt 4 level operation (flag_small (decide ImplicitLevel) 4 (omega arith))
-      (flag_small (decide CooperativeOperation) 8 (omega arith)))
-
-  pub needs_bits : (n : Need) → IsBitSet needs_number (bit_of_need n) ↔ ExpressionNeeds m n f e
-  unfolding needs_number decide
-  needs_bits WorkGroupBarrier =
-      let is = has_bit (decide WorkGroupBarrier) 1 0 (of_bit 1 0 refl) in (
-        λ h. in_union barrier derivative level operation 0 h (ExpressionNeeds m WorkGroupBarrier f e) is.0
-            (λ o. absurd (lacks_bit (decide Derivative) 2 0 (not_bit 2 0 refl) o))
-            (λ o. absurd (lacks_bit (decide ImplicitLevel) 4 0 (not_bit 4 0 refl) o))
-            (λ o. absurd (lacks_bit (decide CooperativeOperation) 8 0 (not_bit 8 0 refl) o)),
-        λ p. or_of (bit_or barrier derivative) (bit_or level operation) 0 (inl (or_of barrier derivative 0 (inl (is.1 p)))),
-      )
-  needs_bits Derivative =
-      let is = has_bit (decide Derivative) 2 1 (of_bit 2 1 refl) in (
-        λ h. in_union barrier derivative level operation 1 h (ExpressionNeeds m Derivative f e)
-            (λ o. absurd (lacks_bit (decide WorkGroupBarrier) 1 1 (not_bit 1 1 refl) o)) is.0
-            (λ o. absurd (lacks_bit (decide ImplicitLevel) 4 1 (not_bit 4 1 refl) o))
-            (λ o. absurd (lacks_bit (decide CooperativeOperation) 8 1 (not_bit 8 1 refl) o)),
-        λ p. or_of (bit_or barrier derivative) (bit_or level operation) 1 (inl (or_of barrier derivative 1 (inr (is.1 p)))),
-      )
-  needs_bits ImplicitLevel =
-      let is = has_bit (decide ImplicitLevel) 4 2 (of_bit 4 2 refl) in (
-        λ h. in_union barrier derivative level operation 2 h (ExpressionNeeds m ImplicitLevel f e)
-            (λ o. absurd (lacks_bit (decide WorkGroupBarrier) 1 2 (not_bit 1 2 refl) o))
-            (λ o. absurd (lacks_bit (decide Derivative) 2 2 (not_bit 2 2 refl) o)) is.0
-            (λ o. absurd (lacks_bit (decide CooperativeOperation) 8 2 (not_bit 8 2 refl) o)),
-        λ p. or_of (bit_or barrier derivative) (bit_or level operation) 2 (inr (or_of level operation 2 (inl (is.1 p)))),
-      )
-  needs_bits CooperativeOperation =
-      let is = has_bit (decide CooperativeOperation) 8 3 (of_bit 8 3 refl) in (
-        λ h. in_union barrier derivative level operation 3 h (ExpressionNeeds m CooperativeOperation f e)
-            (λ o. absurd (lacks_bit (decide WorkGroupBarrier) 1 3 (not_bit 1 3 refl) o))
-            (λ o. absurd (lacks_bit (decide Derivative) 2 3 (not_bit 2 3 refl) o))
-            (λ o. absurd (lacks_bit (decide ImplicitLevel) 4 3 (not_bit 4 3 refl) o)) is.0,
-        λ p. or_of (bit_or barrier derivative) (bit_or level operation) 3 (inr (or_of level operation 3 (inr (is.1 p)))),
-      )
+  pub all_needs : (n : Need) → IsTrue (needs_of n) ↔ ExpressionNeeds m n f e
+  unfolding needs_of
+  all_needs n = holds_where (need_decided m n well f of e)

@@ -12,7 +12,7 @@ use Rattle.shader_analysis_spec.specs.Program.{Body, Emit, Function, Leaf, Modul
 use Rattle.shader_ir.specs.declared.module.Severity.TheVariants as severity
 use Rattle.shader_resolve.specs.WellFormed.{IsWellFormed}
 use Rattle.shader_typing.proofs.DecidedLemmas.{origins_decided}
-use Rattle.shader_typing.proofs.DecidedNeeds.{needs_bits, needs_number, needs_small}
+use Rattle.shader_typing.proofs.DecidedNeeds.{all_needs, needs_of}
 use Rattle.shader_typing.specs.Divergence.{AcceptedWalksAgree, AlikeWalksPassAlike, IsOf}
 
 pub alike_walks_pass_alike : AlikeWalksPassAlike
@@ -35,7 +35,7 @@ module _ (m : Module) (settings : Settings) (well : IsWellFormed m) (f : Functio
       let same : Disrupted has_source (KillsAt m) f.body _ p =
       more_disrupted (HasOrigin m f) has_source (KillsAt m) (KillsAt m) f.body turned (λ c arguments result b q k. k) _ p d in
       let (disruptor, disrupts) = reason (IsOriginOf m f) (KillsAt m) (λ n e. ExpressionNeeds m n f e) (PairAt m) m settings f _ p same in (
-        NonUniformControlFlow (needs_number m well f of e) e disruptor,
+        NonUniformControlFlow (needs_of m well f of e) e disruptor,
         flow_violation checks grave (record {
           start = i;
           finish = j;
@@ -46,8 +46,7 @@ module _ (m : Module) (settings : Settings) (well : IsWellFormed m) (f : Functio
           disrupted = same;
           need = n;
           needed = needs;
-          small = needs_small m well f of e;
-          bits = needs_bits m well f of e;
+          all = all_needs m well f of e;
           disrupts = disrupts;
         }),
       )

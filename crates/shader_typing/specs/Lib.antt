@@ -1,11 +1,11 @@
 pub mod Contexts
 pub mod Divergence
 pub mod ExactRecord
-pub mod Growth
 pub mod InfoAnswers
 pub use Rattle.shader_analysis.specs.AddedTypes
 pub use Rattle.shader_analysis.specs.Analyzable
 pub use Rattle.shader_analysis.specs.Fitting
+pub use Rattle.shader_analysis.specs.Growth
 pub use Rattle.shader_analysis.specs.Processed
 pub use Rattle.shader_analysis.specs.Reached
 pub use Rattle.shader_analysis.specs.Recorded as ModuleRecorded
@@ -32,6 +32,7 @@ pub use Rattle.shader_analysis_spec.specs.Origins
 pub use Rattle.shader_analysis_spec.specs.Pairs
 pub use Rattle.shader_analysis_spec.specs.Program
 pub use Rattle.shader_analysis_spec.specs.Samples
+pub use Rattle.shader_analysis_spec.specs.StepFaults
 pub use Rattle.shader_analysis_spec.specs.Steps
 pub use Rattle.shader_analysis_spec.specs.Stored
 pub use Rattle.shader_analysis_spec.specs.Uses
@@ -240,9 +241,37 @@ pub use Rattle.shader_resolve.specs.WellFormed
 pub use Rattle.shader_resolve.specs.declared.context.ResolveContext
 pub use Rattle.shader_resolve.specs.declared.error.ResolveError
 pub use Rattle.shader_resolve.specs.declared.well_formed.ModuleFault
+pub use Rattle.shader_resolve.specs.declared.well_formed.locations.FaultAt
 pub use Rattle.shader_resolve.specs.declared.well_formed.locations.ModuleLocation
 pub use Rattle.shader_typifier.specs.Grown
 pub use Rattle.shader_typifier.specs.Laws as TypifierLaws
 pub use Rattle.shader_typifier.specs.Registered
 pub use Rattle.shader_typifier.specs.declared.error.TypifyError
 pub use Rattle.shader_typifier.specs.declared.typifier.Typifier
+pub use Rattle.shader_uniformity.specs.Apart
+pub use Rattle.shader_uniformity.specs.Calls as UniformityCalls
+pub use Rattle.shader_uniformity.specs.Differs
+pub use Rattle.shader_uniformity.specs.Fault
+pub use Rattle.shader_uniformity.specs.Filters as UniformityFilters
+pub use Rattle.shader_uniformity.specs.Leaves
+pub use Rattle.shader_uniformity.specs.Lockstep
+pub use Rattle.shader_uniformity.specs.Marks
+pub use Rattle.shader_uniformity.specs.Needs as UniformityNeeds
+pub use Rattle.shader_uniformity.specs.Places
+pub use Rattle.shader_uniformity.specs.Positions as UniformityPositions
+pub use Rattle.shader_uniformity.specs.RunWords
+pub use Rattle.shader_uniformity.specs.Together
+pub use Rattle.shader_uniformity.specs.Traces
+pub use Rattle.shader_uniformity.specs.Verdict
+pub use Rattle.shader_uniformity.specs.Words as UniformityWords
+pub use Rattle.shader_uniformity.specs.declared.facts.BodyLocation
+pub use Rattle.shader_uniformity.specs.declared.facts.Fact
+pub use Rattle.shader_uniformity.specs.declared.facts.Jump
+pub use Rattle.shader_uniformity.specs.declared.facts.Place
+pub use Rattle.shader_uniformity.specs.declared.facts.Rule as UniformityRule
+pub use Rattle.shader_uniformity.specs.declared.divergence.Uniformity as DivergenceUniformity
+pub use Rattle.shader_uniformity_trace.specs.Chains
+pub use Rattle.shader_uniformity_trace.specs.Laws as TraceLaws
+pub use Rattle.shader_uniformity_trace.specs.declared.link.FunctionLocation
+pub use Rattle.shader_uniformity_trace.specs.declared.link.Link
+pub use Rattle.shader_uniformity_trace.specs.declared.why.Reasons

@@ -2,7 +2,7 @@
 //! names here, those of the IR at `ir::laws`, and those of overload sets at `proc::overloads::laws`.
 ghost use Rattle.shader_typing.specs.Contexts.{ExpressionsFit, FunctionsFit, PositionsAreOfFunctions};
 ghost use Rattle.shader_typing.specs.Divergence.{AcceptedWalksAgree, AlikeWalksPassAlike, OriginsAreDecided};
-ghost use Rattle.shader_typing.specs.Growth.{EntryCanBeProcessed, InfosGrow, NextCanBeProcessed, NoneAreStored};
+ghost use Rattle.shader_analysis.specs.Growth.{EntryCanBeProcessed, InfosGrow, NextCanBeProcessed, NoneAreStored};
 ghost use Rattle.shader_typing.specs.InfoAnswers.{ExactRecordsAnswer};
 
 pub use shader_analysis_spec::laws as analysis_spec;
@@ -10,6 +10,8 @@ pub use shader_bounds::laws as bounds;
 pub use shader_overloads_laws as overloads;
 pub use shader_resolve::laws as resolve;
 pub use shader_typifier::laws as typifier;
+pub use shader_uniformity::laws as uniformity;
+pub use shader_uniformity_trace::laws as uniformity_trace;
 
 /// States that each expression of a function or an entry point of a well-formed module has an origin or has none. The logic has no excluded
 /// middle, but operands are earlier expressions, and callees earlier functions.

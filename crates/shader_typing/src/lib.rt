@@ -6,6 +6,7 @@
 pub mod front;
 pub mod laws;
 pub mod proc;
+pub mod uniformity;
 pub mod valid;
 
 pub use shader_arena as arena;

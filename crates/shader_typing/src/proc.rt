@@ -13,5 +13,7 @@ pub use shader_ir::proc::{
     vector_size_str, vector_sizes,
 };
 pub use shader_overloads as overloads;
-pub use shader_overloads::{Conclusion, MathOverloads, MissingSpecialType, OverloadSet, Rule};
+pub use shader_overloads::{
+    Conclusion, MathOverloads, MissingSpecialType, OverloadSet, Rule, rule_of,
+};
 pub use shader_resolve::{ResolveContext, ResolveError};

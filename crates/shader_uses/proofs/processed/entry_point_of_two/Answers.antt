@@ -8,5 +8,5 @@ process_function-requires-clause-stored c =
     let none : length c.new-info.result.functions ≡ 0 = ap (λ (v : Recorded). length v.functions) c.new-info.ensures in
     let one = c.in_ok-add_next.ensures.one in
     let two = c.in_ok-add_next-2.ensures.one in
-    entry_can_be_processed c.args.module.now c.add_next-2.new.info 0 (omega (arith, none, one, two, c.requires.functions))
+    entry_can_be_processed c.args.module.now c.add_next-2.new.self 0 (omega (arith, none, one, two, c.requires.functions))
     c.requires.entry_points c.in_ok-add_next-2.ensures.stored
