@@ -1,5 +1,5 @@
 -- Names of items as text, and numbers of items without a name.
-use Rattle.std.specs.Prelude.{ℕ, Bool, ◌||◌, ◌==◌, List, [], ◌∷◌, ◌++◌, Option, Some, None, codes, if◌then◌else◌}
+use Rattle.std.specs.Prelude.{ℕ, Bool, ◌||◌, ◌==◌, List, [], ◌∷◌, ◌++◌, Option, Some, None, codes, length, nat_lt, if◌then◌else◌}
 use Rattle.std.specs.Char.{is_ascii_control}
 use Rattle.std.specs.Fmt.{decimal}
 use Rattle.std.specs.List.{list_any}
@@ -20,6 +20,6 @@ may_begin_control byte = is_ascii_control byte || (byte == 194)
 abbrev pub may_have_control : List ℕ → Bool
 may_have_control name = list_any may_begin_control name
 
--- a name that may have a control character is escaped; no clause says how
+-- a name that may have a control character is escaped, and one of more than 200 bytes is cut; no clause says how
 abbrev pub named_text : List ℕ → ℕ → Option (List ℕ)
-named_text name position = if may_have_control name then None else Some (name_text name position)
+named_text name position = if may_have_control name || nat_lt 200 (length name) then None else Some (name_text name position)

@@ -87,6 +87,29 @@ impl fmt::Display for StepsText<'_> {
     }
 }
 
+/// The most steps that are printed of a chain of which the beginning alone is given.
+pub const MOST_STEPS: usize = 20;
+
+/// The first steps of a chain, one a line, with a line more if it has more steps than are printed.
+#[derive(Clone, Copy)]
+pub struct BeginningText<'a> {
+    pub module: &'a Module,
+    pub steps: &'a [Step],
+}
+
+impl fmt::Display for BeginningText<'_> {
+    fn fmt<W: fmt::Write>(&self, f: &mut fmt::Formatter<W>) -> fmt::Result {
+        let module = self.module;
+        let (steps, more) = self.steps.split_at(MOST_STEPS.min(self.steps.len()));
+        write!(f, "{}", StepsText { module, steps })?;
+        f.write_str(if more.is_empty() {
+            ""
+        } else {
+            "    .. more steps ..\n"
+        })
+    }
+}
+
 /// The number of steps that are printed at either end of a long chain.
 const STEPS_AT_END: usize = 50;
 

@@ -1,6 +1,8 @@
 //! The analysis results for a function as text.
+ghost use Rattle.std.specs.Prelude.{◌≡◌, slice_get};
+ghost use Rattle.std.specs.Option.{option_and_then};
 
-use crate::chain::{ChainText, Step};
+use crate::chain::{BeginningText, Step};
 use crate::location::LocationText;
 use crate::lookup::function_at;
 use crate::names::{ExpressionText, argument_name, global_name, numbered_global};
@@ -10,13 +12,25 @@ use shader_info::{
     AnalysisLocation, ExpressionInfo, FunctionInfo, GlobalOrArgument, GlobalUse, Sampling,
     Uniformity,
 };
+use shader_interface::{AttributesText, ResourceBinding};
 use shader_ir::{Function, Module};
 use std::fmt;
 
-/// The used globals with their uses, one a line.
+/// Returns where the host binds the global at a position, if that is known.
+fn bound_at(bindings: &[Option<ResourceBinding>], position: usize) -> Option<ResourceBinding>
+    ensures { result ≡ option_and_then (λ bound. bound) (slice_get bindings.now position) }
+{
+    match bindings.get(position) {
+        Some(bound) => *bound,
+        None => None,
+    }
+}
+
+/// The used globals with their bindings and uses, one a line.
 #[derive(Clone, Copy)]
 struct UsesText<'a> {
     module: &'a Module,
+    bindings: &'a [Option<ResourceBinding>],
     uses: &'a [GlobalUse],
 }
 
@@ -24,8 +38,9 @@ impl fmt::Display for UsesText<'_> {
     fn fmt<W: fmt::Write>(&self, f: &mut fmt::Formatter<W>) -> fmt::Result {
         for (position, uses) in self.uses.iter().enumerate() {
             if uses.known().0 != 0 {
+                let attributes = AttributesText(bound_at(self.bindings, position));
                 let name = numbered_global(self.module, position);
-                write!(f, "  uses {name}:{}\n", UseText(*uses))?;
+                write!(f, "  uses {attributes}{name}:{}\n", UseText(*uses))?;
             }
         }
         Ok(())
@@ -148,22 +163,24 @@ impl fmt::Display for FlowText<'_> {
         } else {
             &self.chain[1..]
         };
-        let chain = ChainText {
+        let beginning = BeginningText {
             module: self.module,
             steps,
         };
-        write!(f, "{chain}")
+        write!(f, "{beginning}")
     }
 }
 
 /// The analysis results for the function or entry point at a location.
 ///
 /// The sets of an info are given as slices in the order of printing: `pairs` are the positions of a global image and of a global sampler,
-/// and `sampling` the pairs with an argument. `chain` leads from the function's result, its first step, to a source. It is empty if it
-/// isn't known.
+/// and `sampling` the pairs with an argument. `bindings` has where the host binds each global, by position, as far as that is known.
+/// `chain` leads from the function's result, its first step, to a source; its first `MOST_STEPS + 2` steps do, since no more than
+/// `MOST_STEPS` behind the first are printed. It is empty if it isn't known.
 #[derive(Clone, Copy)]
 pub struct FunctionText<'a> {
     pub module: &'a Module,
+    pub bindings: &'a [Option<ResourceBinding>],
     pub location: AnalysisLocation,
     pub info: &'a FunctionInfo,
     pub pairs: &'a [(usize, usize)],
@@ -180,6 +197,7 @@ impl fmt::Display for FunctionText<'_> {
         };
         let uses = UsesText {
             module,
+            bindings: self.bindings,
             uses: self.info.global_uses.as_slice(),
         };
         let pairs = PairsText {

@@ -17,7 +17,7 @@ mod structs;
 mod types;
 mod words;
 
-pub use chain::{ChainText, Step};
+pub use chain::{ChainText, MOST_STEPS, Step};
 pub use disruptor::differing;
 pub use fault::ErrorText;
 pub use function_text::FunctionText;

@@ -5,7 +5,8 @@ ghost use Rattle.shader_info_text.specs.Differing.{function_at};
 
 use shader_arena::Handle;
 use shader_info::AnalysisLocation;
-use shader_ir::{Function, Layouter, Module, TypeLayout, mark};
+use shader_ir::proc::{Layouter, TypeLayout};
+use shader_ir::{Function, Module, mark};
 
 /// Returns the layout of a type, if it has one.
 pub fn layout_at(layouts: &Layouter, ty: Handle<mark::Type>) -> Option<TypeLayout>

@@ -4,7 +4,8 @@ use crate::chain::LocatedExpressionText;
 use crate::location::LocationText;
 use crate::names::{constant_name, global_name, override_name, type_name};
 use shader_info::AnalysisLocation;
-use shader_ir::{LayoutError, Module};
+use shader_ir::Module;
+use shader_ir::proc::LayoutError;
 use shader_resolve::{ModuleFault, ModuleLocation};
 use std::fmt;
 

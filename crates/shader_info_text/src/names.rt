@@ -26,7 +26,11 @@ fn may_have_control(name: &str) -> bool
         .any(|byte| byte.is_ascii_control() || *byte == 0xC2)
 }
 
-/// A name, quoted and escaped if it may have control characters, or the number after a `#` if it is empty.
+/// The most bytes of a name that are printed, so that a text doesn't grow by a long name at each place that it is named.
+const MOST_BYTES: usize = 200;
+
+/// A name, quoted and escaped if it may have control characters, or the number after a `#` if it is empty. Of a name of more than 200 bytes
+/// the characters that begin it stand before its length.
 #[derive(Clone, Copy)]
 pub struct NameText<'a> {
     pub name: &'a str,
@@ -39,6 +43,14 @@ impl fmt::Display for NameText<'_> {
     fn fmt<W: fmt::Write>(&self, f: &mut fmt::Formatter<W>) -> fmt::Result {
         if self.name.is_empty() {
             write!(f, "#{}", self.position)
+        } else if self.name.len() > MOST_BYTES {
+            let begin = &self.name[..self.name.floor_char_boundary(MOST_BYTES)];
+            if may_have_control(begin) {
+                write!(f, "{begin:?}")?;
+            } else {
+                f.write_str(begin)?;
+            }
+            write!(f, ".. ({} bytes)", self.name.len())
         } else if may_have_control(self.name) {
             write!(f, "{:?}", self.name)
         } else {

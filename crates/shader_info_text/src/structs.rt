@@ -6,7 +6,8 @@ use crate::lookup::layout_at;
 use crate::names::{NameText, given, type_name};
 use crate::types::TypeText;
 use shader_arena::Handle;
-use shader_ir::{Items, Layouter, Module, StructMember, TypeInner, TypeLayout, mark};
+use shader_ir::proc::{Layouter, TypeLayout};
+use shader_ir::{Items, Module, StructMember, TypeInner, mark};
 use std::fmt;
 
 /// Bytes of a struct that belong to no member.

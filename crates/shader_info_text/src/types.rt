@@ -2,7 +2,8 @@
 
 use crate::names::{NameText, override_name, type_name};
 use shader_arena::Handle;
-use shader_ir::{ArraySize, Module, TypeInner, mark, vector_size_str};
+use shader_ir::proc::vector_size_str;
+use shader_ir::{ArraySize, Module, TypeInner, mark};
 use shader_type_text::ScalarText;
 use std::fmt;
 

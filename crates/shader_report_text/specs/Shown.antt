@@ -7,7 +7,7 @@ use Rattle.shader_info_text.specs.declared.chain.Step.TheVariants as step
 use Rattle.shader_info.specs.declared.error.AnalysisError.{AnalysisError}
 use Rattle.shader_info.specs.declared.error.AnalysisLocation.{AnalysisLocation}
 use Rattle.shader_info.specs.declared.error.AnalysisLocation.TheVariants as at
-use Rattle.shader_uniformity_trace.specs.Chains.{Explains}
+use Rattle.shader_uniformity_trace.specs.Chains.{Explains, ExplainsBeginning}
 use Rattle.shader_uniformity_trace.specs.declared.link.FunctionLocation.{FunctionLocation}
 use Rattle.shader_uniformity_trace.specs.declared.link.FunctionLocation.TheVariants as location
 use Rattle.shader_uniformity_trace.specs.declared.link.Link.{Link}
@@ -34,6 +34,12 @@ steps_of None = []
 pub record Shows (m : Module) (first : Link) (steps : List Step) : Type 0 where
   pub chain : Option (List Link)
   pub explains : Explains m first chain
+  pub are : steps ≡ steps_of chain
+
+-- the steps of the beginning of a chain from the link, at most so many, or none if there is no chain
+pub record ShowsBeginning (m : Module) (first : Link) (most : ℕ) (steps : List Step) : Type 0 where
+  pub chain : Option (List Link)
+  pub explains : ExplainsBeginning m first most chain
   pub are : steps ≡ steps_of chain
 
 -- the chain of the expression that causes a refusal, or no step if none does

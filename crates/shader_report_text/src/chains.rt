@@ -1,6 +1,6 @@
 //! Chains to a source of non-uniformity as steps for printing.
-ghost use Rattle.std.specs.Prelude.{◌≡◌, IfOk, map};
-ghost use Rattle.shader_report_text.specs.Shown.{Shows, analysis_location, step_of_link};
+ghost use Rattle.std.specs.Prelude.{◌≡◌, ◌<◌, IfOk, map};
+ghost use Rattle.shader_report_text.specs.Shown.{Shows, ShowsBeginning, analysis_location, step_of_link};
 
 use shader_info::AnalysisLocation;
 use shader_info_text::Step;
@@ -35,6 +35,27 @@ fn steps_of(alloc: Global, links: &[Link]) -> Result<Vec<Step>, AllocError>
     ensures { IfOk result (λ steps. steps.items ≡ map step_of_link links.now) }
 {
     links.iter().map(|link| step_of(*link)).collect(alloc)
+}
+
+/// Returns the first steps of a chain from a link to a source, at most `most`, or none if the link's value is uniform.
+///
+/// # Errors
+///
+/// `AllocError` if allocation fails.
+#[tactic(auto, using(crate::proofs::ShownLemmas::begun, crate::proofs::ShownLemmas::begun_none))]
+pub fn first_steps_from(
+    alloc: Global,
+    reasons: &Reasons<'_>,
+    link: Link,
+    most: usize,
+) -> Result<Vec<Step>, AllocError>
+    requires { 0 < most }
+    ensures { IfOk result (λ steps. ShowsBeginning reasons.now link most steps.items) }
+{
+    match reasons.why_begins(alloc, link, most)? {
+        Some(begun) => steps_of(alloc, begun.as_slice()),
+        None => Ok(Vec::new(alloc)),
+    }
 }
 
 /// Returns the steps of a chain from a link through operands and calls to a source, or none if the link's value is uniform.

@@ -1,13 +1,14 @@
 //! The sections of the report on functions, on entry points and on a refusal.
 ghost use Rattle.std.specs.Prelude.{◌≡◌, length, IfOk};
 ghost use Rattle.shader_uniformity_trace.specs.declared.link.Link.TheVariants as link;
-ghost use Rattle.shader_report_text.specs.Shown.{Shows, ShowsRefusal, function_location};
+ghost use Rattle.shader_report_text.specs.Shown.{ShowsBeginning, ShowsRefusal, function_location};
 
-use crate::chains::{analysis_location, steps_from};
+use crate::chains::{analysis_location, first_steps_from, steps_from};
 use shader_analysis::ModuleInfo;
 use shader_arena::Handle;
 use shader_info::{AnalysisError, AnalysisLocation, FunctionInfo, GlobalOrArgument, Sampling};
-use shader_info_text::{ErrorText, FunctionText, Step, differing};
+use shader_info_text::{ErrorText, FunctionText, MOST_STEPS, Step, differing};
+use shader_interface::ResourceBinding;
 use shader_ir::{Items, Module, mark};
 use shader_uniformity_trace::{FunctionLocation, Link, Reasons};
 use std::alloc::{AllocError, Global};
@@ -70,12 +71,12 @@ fn details_of(
     location: &FunctionLocation,
     info: &FunctionInfo,
 ) -> Result<FunctionDetails, AllocError>
-    ensures { IfOk result (λ details. Shows reasons.now (link.Result location.now) details.chain.items) }
+    ensures { IfOk result (λ details. ShowsBeginning reasons.now (link.Result location.now) 22 details.chain.items) }
 {
     Ok(FunctionDetails {
         pairs: info.sorted_pairs(alloc)?,
         sampling: sampling_of(alloc, info)?,
-        chain: steps_from(alloc, reasons, Link::Result(*location))?,
+        chain: first_steps_from(alloc, reasons, Link::Result(*location), MOST_STEPS + 2)?,
     })
 }
 
@@ -83,12 +84,14 @@ fn details_of(
 fn text_of<'a>(
     alloc: Global,
     module: &'a Module,
+    bindings: &'a [Option<ResourceBinding>],
     location: &FunctionLocation,
     info: &'a FunctionInfo,
     details: &'a FunctionDetails,
 ) -> Result<String, AllocError> {
     let function = FunctionText {
         module,
+        bindings,
         location: analysis_location(*location),
         info,
         pairs: details.pairs.as_slice(),
@@ -102,13 +105,14 @@ fn text_of<'a>(
 fn add_function(
     alloc: Global,
     module: &Module,
+    bindings: &[Option<ResourceBinding>],
     reasons: &Reasons<'_>,
     location: &FunctionLocation,
     info: &FunctionInfo,
     text: &mut String,
 ) -> Result<(), AllocError> {
     let details = details_of(alloc, reasons, location, info)?;
-    let more = text_of(alloc, module, location, info, &details)?;
+    let more = text_of(alloc, module, bindings, location, info, &details)?;
     text.push_str(more.as_str())
 }
 
@@ -116,6 +120,7 @@ fn add_function(
 pub fn add_functions(
     alloc: Global,
     module: &Module,
+    bindings: &[Option<ResourceBinding>],
     reasons: &Reasons<'_>,
     infos: &ModuleInfo,
     text: &mut String,
@@ -126,12 +131,20 @@ pub fn add_functions(
     for index in 0..module.functions.len() {
         let handle: Handle<mark::Function> = Handle::from_index(index as u32);
         let location = FunctionLocation::Function(handle);
-        add_function(alloc, module, reasons, &location, &infos[handle], text)?;
+        add_function(
+            alloc,
+            module,
+            bindings,
+            reasons,
+            &location,
+            &infos[handle],
+            text,
+        )?;
     }
     for index in 0..module.entry_points.len() {
         let location = FunctionLocation::EntryPoint(index);
         let info = infos.get_entry_point(index);
-        add_function(alloc, module, reasons, &location, info, text)?;
+        add_function(alloc, module, bindings, reasons, &location, info, text)?;
     }
     Ok(())
 }

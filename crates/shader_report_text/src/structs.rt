@@ -3,7 +3,8 @@
 use layout_drawing::{DrawingText, LabelText, Order, OrderText, Slot, pieces_of, smaller_order};
 use shader_arena::Handle;
 use shader_info_text::{StructText, StructsText};
-use shader_ir::{ArraySize, Layouter, Module, StructMember, TypeInner, mark};
+use shader_ir::proc::Layouter;
+use shader_ir::{ArraySize, Module, StructMember, TypeInner, mark};
 use std::alloc::{AllocError, Global};
 
 /// The most members of a struct in whose drawing those that are structs are drawn too, and the most members of such a one.

@@ -10,9 +10,10 @@ use crate::structs::add_structs;
 use shader_analysis::{analyze_module, is_fault};
 use shader_info::{AnalysisError, Capabilities, ValidationFlags};
 use shader_info_text::{LayoutFaultText, ModuleFaultText};
+use shader_interface::ResourceBinding;
 use shader_ir::Module;
 use shader_ir::proc::{Layouter, UpdateError};
-use shader_resolve::{ModuleFault, ModuleLocation, find_fault};
+use shader_resolve::{FaultAt, find_fault};
 use shader_uniformity_trace::Reasons;
 use std::alloc::{AllocError, Global};
 
@@ -26,18 +27,13 @@ pub struct Summary {
 }
 
 /// Returns the report on a module that isn't well formed.
-fn faulty(
-    alloc: Global,
-    module: &Module,
-    location: ModuleLocation,
-    fault: ModuleFault,
-) -> Result<Summary, AllocError>
+fn faulty(alloc: Global, module: &Module, found: FaultAt) -> Result<Summary, AllocError>
     ensures { IfOk result (λ summary. summary.is_accepted ≡ false) }
 {
     let fault = ModuleFaultText {
         module,
-        location,
-        fault,
+        location: found.location,
+        fault: found.fault,
     };
     let text = format!(in alloc; "{fault}")?;
     Ok(Summary {
@@ -97,6 +93,7 @@ fn add_refused(
 fn add_analysis(
     alloc: Global,
     module: &Module,
+    bindings: &[Option<ResourceBinding>],
     flags: ValidationFlags,
     capabilities: Capabilities,
     text: &mut String,
@@ -107,7 +104,7 @@ fn add_analysis(
     let reasons = Reasons::of(alloc, module)?;
     match analyze_module(alloc, module, flags, capabilities) {
         Ok(infos) => {
-            add_functions(alloc, module, &reasons, &infos, text)?;
+            add_functions(alloc, module, bindings, &reasons, &infos, text)?;
             Ok(true)
         }
         Err(error) => add_refused(alloc, module, &reasons, &error, text),
@@ -119,6 +116,7 @@ fn add_analysis(
 fn analysed(
     alloc: Global,
     module: &Module,
+    bindings: &[Option<ResourceBinding>],
     flags: ValidationFlags,
     capabilities: Capabilities,
     is_drawn: bool,
@@ -128,7 +126,7 @@ fn analysed(
 {
     let mut text = String::new(alloc);
     let laid = add_layouts(alloc, module, is_drawn, &mut text)?;
-    let found = add_analysis(alloc, module, flags, capabilities, &mut text)?;
+    let found = add_analysis(alloc, module, bindings, flags, capabilities, &mut text)?;
     text.push_str(if laid && found { "accepted\n" } else { "" })?;
     Ok(Summary {
         text,
@@ -138,6 +136,7 @@ fn analysed(
 
 /// Reports on a module for people, and decides whether it is accepted.
 ///
+/// `bindings` has where the host binds each global, by position, which is told beside its uses; of a global beyond them nothing is told.
 /// `check_module` and the analysis recurse along nested blocks, so check `nests_within` first.
 ///
 /// # Errors
@@ -147,6 +146,7 @@ fn analysed(
 pub fn summarize(
     alloc: Global,
     module: &Module,
+    bindings: &[Option<ResourceBinding>],
     flags: ValidationFlags,
     capabilities: Capabilities,
     is_drawn: bool,
@@ -154,7 +154,7 @@ pub fn summarize(
     ensures { IfOk result (λ summary. IsVerdict «module».now (settings_of flags capabilities) summary.is_accepted) }
 {
     match find_fault(module) {
-        Some((location, fault)) => faulty(alloc, module, location, fault),
-        None => analysed(alloc, module, flags, capabilities, is_drawn),
+        Some(found) => faulty(alloc, module, found),
+        None => analysed(alloc, module, bindings, flags, capabilities, is_drawn),
     }
 }

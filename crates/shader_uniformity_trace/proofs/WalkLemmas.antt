@@ -51,6 +51,12 @@ module _ (m : Module) (table : Table) (are : IsTable m table) where
     both None none = (λ some. absurd (cc), λ has. let (r, is) = origin_reason m first has in absurd (none r is))
     both (Some reason) is = (λ some. reason_origin m first reason is, λ has. refl)
 
+-- a chain with one link more
+pub longer : (m : Module) {first last next : Link} {links : List Link} → IsChain m first links last → LinksTo m last next →
+    IsChain m first (links ++ next ∷ []) next
+longer m chain.one leads = chain.more leads chain.one
+longer m (chain.more step rest) leads = chain.more step (longer m rest leads)
+
 -- the number of links before those of a function, and the number of its own links before its result
 abbrev pub width : Option Function → ℕ
 width (Some f) = length f.expressions

@@ -1,5 +1,5 @@
 -- Chains of links from a non-uniform value to its source.
-use Rattle.std.specs.Prelude.{◌≡◌, ℕ, List, [], ◌∷◌, Option, Some, None, slice_get, length}
+use Rattle.std.specs.Prelude.{◌≡◌, ◌⊎◌, ℕ, List, [], ◌∷◌, Option, Some, None, slice_get, length}
 use Rattle.std.specs.List.{Contains}
 use Rattle.shader_ir.specs.declared.expression.Expression.TheVariants as form
 use Rattle.shader_ir.specs.declared.function.EntryPoint.{EntryPoint}
@@ -58,6 +58,17 @@ pub record IsOriginChain (m : Module) (first : Link) (links : List Link) : Type 
   pub last : Link
   pub chain : IsChain m first links last
   pub source : IsSourceAt m last
+
+-- the beginning of a chain to a source, of at most so many links: all of it, or so many links, the last of which has an origin
+pub record BeginsChain (m : Module) (first : Link) (most : ℕ) (links : List Link) : Type 0 where
+  pub last : Link
+  pub chain : IsChain m first links last
+  pub ends : IsSourceAt m last ⊎ ((length links ≡ most) × HasOriginAt m last)
+
+-- the beginning of a chain if there is an origin, and None if there is none
+abbrev pub ExplainsBeginning : Module → Link → ℕ → Option (List Link) → Type 0
+ExplainsBeginning m first most (Some links) = BeginsChain m first most links
+ExplainsBeginning m first most None = HasOriginAt m first → ⊥
 
 -- a chain if there is an origin, and None if there is none
 abbrev pub Explains : Module → Link → Option (List Link) → Type 0

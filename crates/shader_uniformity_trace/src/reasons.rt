@@ -9,10 +9,8 @@ ghost use Rattle.shader_uniformity_trace.specs.Reasons.{reason_at, result_reason
 
 use crate::link::{FunctionLocation, Link};
 use shader_arena::Handle;
-use shader_ir::{
-    Expression, Function, Module, Operands, Statement, expression_operands, mark,
-    statement_operands,
-};
+use shader_ir::proc::{Operands, expression_operands, statement_operands};
+use shader_ir::{Expression, Function, Module, Statement, mark};
 use shader_passes::facts::callee_of;
 use shader_passes::sources::is_source;
 use std::alloc::{AllocError, Global};

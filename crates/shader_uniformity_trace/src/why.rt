@@ -1,7 +1,7 @@
 //! The chain of links from a value that may differ among invocations to a source.
-ghost use Rattle.std.specs.Prelude.{◌≡◌, ◌++◌, ◌∷◌, [], IfOk, IsOk, IsTrue, OnOk, option_map, ◌↔◌};
+ghost use Rattle.std.specs.Prelude.{◌≡◌, ◌<◌, ◌++◌, ◌∷◌, [], IfOk, IsOk, IsTrue, OnOk, option_map, ◌↔◌};
 ghost use Rattle.shader_resolve.specs.WellFormed.{IsWellFormed};
-ghost use Rattle.shader_uniformity_trace.specs.Chains.{Explains, HasOriginAt, IsOriginChain};
+ghost use Rattle.shader_uniformity_trace.specs.Chains.{BeginsChain, Explains, ExplainsBeginning, HasOriginAt, IsOriginChain};
 ghost use Rattle.shader_uniformity_trace.specs.Trace.{LeadsTo};
 
 use crate::link::Link;
@@ -81,6 +81,55 @@ impl<'a> Reasons<'a> {
             Ok(None)
         }
     }
+
+    /// Returns the beginning of a chain from the value to a source, of at most `most` links, or `None` if the value is uniform. It walks no
+    /// further than it returns.
+    ///
+    /// # Errors
+    ///
+    /// `AllocError` if the memory for the links can't be allocated. A uniform value needs none.
+    pub fn why_begins(
+        &self,
+        alloc: Global,
+        link: Link,
+        most: usize,
+    ) -> Result<Option<Vec<Link>>, AllocError>
+        requires some { 0 < most }
+        ensures chain { IfOk result (λ chain. ExplainsBeginning self.now link most (option_map (λ links. links.items) chain)) }
+        ensures uniform { (HasOriginAt self.now link → ⊥) → IsOk result }
+    {
+        if !self.may_differ(&link) {
+            return Ok(None);
+        }
+        let beginning = beginning_from(alloc, self, &link, most)?;
+        Ok(Some(beginning))
+    }
+}
+
+/// Returns the beginning of the chain from a link that has an origin.
+fn beginning_from(
+    alloc: Global,
+    reasons: &Reasons<'_>,
+    start: &Link,
+    most: usize,
+) -> Result<Vec<Link>, AllocError>
+    requires some { 0 < most }
+    requires origin { HasOriginAt reasons.now start.now }
+    ensures { IfOk result (λ links. BeginsChain reasons.now start.now most links.items) }
+{
+    let mut beginning = Vec::new(alloc);
+    let mut last = *start;
+    add(&mut beginning, &last)?;
+    for _count in 1..most {
+        match reasons.next_link(&last) {
+            Some(next) => {
+                add(&mut beginning, &next)?;
+                last = next;
+            }
+            None => return Ok(beginning),
+        }
+    }
+    Ok(beginning)
 }
 
 /// Adds a link at the end.
