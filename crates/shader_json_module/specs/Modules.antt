@@ -1,8 +1,11 @@
 -- Modules in JSON.
-use Rattle.std.specs.Prelude.{ℕ, List, MatchOption, codes}
+use Rattle.std.specs.Prelude.{◌≡◌, ℕ, List, MatchOption, Some, codes}
+use Rattle.std.specs.Str.{IsUtf8}
 use Rattle.json.specs.Json.{Json, Members, document}
 use Rattle.shader_ir.specs.declared.module.Module.{Module}
+use Rattle.shader_json_reader.specs.Errors.{IsAccurate}
 use Rattle.shader_json_reader.specs.Shapes.{IsObject, IsList, HasField}
+use Rattle.shader_json_reader.specs.declared.error.ReadError.{ReadError}
 use Rattle.shader_json_declarations.specs.Declarations.{IsConstant, IsGlobal, IsOverride}
 use Rattle.shader_json_declarations.specs.Filters.{IsFilterNode}
 use Rattle.shader_json_declarations.specs.SpecialTypes.{AreSpecialTypes}
@@ -31,3 +34,7 @@ IsModule j m = IsObject j (λ ms. HasCode ms m × HasDeclarations ms m)
 -- the text is JSON, and its value stands for the module
 abbrev pub IsTextOf : List ℕ → Module → Type 0
 IsTextOf text m = MatchOption (document text) ⊥ (λ j. IsModule j m)
+
+-- the consequence of an error for a value: each text that spells the value is JSON, but no module
+abbrev pub IsOfValue : Json → ReadError → Type 0
+IsOfValue j error = (text : List ℕ) → IsUtf8 text → document text ≡ Some j → IsAccurate text error

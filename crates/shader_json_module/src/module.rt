@@ -1,9 +1,9 @@
 //! Reads modules.
-ghost use Rattle.std.specs.Prelude.{◌≡◌, ◌<◌, ◌↔◌, length, Err, IfErr, IfOk, IsSome, OnOk};
+ghost use Rattle.std.specs.Prelude.{◌≡◌, ◌<◌, ◌↔◌, length, Err, IfErr, IfOk, IsSome, OnOk, Some};
 ghost use Rattle.std.specs.Str.{IsUtf8};
 ghost use Rattle.json.specs.Json.{document};
 ghost use Rattle.json.specs.Value.{members_view, value_view};
-ghost use Rattle.shader_json_module.specs.Modules.{HasCode, HasDeclarations, IsModule, IsTextOf};
+ghost use Rattle.shader_json_module.specs.Modules.{HasCode, HasDeclarations, IsModule, IsOfValue, IsTextOf};
 ghost use Rattle.shader_json_reader.specs.Errors.{IsAccurate, most_text_bytes};
 
 use json::{Scratch, Value};
@@ -58,17 +58,46 @@ fn module(context: &mut Context, value: &Value<'_>) -> Result<Module, Failure>
     Ok(module)
 }
 
-/// Reads a module from a text.
-fn read_text(alloc: Global, text: &str) -> Result<Module, ReadError>
-    ensures ok { OnOk result (IsSome (document text.now)) }
-    ensures text { IfOk result (λ m. IsTextOf text.now m) }
+/// Parses bytes as a JSON value, as `read_module` does first.
+///
+/// # Errors
+///
+/// A text that is too long, is no JSON or nests too deep; or an allocation failure.
+pub fn parse_bytes<'a>(
+    alloc: Global,
+    text: &'a [u8],
+    scratch: &'a mut Scratch,
+) -> Result<Value<'a>, ReadError>
+    ensures utf8 { OnOk result (IsUtf8 text.now) }
+    ensures value { IfOk result (λ root. document text.now ≡ Some (value_view root)) }
     ensures err { IfErr result (IsAccurate text.now) }
+    ensures too_long { (result ≡ Err ReadError.TooLong) ↔ (most_text_bytes < length text.now) }
 {
-    let mut scratch = Scratch::new(alloc);
-    let root = parse(alloc, text, &mut scratch)?;
-    match module(&mut Context::new(alloc), &root) {
+    if text.len() > MOST_BYTES {
+        return Err(ReadError::TooLong);
+    }
+    match str::from_utf8(text) {
+        Ok(text) => parse(alloc, text, scratch),
+        Err(error) => Err(ReadError::NotJson {
+            byte: error.valid_up_to(),
+        }),
+    }
+}
+
+/// Reads a module from the JSON value of a text, as `read_module` does then. The value isn't copied, so it may be asked what the module
+/// lacks.
+///
+/// # Errors
+///
+/// A value that is no module; or an allocation failure.
+#[tactic(auto, using(crate::proofs::AccurateLemmas::of_value))]
+pub fn read_value(alloc: Global, root: &Value<'_>) -> Result<Module, ReadError>
+    ensures ok { IfOk result (λ m. IsModule (value_view root.now) m) }
+    ensures err { IfErr result (IsOfValue (value_view root.now)) }
+{
+    match module(&mut Context::new(alloc), root) {
         Ok(module) => Ok(module),
-        Err(failure) => Err(failure.into_read_error(alloc, &root)),
+        Err(failure) => Err(failure.into_read_error(alloc, root)),
     }
 }
 
@@ -79,19 +108,14 @@ fn read_text(alloc: Global, text: &str) -> Result<Module, ReadError>
 /// # Errors
 ///
 /// A text that is too long, is no JSON or is no module; or an allocation failure.
+#[tactic(auto, using(crate::proofs::AccurateLemmas::accurate))]
 pub fn read_module(alloc: Global, text: &[u8]) -> Result<Module, ReadError>
     ensures ok { OnOk result (IsUtf8 text.now × IsSome (document text.now)) }
     ensures text { IfOk result (λ m. IsTextOf text.now m) }
     ensures err { IfErr result (IsAccurate text.now) }
     ensures too_long { (result ≡ Err ReadError.TooLong) ↔ (most_text_bytes < length text.now) }
 {
-    if text.len() > MOST_BYTES {
-        return Err(ReadError::TooLong);
-    }
-    match str::from_utf8(text) {
-        Ok(text) => read_text(alloc, text),
-        Err(error) => Err(ReadError::NotJson {
-            byte: error.valid_up_to(),
-        }),
-    }
+    let mut scratch = Scratch::new(alloc);
+    let root = parse_bytes(alloc, text, &mut scratch)?;
+    read_value(alloc, &root)
 }

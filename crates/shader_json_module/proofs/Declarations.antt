@@ -1,0 +1,140 @@
+-- Constants, variables, arguments, results and filters are determined by their JSON.
+use Rattle.std.proofs.Common.{◌≡◌, ◌∙◌, sym, refl, inl, inr, ℕ, List, [], ◌∷◌, Option, Some}
+use Rattle.std.proofs.Common.{codes}
+use Rattle.json.specs.Json.{Json}
+use Rattle.shader_json_reader.specs.Numbers.{IsUnsigned, IsText}
+use Rattle.shader_json_reader.specs.Shapes.{values_of}
+use Rattle.shader_json_module.specs.Fixed.{Determines, DeterminesOf}
+use Rattle.shader_json_module.proofs.Numbers.{unsigned_same, text_same}
+use Rattle.shader_json_module.proofs.Shapes.{apart, optional_of, field, optional}
+use Rattle.shader_json_module.proofs.Shapes.{only_of, same_object, same_variant, named, name_determines}
+use Rattle.shader_ir.specs.declared.function.ShaderStage.{ShaderStage}
+use Rattle.shader_ir.specs.declared.module.DiagnosticRule.{DiagnosticRule}
+use Rattle.shader_ir.specs.declared.module.DiagnosticRule.TheVariants as diagnostics
+use Rattle.shader_ir.specs.declared.module.Severity.{Severity}
+use Rattle.shader_ir.specs.declared.function.ShaderStage.TheVariants as stages
+use Rattle.shader_ir.specs.declared.module.Severity.TheVariants as severities
+use Rattle.shader_json_declarations.specs.Names.{severity_name, stage_name}
+use Rattle.shader_json_declarations.specs.Types.{IsBinding, IsSpace}
+use Rattle.shader_json_declarations.specs.Declarations.{IsConstant, IsOverride, IsGlobal, IsArgument, IsResult, IsLocal, IsStage}
+use Rattle.shader_json_declarations.specs.Filters.{IsFilter, IsFilterNode, IsRule, IsRuleOf, IsSeverity}
+use Rattle.shader_json_declarations.specs.SpecialTypes.{AreSpecialTypes}
+use Rattle.shader_json_module.specs.Fixed.{fixed_argument, fixed_binding, fixed_result, fixed_special_types}
+use Rattle.shader_json_module.proofs.Types.{binding_same, space_same}
+
+abbrev stage_all : List ShaderStage
+stage_all = stages.Vertex ∷ stages.Fragment ∷ stages.Compute ∷ stages.Mesh ∷ stages.Task ∷ []
+
+stage_found : (x : ShaderStage) → named stage_name stage_all (stage_name x) ≡ Some x
+stage_found stages.Vertex = refl
+stage_found x = refl
+
+pub stage_same : Determines IsStage
+stage_same = name_determines stage_name stage_all stage_found
+
+abbrev severity_all : List Severity
+severity_all = severities.Off ∷ severities.Info ∷ severities.Warning ∷ severities.Error ∷ []
+
+severity_found : (x : Severity) → named severity_name severity_all (severity_name x) ≡ Some x
+severity_found severities.Off = refl
+severity_found x = refl
+
+pub severity_same : Determines IsSeverity
+severity_same = name_determines severity_name severity_all severity_found
+
+pub constant_same : Determines IsConstant
+constant_same j x y u v = same_object _ _ _ _ (λ ms p q i. record {
+  name = optional IsText text_same
+      (codes "name") ms x.name y.name p.0 q.0 i;
+  ty = field IsUnsigned unsigned_same (codes "ty") ms x.ty y.ty p.1 q.1 i;
+  init =
+      field IsUnsigned unsigned_same (codes "init") ms x.init y.init p.2 q.2 i;
+}) j u v
+
+pub override_same : Determines IsOverride
+override_same j x y u v = same_object _ _ _ _ (λ ms p q i. record {
+  name = optional IsText text_same
+      (codes "name") ms x.name y.name p.0 q.0 i;
+  ty = field IsUnsigned unsigned_same (codes "ty") ms x.ty y.ty p.1 q.1 i;
+  init =
+      optional IsUnsigned unsigned_same (codes "init") ms x.init y.init p.2 q.2 i;
+}) j u v
+
+pub global_same : Determines IsGlobal
+global_same j x y u v = same_object _ _ _ _ (λ ms p q i. record {
+  name = optional IsText text_same
+      (codes "name") ms x.name y.name p.0 q.0 i;
+  space = field IsSpace space_same (codes "space") ms x.space y.space p.1 q.1 i;
+  ty =
+      field IsUnsigned unsigned_same (codes "ty") ms x.ty y.ty p.2 q.2 i;
+  init = optional IsUnsigned unsigned_same
+      (codes "init") ms x.init y.init p.3 q.3 i;
+}) j u v
+
+pub local_same : Determines IsLocal
+local_same j x y u v = same_object _ _ _ _ (λ ms p q i. record {
+  name = optional IsText text_same
+      (codes "name") ms x.name y.name p.0 q.0 i;
+  ty = field IsUnsigned unsigned_same (codes "ty") ms x.ty y.ty p.1 q.1 i;
+  init =
+      optional IsUnsigned unsigned_same (codes "init") ms x.init y.init p.2 q.2 i;
+}) j u v
+
+pub argument_same : DeterminesOf fixed_argument IsArgument
+argument_same j x y u v = same_object _ _ _ _ (λ ms p q i. record {
+  name = optional IsText text_same
+      (codes "name") ms x.name y.name p.0 q.0 i;
+  ty = field IsUnsigned unsigned_same (codes "ty") ms x.ty y.ty p.1 q.1 i;
+  binding =
+      optional_of IsBinding fixed_binding binding_same (codes "binding") ms x.binding y.binding p.2 q.2 i;
+}) j u v
+
+pub result_same : DeterminesOf fixed_result IsResult
+result_same j x y u v = same_object _ _ _ _ (λ ms p q i. record {
+  ty = field IsUnsigned unsigned_same (codes "ty") ms x.ty y.ty p.0 q.0 i;
+  binding = optional_of IsBinding fixed_binding binding_same (codes "binding") ms x.binding y.binding p.1 q.1 i;
+}) j u v
+
+pub special_types_same : DeterminesOf fixed_special_types AreSpecialTypes
+special_types_same j x y u v = same_object _ _ _ _ (λ ms p q i. record {
+  ray_intersection = optional IsUnsigned unsigned_same
+      (codes "ray_intersection") ms x.ray_intersection y.ray_intersection p.0 q.0 i;
+  ray_vertex_return = optional IsUnsigned unsigned_same
+      (codes "ray_vertex_return") ms x.ray_vertex_return y.ray_vertex_return p.1 q.1 i;
+  predeclared_types = [];
+}) j u v
+
+rule_of : (name : List ℕ) (payload : Option Json) (x y : DiagnosticRule) → IsRuleOf name payload x → IsRuleOf name payload y → x ≡ y
+rule_of name payload diagnostics.DerivativeUniformity diagnostics.DerivativeUniformity u v = refl
+rule_of name payload diagnostics.Other diagnostics.Other u v = refl
+rule_of name payload diagnostics.DerivativeUniformity diagnostics.Other u v = elim v [
+  | inl e ↦ apart (codes "Standard") (codes "Unknown") refl (sym u.0 ∙ e)
+  | inr e ↦ apart (codes "Standard") (codes "User") refl (sym u.0 ∙ e)
+]
+rule_of name payload diagnostics.Other diagnostics.DerivativeUniformity u v = elim u [
+  | inl e ↦ apart (codes "Standard") (codes "Unknown") refl (sym v.0 ∙ e)
+  | inr e ↦ apart (codes "Standard") (codes "User") refl (sym v.0 ∙ e)
+]
+
+pub rule_same : Determines IsRule
+rule_same j x y u v = same_variant _ _ _ _ (λ name payload p q. rule_of name payload x y p q) j u v
+
+filter_same : Determines (λ j (filter : Severity × DiagnosticRule). IsFilter j filter.0 filter.1)
+filter_same j x y u v = same_object _ _ _ _
+    (λ ms p q i. (
+      field IsSeverity severity_same (codes "new_severity") ms x.0 y.0 p.0 q.0 i,
+      field IsRule rule_same
+          (codes "triggering_rule") ms x.1 y.1 p.1 q.1 i,
+    )) j u v
+
+pub filter_node_same : Determines IsFilterNode
+filter_node_same j x y u v = same_object _ _ _ _
+    (λ ms p q. let e : (x.severity, x.rule) ≡ (y.severity, y.rule) = only_of
+    (λ k (filter : Severity × DiagnosticRule). IsFilter k filter.0 filter.1) (λ filter. filter) filter_same
+    (values_of (codes "inner") ms) (x.severity, x.rule) (y.severity, y.rule) p.0 q.0 in
+    λ i. record {
+      severity = (e i).0;
+      rule = (e i).1;
+      parent = optional IsUnsigned unsigned_same
+          (codes "parent") ms x.parent y.parent p.1 q.1 i;
+    }) j u v
