@@ -1,13 +1,18 @@
-"""What `report --resources` has to tell of a module, from the module's JSON and what naga's own code records of it: the member `resources`.
+"""What `report --resources` has to tell of a module, from the module's JSON and what naga's own code records of it: the member `resources`,
+and the lines for people.
 
 The words of types are those of WGSL, written out here a second time.
 """
+
+import json
 
 SIZES = {"Bi": 2, "Tri": 3, "Quad": 4, "Eight": 8, "Sixteen": 16}
 DIMENSIONS = {"D1": "1d", "D2": "2d", "D3": "3d", "Cube": "cube"}
 SPACES = {"WorkGroup": "workgroup", "TaskPayload": "task_payload", "RayPayload": "ray_payload"}
 SPACES |= {"IncomingRayPayload": "incoming_ray_payload"}
 MOST_LEVELS = 16
+# A longer name is told by its number for people.
+MOST_BYTES = 200
 
 
 def variant(value):
@@ -168,10 +173,96 @@ def resources(module, answer):
     return Resources(module, answer).all()
 
 
+# ---- lines for people
+
+
+def has_control(text):
+    return any(byte < 0x20 or byte in (0x7F, 0xC2) for byte in text.encode())
+
+
+def shown(name, position):
+    return f"#{position}" if not name or len(name.encode()) > MOST_BYTES or has_control(name) else name
+
+
+def word(text):
+    return "?" if has_control(text) else text
+
+
+class Lines:
+    """The lines on the resources of a module, given as the member `resources`."""
+
+    def __init__(self, module, told):
+        self.module, self.told = module, told
+
+    def typed(self, of):
+        return shown(of["type"], of["ty"])
+
+    def named(self, position):
+        it = self.told["globals"][position]
+        bound = "" if it["group"] is None else f"@group({it['group']}) @binding({it['binding']}) "
+        return bound + shown(it["name"], position)
+
+    def globals(self):
+        for position, it in enumerate(self.told["globals"]):
+            ty, (_, inner) = self.told["types"][it["ty"]], variant(self.module["types"][it["ty"]]["inner"])
+            stride = "" if ty["stride"] is None else f", stride {ty['stride']}"
+            room = "" if it["space"] == "handle" else f", {ty['size']} bytes, alignment {ty['alignment']}{stride}"
+            yield f"global {self.named(position)}: {self.typed(it)}"
+            yield f"  {it['space']}{' ' + it['access'] if it['access'] else ''}{room}"
+            members = self.told["types"][inner["base"]]["members"] if "base" in inner else ty["members"]
+            for index, of in enumerate(members or []):
+                yield f"  offset {of['offset']}: {shown(of['name'], index)}: {self.typed(of)}"
+
+    def overrides(self):
+        for position, it in enumerate(self.told["overrides"]):
+            told = "" if it["id"] is None else f", id {it['id']}"
+            told += "" if it["default"] is None else f", default {json.dumps(it['default'])}"
+            yield f"override {shown(it['name'], position)}: {self.typed(it)}{told}"
+
+    def values(self, way, values, positions):
+        for of, position in zip(values, positions, strict=True):
+            told = f"@builtin({word(of['builtin'])}) " if of["builtin"] else ""
+            told += "".join(f"@{key}({of[key]}) " for key in ("location", "blend_src") if of[key] is not None)
+            flow = [word(of[key]) for key in ("interpolation", "sampling") if of[key]] if of["interpolation"] else []
+            told += f"@interpolate({', '.join(flow)}) " if flow else ""
+            told += "" if of["name"] is None else f"{shown(of['name'], position)}: "
+            yield f"  {way} {told}{self.typed(of)}"
+
+    def positions(self, ty, position):
+        """The numbers of the values that one of this type is bound as."""
+        inner = self.module["types"][ty]["inner"]
+        return range(len(inner["Struct"]["members"])) if "Struct" in inner else [position]
+
+    def entries(self):
+        for place, (it, of) in enumerate(zip(self.told["entry_points"], self.module["entry_points"], strict=True)):
+            size = zip(it["workgroup_size"], it["workgroup_overrides"], strict=True)
+            size = " x ".join(f"{many}" if given is None else f"expression #{given}" for many, given in size)
+            groups = "" if it["stage"] in ("vertex", "fragment") else f", work groups of {size}"
+            yield f"resources of entry point {shown(it['name'], place)} ({it['stage']}){groups}"
+            for use in it["uses"]:
+                ways = "".join(f" {way}" for way in ("read", "write", "query", "atomic") if use[way])
+                yield f"  uses {self.named(use['global'])}:{ways}"
+            for pair in it["sampled"]:
+                yield f"  samples {self.named(pair['image'])} with {self.named(pair['sampler'])}"
+            function = of["function"]
+            arguments = [at for index, it in enumerate(function["arguments"]) for at in self.positions(it["ty"], index)]
+            yield from self.values("input", it["inputs"], arguments)
+            result = function.get("result")
+            yield from self.values("output", it["outputs"], self.positions(result["ty"], 0) if result else [])
+
+    def all(self):
+        idle = [f"no entry point uses {self.named(position)}" for position in self.told["unused"]]
+        return "".join(f"{line}\n" for line in [*self.globals(), *self.overrides(), *self.entries(), *idle])
+
+
+def lines(module, answer):
+    return Lines(module, resources(module, answer)).all()
+
+
 # ---- modules with what no shader of the samples has
 
 FLOAT = {"Scalar": {"kind": "Float", "width": 4}}
-HOSTILE = ['a"b\\c', "line\nbreak\t\x01\x1f", "", "ünï 漢 \U0001f600", "</script>", "\x7f\x80\u2028"]
+HOSTILE = ['a"b\\c', "line\nbreak\t\x01\x1f", "", "ünï 漢 \U0001f600", "</script>", "\x7f\x80\u2028", "µ", "n" * 200, "n" * 201]
 
 
 def named(name, inner):

@@ -1,46 +1,83 @@
 -- The report on a module by the flow that the options have decided.
-use Rattle.std.proofs.Common.{◌≡◌, sym, subst, inl, inr, ℕ, Bool, true, false, List}
+use Rattle.std.proofs.Common.{refl, ◌≡◌, sym, subst, inl, inr, ℕ, Bool, true, false, List, Option, Some, IsSome}
+use Rattle.std.specs.Prelude.{MatchOption}
+use Rattle.std.specs.Str.{IsUtf8}
+use Rattle.json.specs.Json.{Json, document}
 use Rattle.shader_analysis_spec.specs.Program.{Module}
 use Rattle.shader_passes.specs.Causes.{settings_of}
+use Rattle.shader_json_module.specs.Modules.{IsModule, IsOfValue}
+use Rattle.shader_json_reader.specs.declared.error.ReadError.{ReadError}
 use Rattle.shader_report_json.specs.Answers.{IsModuleAnswer}
-use Rattle.report_answers.specs.Members.{AreMembers}
+use Rattle.shader_report_text.specs.Verdicts.{IsVerdict}
+use Rattle.report_answers.specs.Members.{AreMembers, EndsWithLines}
 use Rattle.report_answers.specs.Options.{capabilities_of, flags_of}
-use Rattle.report_answers.specs.Reports.{verdict, HasFlow, IsFlowReport, IsJson, IsOutputBy, IsReportOn, IsRest}
+use Rattle.report_answers.specs.Reports.{verdict, HasFlow, IsFlowReport, IsJson, IsModuleReport, IsOutputBy, IsPeople, IsRefusal, IsReport}
+use Rattle.report_answers.specs.Reports.{IsReportOn, IsRest}
 use Rattle.report_answers.specs.declared.options.FlowCheck.{FlowCheck}
 use Rattle.report_answers.specs.declared.options.FlowCheck.TheVariants.{Defined, Naga, Off}
 use Rattle.report_answers.specs.declared.options.Options.{Options}
 use Rattle.report_answers.specs.declared.reports.Outcome.{Outcome}
+use Rattle.report_answers.specs.declared.reports.Outcome.TheVariants.{Accepted, Refused, NotModule}
 
-module _ (options : Options) (input : List ℕ) (m : Module) where
+module _ (options : Options) (j : Json) (m : Module) where
   told : (accepted : Bool) (outcome : Outcome) (text : List ℕ) → outcome ≡ verdict accepted →
-      IsOutputBy options.flow options input m accepted text → IsReportOn options input m outcome text
-  told true outcome text e h = subst (λ (o : Outcome). IsReportOn options input m o text) (sym e) h
-  told false outcome text e h = subst (λ (o : Outcome). IsReportOn options input m o text) (sym e) h
+      IsOutputBy options.flow options j m accepted text → IsReportOn options j m outcome text
+  told true outcome text e h = subst (λ (o : Outcome). IsReportOn options j m o text) (sym e) h
+  told false outcome text e h = subst (λ (o : Outcome). IsReportOn options j m o text) (sym e) h
 
-  by : (flow : FlowCheck) (accepted : Bool) (text : List ℕ) → options.flow ≡ flow → IsOutputBy flow options input m accepted text →
-      IsOutputBy options.flow options input m accepted text
-  by flow accepted text e h = subst (λ (f : FlowCheck). IsOutputBy f options input m accepted text) (sym e) h
+  by : (flow : FlowCheck) (accepted : Bool) (text : List ℕ) → options.flow ≡ flow → IsOutputBy flow options j m accepted text →
+      IsOutputBy options.flow options j m accepted text
+  by flow accepted text e h = subst (λ (f : FlowCheck). IsOutputBy f options j m accepted text) (sym e) h
 
   pub naga_told : (accepted : Bool) (outcome : Outcome) (text : List ℕ) → options.flow ≡ Naga → outcome ≡ verdict accepted →
-      IsRest options input m accepted text → IsReportOn options input m outcome text
+      IsRest options j m accepted text → IsReportOn options j m outcome text
   naga_told accepted outcome text e v rest = told accepted outcome text v (by Naga accepted text e rest)
 
   pub off_told : (accepted : Bool) (outcome : Outcome) (text : List ℕ) → options.flow ≡ Off → outcome ≡ verdict accepted →
-      IsRest options input m accepted text → IsReportOn options input m outcome text
+      IsRest options j m accepted text → IsReportOn options j m outcome text
   off_told accepted outcome text e v rest = told accepted outcome text v (by Off accepted text e rest)
 
   pub refused_told : (outcome : Outcome) (text : List ℕ) → options.flow ≡ Defined → outcome ≡ verdict false →
-      IsRest options input m false text → IsReportOn options input m outcome text
+      IsRest options j m false text → IsReportOn options j m outcome text
   refused_told outcome text e v rest = told false outcome text v (by Defined false text e (inl rest))
 
   pub flow_told : (accepted : Bool) (outcome : Outcome) (rest text : List ℕ) → options.flow ≡ Defined → outcome ≡ verdict accepted →
-      IsRest options input m true rest → HasFlow options.is_json m accepted rest text → IsReportOn options input m outcome text
+      IsRest options j m true rest → HasFlow options.is_json m accepted rest text → IsReportOn options j m outcome text
   flow_told true outcome rest text e v otherwise flow =
       told true outcome text v (by Defined true text e (record { rest = rest; otherwise = otherwise; flow = flow }))
   flow_told false outcome rest text e v otherwise flow =
       told false outcome text v (by Defined false text e (inr (record { rest = rest; otherwise = otherwise; flow = flow })))
 
-  pub json_told : (accepted : Bool) (members text : List ℕ) → AreMembers options input m members →
+  pub json_told : (accepted : Bool) (members text : List ℕ) → AreMembers options j m members →
       IsModuleAnswer m (settings_of (flags_of options) (capabilities_of options)) members accepted text →
-      IsJson options input m accepted text
+      IsJson options j m accepted text
   json_told accepted members text are answer = record { members = members; are = are; answer = answer }
+
+  pub people_told : (accepted : Bool) (text : List ℕ) → IsVerdict m (settings_of (flags_of options) (capabilities_of options)) accepted →
+      EndsWithLines options j m text → IsPeople options j m accepted text
+  people_told accepted text verdict lines = record { verdict = verdict; lines = lines }
+
+  spelled : (input : List ℕ) (accepted : Bool) (text : List ℕ) → IsUtf8 input → document input ≡ Some j → IsModule j m →
+      IsOutputBy options.flow options j m accepted text → IsModuleReport options input accepted text
+  spelled input accepted text utf8 parses stands report = record {
+    utf8 = utf8;
+    parses = subst (λ (found : Option Json). IsSome found) (sym parses) refl;
+    m = m;
+    stands = subst (λ (found : Option Json). MatchOption found ⊥ (λ j. IsModule j m)) (sym parses) stands;
+    output = record { j = j; parses = parses; told = report };
+  }
+
+  -- the report on a module that the input spells
+  pub module_told : (input : List ℕ) (outcome : Outcome) (text : List ℕ) → IsUtf8 input → document input ≡ Some j → IsModule j m →
+      IsReportOn options j m outcome text → IsReport options input outcome text
+  module_told input Accepted text utf8 parses stands report = spelled input true text utf8 parses stands report
+  module_told input Refused text utf8 parses stands report = spelled input false text utf8 parses stands report
+  module_told input NotModule text utf8 parses stands report = inr (m, report)
+
+-- the report on an input that spells no module
+pub no_module_told : (options : Options) (input : List ℕ) (j : Json) (error : ReadError) (outcome : Outcome) (text : List ℕ) →
+    IsUtf8 input → document input ≡ Some j → IsOfValue j error → outcome ≡ NotModule → IsRefusal options input error text →
+    IsReport options input outcome text
+no_module_told options input j error outcome text utf8 parses of e refusal =
+    subst (λ (o : Outcome). IsReport options input o text) (sym e)
+    (inl (record { error = error; accurate = of input utf8 parses; refusal = refusal }))

@@ -1,6 +1,6 @@
--- The members of the JSON that words ask for.
+-- The members of the JSON and the lines for people that words ask for.
 use Rattle.std.specs.Prelude.{◌≡◌, ◌↔◌, ◌++◌, [], ℕ, Bool, true, false, List, Option, Some, None, IfSome, IsSome, codes}
-use Rattle.json.specs.Json.{Json, document}
+use Rattle.json.specs.Json.{Json}
 use Rattle.shader_analysis_spec.specs.Faults.{IsAccepted, Settings}
 use Rattle.shader_analysis_spec.specs.Program.{Module}
 use Rattle.shader_bounds.specs.declared.policies.BoundsCheckPolicies.{BoundsCheckPolicies}
@@ -9,6 +9,8 @@ use Rattle.shader_report_bounds.specs.Bounds.{AreModuleBounds}
 use Rattle.shader_report_bounds.specs.Texts.{bounds_text}
 use Rattle.shader_report_bounds.specs.declared.module_bounds.ModuleBounds.{ModuleBounds}
 use Rattle.shader_report_resources.specs.Resources.{IsFound}
+use Rattle.shader_report_resources.specs.declared.resources.Notation.{Notation}
+use Rattle.shader_report_resources.specs.declared.resources.Notation.TheVariants as notations
 use Rattle.shader_resolve.specs.WellFormed.{IsWellFormed}
 use Rattle.report_answers.specs.Options.{capabilities_of, flags_of}
 use Rattle.report_answers.specs.declared.options.Options.{Options}
@@ -34,23 +36,30 @@ abbrev pub resources_text : Option (List ℕ) → List ℕ
 resources_text (Some resources) = codes ",\"resources\":" ++ resources
 resources_text None = []
 
--- the resources of a valid module, which its JSON declares, and nothing of another one
-pub record AreResourcesFound (input : List ℕ) (m : Module) (settings : Settings) (found : Option (List ℕ)) : Type 0 where
-  pub j : Json
-  pub parses : document input ≡ Some j
-  pub are : IsFound j m settings found
+-- the lines for people
+abbrev pub lines_of : Option (List ℕ) → List ℕ
+lines_of (Some lines) = lines
+lines_of None = []
 
-abbrev pub AreResourcesFor : Bool → List ℕ → Module → Settings → Option (List ℕ) → Type 0
-AreResourcesFor true input m settings found = AreResourcesFound input m settings found
-AreResourcesFor false input m settings found = found ≡ None
+-- the resources of a valid module for which the JSON stands, and nothing of another one; nothing is found unasked
+abbrev pub AreResourcesFor : Bool → Notation → Json → Module → Settings → Option (List ℕ) → Type 0
+AreResourcesFor true notation j m settings found = IsFound notation j m settings found
+AreResourcesFor false notation j m settings found = found ≡ None
 
-abbrev pub AreResourcesAsked : Options → List ℕ → Module → Option (List ℕ) → Type 0
-AreResourcesAsked options input m found =
-    AreResourcesFor options.has_resources input m (settings_of (flags_of options) (capabilities_of options)) found
+abbrev pub AreResourcesAsked : Options → Notation → Json → Module → Option (List ℕ) → Type 0
+AreResourcesAsked options notation j m found =
+    AreResourcesFor options.has_resources notation j m (settings_of (flags_of options) (capabilities_of options)) found
 
-pub record AreMembers (options : Options) (input : List ℕ) (m : Module) (text : List ℕ) : Type 0 where
+pub record AreMembers (options : Options) (j : Json) (m : Module) (text : List ℕ) : Type 0 where
   pub found : Option ModuleBounds
   pub asked : IsAsked options m found
   pub resources : Option (List ℕ)
-  pub resources_asked : AreResourcesAsked options input m resources
+  pub resources_asked : AreResourcesAsked options notations.Json j m resources
   pub told : text ≡ member_text found ++ resources_text resources
+
+-- the text for people ends with the lines on resources that words ask for
+pub record EndsWithLines (options : Options) (j : Json) (m : Module) (text : List ℕ) : Type 0 where
+  pub before : List ℕ
+  pub resources : Option (List ℕ)
+  pub asked : AreResourcesAsked options notations.Lines j m resources
+  pub told : text ≡ before ++ lines_of resources

@@ -1,7 +1,7 @@
 -- The report on the module that an input is.
-use Rattle.std.specs.Prelude.{◌≡◌, ◌⊎◌, ◌∷◌, ◌++◌, ℕ, Bool, true, false, List, IsSome, codes, drop}
+use Rattle.std.specs.Prelude.{◌≡◌, ◌⊎◌, ◌∷◌, ◌++◌, ℕ, Bool, true, false, List, IsSome, Some, codes, drop}
 use Rattle.std.specs.Str.{IsUtf8}
-use Rattle.json.specs.Json.{document}
+use Rattle.json.specs.Json.{Json, document}
 use Rattle.shader_analysis_spec.specs.Program.{Module}
 use Rattle.shader_json_module.specs.Modules.{IsTextOf}
 use Rattle.shader_json_reader.specs.Errors.{IsAccurate}
@@ -12,7 +12,7 @@ use Rattle.shader_resolve.specs.Nesting.{NestsWithin}
 use Rattle.shader_report_text.specs.Verdicts.{IsVerdict}
 use Rattle.shader_uniformity_text.specs.Sections.{IsJsonSection, IsPeopleSection}
 use Rattle.report_answers.specs.Errors.{IsErrorText, nesting_object, nesting_text, object_text}
-use Rattle.report_answers.specs.Members.{AreMembers}
+use Rattle.report_answers.specs.Members.{AreMembers, EndsWithLines}
 use Rattle.report_answers.specs.Options.{capabilities_of, flags_of}
 use Rattle.report_answers.specs.declared.options.FlowCheck.{FlowCheck}
 use Rattle.report_answers.specs.declared.options.FlowCheck.TheVariants.{Defined, Naga, Off}
@@ -21,40 +21,52 @@ use Rattle.report_answers.specs.declared.reports.Outcome.{Outcome}
 use Rattle.report_answers.specs.declared.reports.Outcome.TheVariants.{Accepted, Refused, NotModule}
 
 -- as JSON the text is the report on the module, with the members that words ask for
-pub record IsJson (options : Options) (input : List ℕ) (m : Module) (accepted : Bool) (text : List ℕ) : Type 0 where
+pub record IsJson (options : Options) (j : Json) (m : Module) (accepted : Bool) (text : List ℕ) : Type 0 where
   pub members : List ℕ
-  pub are : AreMembers options input m members
+  pub are : AreMembers options j m members
   pub answer : IsModuleAnswer m (settings_of (flags_of options) (capabilities_of options)) members accepted text
 
--- for people it explains the verdict, and no clause says in which words
-abbrev IsReportFor : Bool → Options → (input : List ℕ) → Module → Bool → List ℕ → Type 0
-IsReportFor true options input m accepted text = IsJson options input m accepted text
-IsReportFor false options input m accepted text = IsVerdict m (settings_of (flags_of options) (capabilities_of options)) accepted
+-- for people it explains the verdict, and no clause says in which words; it ends with the resources that words ask for
+pub record IsPeople (options : Options) (j : Json) (m : Module) (accepted : Bool) (text : List ℕ) : Type 0 where
+  pub verdict : IsVerdict m (settings_of (flags_of options) (capabilities_of options)) accepted
+  pub lines : EndsWithLines options j m text
 
--- the report on all but the uniform flow of `shader_uniformity`, of a module that the input stands for
-abbrev pub IsRest : Options → (input : List ℕ) → Module → Bool → List ℕ → Type 0
-IsRest options input m accepted text = IsReportFor options.is_json options input m accepted text
+abbrev IsReportFor : Bool → Options → Json → Module → Bool → List ℕ → Type 0
+IsReportFor true options j m accepted text = IsJson options j m accepted text
+IsReportFor false options j m accepted text = IsPeople options j m accepted text
 
--- with the verdict on that: as JSON the first member of the object, and for people only the verdict
+-- the report on all but the uniform flow of `shader_uniformity`, of a module that the JSON stands for
+abbrev pub IsRest : Options → Json → Module → Bool → List ℕ → Type 0
+IsRest options j m accepted text = IsReportFor options.is_json options j m accepted text
+
+-- of a module that is accepted the text stays
+abbrev pub KeepsRest : Bool → (rest text : List ℕ) → Type 0
+KeepsRest true rest text = text ≡ rest
+KeepsRest false rest text = Unit {0}
+
+-- with the verdict on that: as JSON the first member of the object, and for people the text or why the flow is refused
 abbrev pub HasFlow : Bool → Module → Bool → (rest text : List ℕ) → Type 0
 HasFlow true m accepted rest text =
     (section : List ℕ) × IsJsonSection m accepted section × (text ≡ codes "{" ++ (section ++ (codes "," ++ drop 1 rest)))
-HasFlow false m accepted rest text = IsPeopleSection m accepted
+HasFlow false m accepted rest text = IsPeopleSection m accepted × KeepsRest accepted rest text
 
 -- flow is decided of a module that has no other fault
-pub record IsFlowReport (options : Options) (input : List ℕ) (m : Module) (accepted : Bool) (text : List ℕ) : Type 0 where
+pub record IsFlowReport (options : Options) (j : Json) (m : Module) (accepted : Bool) (text : List ℕ) : Type 0 where
   pub rest : List ℕ
-  pub otherwise : IsRest options input m true rest
+  pub otherwise : IsRest options j m true rest
   pub flow : HasFlow options.is_json m accepted rest text
 
-abbrev pub IsOutputBy : FlowCheck → Options → (input : List ℕ) → Module → Bool → List ℕ → Type 0
-IsOutputBy Defined options input m true text = IsFlowReport options input m true text
-IsOutputBy Defined options input m false text = IsRest options input m false text ⊎ IsFlowReport options input m false text
-IsOutputBy Naga options input m accepted text = IsRest options input m accepted text
-IsOutputBy Off options input m accepted text = IsRest options input m accepted text
+abbrev pub IsOutputBy : FlowCheck → Options → Json → Module → Bool → List ℕ → Type 0
+IsOutputBy Defined options j m true text = IsFlowReport options j m true text
+IsOutputBy Defined options j m false text = IsRest options j m false text ⊎ IsFlowReport options j m false text
+IsOutputBy Naga options j m accepted text = IsRest options j m accepted text
+IsOutputBy Off options j m accepted text = IsRest options j m accepted text
 
-abbrev pub IsOutput : Options → (input : List ℕ) → Module → Bool → List ℕ → Type 0
-IsOutput options input m accepted text = IsOutputBy options.flow options input m accepted text
+-- the text is the report on a module by the JSON that the input spells
+pub record IsOutput (options : Options) (input : List ℕ) (m : Module) (accepted : Bool) (text : List ℕ) : Type 0 where
+  pub j : Json
+  pub parses : document input ≡ Some j
+  pub told : IsOutputBy options.flow options j m accepted text
 
 abbrev pub verdict : Bool → Outcome
 verdict true = Accepted
@@ -81,10 +93,11 @@ pub record IsDeep (options : Options) (m : Module) (text : List ℕ) : Type 0 wh
   pub deep : NestsWithin 4000 m → ⊥
   pub told : IsNesting options text
 
-abbrev pub IsReportOn : Options → (input : List ℕ) → Module → Outcome → List ℕ → Type 0
-IsReportOn options input m Accepted text = IsOutput options input m true text
-IsReportOn options input m Refused text = IsOutput options input m false text
-IsReportOn options input m NotModule text = IsDeep options m text
+-- the text is the report on a module for which the JSON stands
+abbrev pub IsReportOn : Options → Json → Module → Outcome → List ℕ → Type 0
+IsReportOn options j m Accepted text = IsOutputBy options.flow options j m true text
+IsReportOn options j m Refused text = IsOutputBy options.flow options j m false text
+IsReportOn options j m NotModule text = IsDeep options m text
 
 -- the text is the report on a module for which the JSON of the input stands
 pub record IsModuleReport (options : Options) (input : List ℕ) (accepted : Bool) (text : List ℕ) : Type 0 where

@@ -52,13 +52,17 @@ fn people_with_flow(alloc: Global, module: &Module, rest: Vec<u8>) -> Result<Par
     ensures { IfOk result (λ part. HasFlow false «module».now part.is_accepted rest.items part.text.items) }
 {
     let section = people_section(alloc, module)?;
-    let is_accepted = section.is_accepted;
-    let text = if is_accepted {
-        rest
+    if section.is_accepted {
+        Ok(Part {
+            text: rest,
+            is_accepted: true,
+        })
     } else {
-        section.text.into_bytes()
-    };
-    Ok(Part { text, is_accepted })
+        Ok(Part {
+            text: section.text.into_bytes(),
+            is_accepted: false,
+        })
+    }
 }
 
 /// Returns the report on a module that has no other fault, with the verdict on its flow.

@@ -1,17 +1,16 @@
 //! The parts of a report that words ask for.
-ghost use Rattle.std.specs.Prelude.{◌≡◌, true, IfOk, string_bytes};
+ghost use Rattle.std.specs.Prelude.{◌≡◌, IfOk, OnOk, string_bytes};
 ghost use Rattle.std.specs.Option.{option_map};
-ghost use Rattle.json.specs.Json.{document};
-ghost use Rattle.report_answers.specs.Members.{AreMembers, AreResourcesAsked, IsAsked, member_text, resources_text};
+ghost use Rattle.json.specs.Value.{value_view};
+ghost use Rattle.report_answers.specs.Members.{AreMembers, AreResourcesAsked, EndsWithLines, IsAsked, lines_of, member_text};
+ghost use Rattle.report_answers.specs.Members.{resources_text};
 
 use crate::options::Options;
-use json::Scratch;
+use json::Value;
 use shader_ir::Module;
-use shader_json_reader::parse;
 use shader_report_bounds::{BoundsJson, BoundsText, ModuleBounds, find_bounds};
-use shader_report_resources::find_resources;
+use shader_report_resources::{Notation, find_resources};
 use std::alloc::{AllocError, Global};
-use std::str;
 
 /// Returns what a back end checks of the module, if words ask for it and the module is accepted.
 fn asked_bounds(
@@ -39,39 +38,20 @@ fn member_of(alloc: Global, found: &Option<ModuleBounds>) -> Result<String, Allo
     }
 }
 
-/// Returns the resources of the module that a text is, if the module is valid. A text from which a module was read is JSON, and is parsed
-/// again unless memory fails.
-fn resources_in(
-    alloc: Global,
-    options: Options,
-    input: &[u8],
-    module: &Module,
-) -> Result<Option<String>, AllocError>
-    requires { options.has_resources ≡ true }
-    ensures { IfOk result (λ found. AreResourcesAsked options input.now «module».now (option_map string_bytes found)) }
-{
-    let Ok(text) = str::from_utf8(input) else {
-        return Err(AllocError);
-    };
-    let mut scratch = Scratch::new(alloc);
-    let Ok(root) = parse(alloc, text, &mut scratch) else {
-        return Err(AllocError);
-    };
-    let (flags, capabilities) = (options.flags(), options.capabilities());
-    find_resources(alloc, module, &root, flags, capabilities)
-}
-
-/// Returns the resources of the module that a text is, if words ask for them and the module is valid.
+/// Returns the resources of the module that a JSON value stands for, if words ask for them and the module is valid.
 fn asked_resources(
     alloc: Global,
     options: Options,
-    input: &[u8],
+    notation: Notation,
+    root: &Value<'_>,
     module: &Module,
 ) -> Result<Option<String>, AllocError>
-    ensures { IfOk result (λ found. AreResourcesAsked options input.now «module».now (option_map string_bytes found)) }
+    ensures { IfOk result (λ found.
+        AreResourcesAsked options notation (value_view root.now) «module».now (option_map string_bytes found)) }
 {
     if options.has_resources {
-        resources_in(alloc, options, input, module)
+        let (flags, capabilities) = (options.flags(), options.capabilities());
+        find_resources(alloc, notation, module, root, flags, capabilities)
     } else {
         Ok(None)
     }
@@ -91,35 +71,56 @@ fn resources_member(alloc: Global, found: &Option<String>) -> Result<String, All
 pub fn members_of(
     alloc: Global,
     options: Options,
-    input: &[u8],
+    root: &Value<'_>,
     module: &Module,
 ) -> Result<String, AllocError>
-    ensures { IfOk result (λ text. AreMembers options input.now «module».now (string_bytes text)) }
+    ensures { IfOk result (λ text. AreMembers options (value_view root.now) «module».now (string_bytes text)) }
 {
     let found = asked_bounds(alloc, options, module)?;
     let mut text = member_of(alloc, &found)?;
-    let resources = asked_resources(alloc, options, input, module)?;
+    let resources = asked_resources(alloc, options, Notation::Json, root, module)?;
     let more = resources_member(alloc, &resources)?;
     text.push_str(more.as_str())?;
     Ok(text)
 }
 
-/// Adds the lines on bounds checks to a text for people, if words ask for them.
-pub fn add_bounds(
-    alloc: Global,
-    options: Options,
-    module: &Module,
-    text: &mut String,
-) -> Result<(), AllocError> {
+/// Returns the lines on bounds checks, or an empty text if words don't ask for them or the module isn't accepted.
+fn bounds_lines(alloc: Global, options: Options, module: &Module) -> Result<String, AllocError> {
     match asked_bounds(alloc, options, module)? {
         Some(bounds) => {
             let bounds = BoundsText {
                 module,
                 bounds: &bounds,
             };
-            let more = format!(in alloc; "{bounds}")?;
-            text.push_str(more.as_str())
+            format!(in alloc; "{bounds}")
         }
-        None => Ok(()),
+        None => Ok(String::new(alloc)),
     }
+}
+
+/// Returns the lines on resources, or an empty text if there are none.
+fn resources_lines(alloc: Global, found: Option<String>) -> String
+    ensures { string_bytes result ≡ lines_of (option_map string_bytes found) }
+{
+    match found {
+        Some(lines) => lines,
+        None => String::new(alloc),
+    }
+}
+
+/// Adds the lines that words ask for to a text for people: those on bounds checks, and behind them those on resources.
+pub fn add_lines(
+    alloc: Global,
+    options: Options,
+    root: &Value<'_>,
+    module: &Module,
+    text: &mut String,
+) -> Result<(), AllocError>
+    ensures { OnOk result (EndsWithLines options (value_view root.now) «module».now (string_bytes text.new)) }
+{
+    let bounds = bounds_lines(alloc, options, module)?;
+    text.push_str(bounds.as_str())?;
+    let found = asked_resources(alloc, options, Notation::Lines, root, module)?;
+    let lines = resources_lines(alloc, found);
+    text.push_str(lines.as_str())
 }

@@ -2,11 +2,13 @@
 
 use crate::errors::{error_object, error_text, nesting_object, nesting_text};
 use crate::flow::{Part, with_flow};
-use crate::members::{add_bounds, members_of};
+use crate::members::{add_lines, members_of};
 use crate::options::{FlowCheck, Options};
 use crate::progress::{Progress, Stage};
+use json::{Scratch, Value};
+use shader_interface::Interface;
 use shader_ir::Module;
-use shader_json_module::{ReadError, read_module};
+use shader_json_module::{ReadError, parse_bytes, read_value};
 use shader_report_json::answer_module;
 use shader_report_text::summarize;
 use shader_resolve::{MOST_LEVELS, nests_within};
@@ -33,11 +35,11 @@ pub struct Report {
 }
 
 impl Report {
-    ghost use Rattle.std.specs.Prelude.{◌≡◌, IfOk, OnOk};
-    ghost use Rattle.shader_passes.specs.Causes.{settings_of};
-    ghost use Rattle.shader_report_text.specs.Verdicts.{IsVerdict};
-    ghost use Rattle.report_answers.specs.Options.{capabilities_of, flags_of};
-    ghost use Rattle.report_answers.specs.Reports.{IsJson, IsNesting, IsRefusal, IsReport, IsReportOn, IsRest, verdict};
+    ghost use Rattle.std.specs.Prelude.{◌≡◌, IfOk, OnOk, Some};
+    ghost use Rattle.std.specs.Str.{IsUtf8};
+    ghost use Rattle.json.specs.Json.{document};
+    ghost use Rattle.json.specs.Value.{value_view};
+    ghost use Rattle.report_answers.specs.Reports.{IsJson, IsNesting, IsPeople, IsRefusal, IsReport, IsReportOn, IsRest, verdict};
 
     /// Returns the report with this text and verdict on a module.
     fn with_verdict(part: Part) -> Report
@@ -109,13 +111,13 @@ impl Report {
     fn json_of(
         alloc: Global,
         options: Options,
-        input: &[u8],
+        root: &Value<'_>,
         module: &Module,
     ) -> Result<Part, AllocError>
-        ensures { IfOk result (λ part. IsJson options input.now «module».now part.is_accepted part.text.items) }
+        ensures { IfOk result (λ part. IsJson options (value_view root.now) «module».now part.is_accepted part.text.items) }
     {
         let (flags, capabilities) = (options.flags(), options.capabilities());
-        let members = members_of(alloc, options, input, module)?;
+        let members = members_of(alloc, options, root, module)?;
         let answer = answer_module(alloc, module, flags, capabilities, members.as_str())?;
         Ok(Part {
             text: answer.text.into_bytes(),
@@ -124,15 +126,23 @@ impl Report {
     }
 
     /// Returns the same as text for people.
-    fn text_of(alloc: Global, options: Options, module: &Module) -> Result<Part, AllocError>
-        ensures { IfOk result (λ part. IsVerdict «module».now (settings_of (flags_of options) (capabilities_of options)) part.is_accepted) }
+    #[tactic(auto, using(crate::proofs::ReportLemmas::people_told))]
+    fn text_of(
+        alloc: Global,
+        options: Options,
+        root: &Value<'_>,
+        module: &Module,
+    ) -> Result<Part, AllocError>
+        ensures { IfOk result (λ part. IsPeople options (value_view root.now) «module».now part.is_accepted part.text.items) }
     {
         let (flags, capabilities) = (options.flags(), options.capabilities());
         let is_drawn = options.drawing == Some(true);
-        let summary = summarize(alloc, module, flags, capabilities, is_drawn)?;
+        let bindings = Interface(root).bound_first(alloc, module.global_variables.len())?;
+        let bindings = bindings.as_slice();
+        let summary = summarize(alloc, module, bindings, flags, capabilities, is_drawn)?;
         let is_accepted = summary.is_accepted;
         let mut text = summary.text;
-        add_bounds(alloc, options, module, &mut text)?;
+        add_lines(alloc, options, root, module, &mut text)?;
         Ok(Part {
             text: text.into_bytes(),
             is_accepted,
@@ -143,15 +153,15 @@ impl Report {
     fn rest_on(
         alloc: Global,
         options: Options,
-        input: &[u8],
+        root: &Value<'_>,
         module: &Module,
     ) -> Result<Part, AllocError>
-        ensures { IfOk result (λ part. IsRest options input.now «module».now part.is_accepted part.text.items) }
+        ensures { IfOk result (λ part. IsRest options (value_view root.now) «module».now part.is_accepted part.text.items) }
     {
         if options.is_json {
-            Report::json_of(alloc, options, input, module)
+            Report::json_of(alloc, options, root, module)
         } else {
-            Report::text_of(alloc, options, module)
+            Report::text_of(alloc, options, root, module)
         }
     }
 
@@ -160,13 +170,13 @@ impl Report {
     fn with_defined_flow(
         alloc: Global,
         options: Options,
-        input: &[u8],
+        root: &Value<'_>,
         module: &Module,
         rest: Part,
     ) -> Result<Report, AllocError>
         requires flow { options.flow ≡ FlowCheck.Defined }
-        requires rest { IsRest options input.now «module».now rest.is_accepted rest.text.items }
-        ensures { IfOk result (λ report. IsReportOn options input.now «module».now report.outcome report.text.items) }
+        requires rest { IsRest options (value_view root.now) «module».now rest.is_accepted rest.text.items }
+        ensures { IfOk result (λ report. IsReportOn options (value_view root.now) «module».now report.outcome report.text.items) }
     {
         if rest.is_accepted {
             let part = with_flow(alloc, options.is_json, module, rest.text)?;
@@ -181,14 +191,14 @@ impl Report {
     fn on_module(
         alloc: Global,
         options: Options,
-        input: &[u8],
+        root: &Value<'_>,
         module: &Module,
     ) -> Result<Report, AllocError>
-        ensures { IfOk result (λ report. IsReportOn options input.now «module».now report.outcome report.text.items) }
+        ensures { IfOk result (λ report. IsReportOn options (value_view root.now) «module».now report.outcome report.text.items) }
     {
-        let rest = Report::rest_on(alloc, options, input, module)?;
+        let rest = Report::rest_on(alloc, options, root, module)?;
         match options.flow {
-            FlowCheck::Defined => Report::with_defined_flow(alloc, options, input, module, rest),
+            FlowCheck::Defined => Report::with_defined_flow(alloc, options, root, module, rest),
             FlowCheck::Naga => Ok(Report::with_verdict(rest)),
             FlowCheck::Off => Ok(Report::with_verdict(rest)),
         }
@@ -198,17 +208,36 @@ impl Report {
     fn on_read<P: Progress>(
         alloc: Global,
         options: Options,
-        input: &[u8],
+        root: &Value<'_>,
         module: &Module,
         progress: &mut P,
     ) -> Result<Report, AllocError>
-        ensures { IfOk result (λ report. IsReportOn options input.now «module».now report.outcome report.text.items) }
+        ensures { IfOk result (λ report. IsReportOn options (value_view root.now) «module».now report.outcome report.text.items) }
     {
         if !nests_within(module, MOST_LEVELS) {
             return Report::on_nesting(alloc, options);
         }
         progress.begins(Stage::Analysis);
-        Report::on_module(alloc, options, input, module)
+        Report::on_module(alloc, options, root, module)
+    }
+
+    /// Returns the report on the module that a JSON value, which the input spells, stands for.
+    #[tactic(auto, using(crate::proofs::ReportLemmas::module_told, crate::proofs::ReportLemmas::no_module_told))]
+    fn on_value<P: Progress>(
+        alloc: Global,
+        options: Options,
+        input: &[u8],
+        root: &Value<'_>,
+        progress: &mut P,
+    ) -> Result<Report, AllocError>
+        requires utf8 { IsUtf8 input.now }
+        requires spells { document input.now ≡ Some (value_view root.now) }
+        ensures { IfOk result (λ report. IsReport options input.now report.outcome report.text.items) }
+    {
+        match read_value(alloc, root) {
+            Ok(module) => Report::on_read(alloc, options, root, &module, progress),
+            Err(error) => Report::on_error(alloc, options, input, &error),
+        }
     }
 
     /// Returns the report on the module that the input is, as JSON in which `serde_json` prints a naga module.
@@ -225,8 +254,9 @@ impl Report {
         ensures { IfOk result (λ report. IsReport options input.now report.outcome report.text.items) }
     {
         progress.begins(Stage::Module(input.len()));
-        match read_module(alloc, input) {
-            Ok(module) => Report::on_read(alloc, options, input, &module, progress),
+        let mut scratch = Scratch::new(alloc);
+        match parse_bytes(alloc, input, &mut scratch) {
+            Ok(root) => Report::on_value(alloc, options, input, &root, progress),
             Err(error) => Report::on_error(alloc, options, input, &error),
         }
     }

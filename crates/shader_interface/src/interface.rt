@@ -1,14 +1,17 @@
 //! Declarations by handle.
-ghost use Rattle.std.specs.Prelude.{◌≡◌, option_and_then, option_map};
+ghost use Rattle.std.specs.Prelude.{◌≡◌, IfOk, option_and_then, option_map};
 ghost use Rattle.json.specs.Value.{value_view};
+ghost use Rattle.shader_interface.specs.Bound.{bound_at, bound_first};
 ghost use Rattle.shader_interface.specs.Interface.{argument_binding_at, binding_of, entry_point_at, group_of, member_binding_at};
 ghost use Rattle.shader_interface.specs.Interface.{global_expression_at, override_default_of, override_id_of};
 ghost use Rattle.shader_interface.specs.Interface.{override_init_of, resource_binding_at, result_binding_at, seen};
 ghost use Rattle.shader_interface.specs.Interface.{workgroup_override_of, workgroup_size_of};
 
 use crate::binding::Binding;
+use crate::bound::ResourceBinding;
 use crate::values::{integer, item, member, spelled};
 use json::Value;
+use std::alloc::{AllocError, Global};
 
 /// The JSON of a module, as serde prints naga's. Positions are those of the module's items: of handles, and of entry points in their list.
 /// What the JSON lacks, or has in another form than naga prints, is `None`.
@@ -35,6 +38,35 @@ impl<'v, 'a> Interface<'v, 'a> {
         ensures { result ≡ binding_of (value_view self.entry.0.now) global }
     {
         integer(member(self.resource_binding(global), "binding"))
+    }
+
+    /// Returns where the host binds a global variable.
+    pub fn bound(self, global: usize) -> Option<ResourceBinding>
+        ensures { result ≡ bound_at (value_view self.entry.0.now) global }
+    {
+        match (self.group(global), self.binding(global)) {
+            (Some(group), Some(binding)) => Some(ResourceBinding { group, binding }),
+            _ => None,
+        }
+    }
+
+    /// Returns where the host binds the first so many global variables.
+    ///
+    /// # Errors
+    ///
+    /// `AllocError` if an allocation fails.
+    pub fn bound_first(
+        self,
+        alloc: Global,
+        count: usize,
+    ) -> Result<Vec<Option<ResourceBinding>>, AllocError>
+        ensures { IfOk result (λ bound. bound.items ≡ bound_first (value_view self.entry.0.now) count) }
+    {
+        let mut bound = Vec::new(alloc);
+        for global in 0..count {
+            bound.push(self.bound(global))?;
+        }
+        Ok(bound)
     }
 
     /// Returns the id by which a pipeline sets an override.

@@ -3,8 +3,10 @@
 #![tactic(auto)]
 
 mod binding;
+mod bound;
 mod interface;
 mod values;
 
 pub use binding::Binding;
+pub use bound::{AttributesText, ResourceBinding};
 pub use interface::Interface;

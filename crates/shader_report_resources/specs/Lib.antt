@@ -1,8 +1,12 @@
+pub mod DeclaredLines
 pub mod Entries
+pub mod EntryLines
 pub mod Formats
 pub mod Interfaces
 pub mod Resources
+pub mod Shown
 pub mod Spaces
 pub mod Tables
+pub mod ValueLines
 pub mod Words
 pub mod Written

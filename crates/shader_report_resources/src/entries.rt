@@ -156,7 +156,7 @@ fn write_uses(writer: &mut Writer, uses: &EntryUses<'_>) -> Result<(), AllocErro
 }
 
 /// Returns the name of a stage.
-fn stage_word(stage: ShaderStage) -> &'static str
+pub(crate) fn stage_word(stage: ShaderStage) -> &'static str
     ensures { result.now ≡ stage_word stage }
 {
     match stage {

@@ -1,14 +1,18 @@
-//! The resources of a module as JSON, for reflection: what it declares to its host and to other stages, the layouts of its types, and which
-//! globals each entry point uses, and how, at any depth of calls.
+//! The resources of a module, for reflection, as JSON and as text for people: what it declares to its host and to other stages, the layouts
+//! of its types, and which globals each entry point uses, and how, at any depth of calls.
 #![tactic(auto)]
 
+mod declared_lines;
 mod entries;
+mod entry_lines;
 mod formats;
 mod interfaces;
 mod resources;
+mod shown;
 mod spaces;
 mod tables;
+mod value_lines;
 mod words;
 mod written;
 
-pub use resources::find_resources;
+pub use resources::{Notation, find_resources};

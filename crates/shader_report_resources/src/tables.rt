@@ -93,7 +93,7 @@ fn write_members(
 }
 
 /// Returns the distance of an array's elements, in bytes.
-fn stride_of(inner: &TypeInner) -> Option<u32>
+pub(crate) fn stride_of(inner: &TypeInner) -> Option<u32>
     ensures { result ≡ stride_of inner.now }
 {
     match inner {
@@ -103,7 +103,11 @@ fn stride_of(inner: &TypeInner) -> Option<u32>
 }
 
 /// Returns the layout of a type, if there is such a type.
-fn layout_at(module: &Module, layouter: &Layouter, ty: Handle<mark::Type>) -> Option<TypeLayout>
+pub(crate) fn layout_at(
+    module: &Module,
+    layouter: &Layouter,
+    ty: Handle<mark::Type>,
+) -> Option<TypeLayout>
     requires { length layouter.now ≡ length «module».now.types }
     ensures { result ≡ slice_get layouter.now ty }
 {
@@ -115,7 +119,7 @@ fn layout_at(module: &Module, layouter: &Layouter, ty: Handle<mark::Type>) -> Op
 }
 
 /// Returns the size of a layout, if there is one.
-fn size_of(layout: &Option<TypeLayout>) -> Option<u32>
+pub(crate) fn size_of(layout: &Option<TypeLayout>) -> Option<u32>
     ensures { result ≡ option_map layout_size layout.now }
 {
     match layout {
@@ -125,7 +129,7 @@ fn size_of(layout: &Option<TypeLayout>) -> Option<u32>
 }
 
 /// Returns the alignment of a layout, if there is one.
-fn alignment_of(layout: &Option<TypeLayout>) -> Option<u32>
+pub(crate) fn alignment_of(layout: &Option<TypeLayout>) -> Option<u32>
     ensures { result ≡ option_map layout_alignment layout.now }
 {
     match layout {

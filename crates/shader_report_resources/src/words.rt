@@ -9,9 +9,10 @@ ghost use Rattle.shader_report_resources.specs.Words.{words, words_within};
 use crate::formats::format_word;
 use crate::spaces::{access_word, space_word};
 use shader_arena::Handle;
+use shader_ir::proc::vector_size_str;
 use shader_ir::{
     ArraySize, CooperativeRole, CooperativeSize, ImageClass, ImageDimension, Module, Name, Scalar,
-    TypeInner, VectorSize, mark, vector_size_str,
+    TypeInner, VectorSize, mark,
 };
 use shader_type_text::ScalarText;
 use std::alloc::{AllocError, Global};
@@ -294,7 +295,7 @@ fn told_words(
 }
 
 /// Returns what the type is built over, if there is such a type.
-fn base_at(module: &Module, ty: Handle<mark::Type>) -> Option<Handle<mark::Type>>
+pub(crate) fn base_at(module: &Module, ty: Handle<mark::Type>) -> Option<Handle<mark::Type>>
     ensures { result ≡ base_at «module».now ty }
 {
     match module.types.try_get(ty) {

@@ -1,0 +1,12 @@
+use Rattle.std.proofs.Common.{◌≡◌, ◌++◌, flat_map}
+use Rattle.std.specs.String.{string_bytes}
+use Rattle.json.specs.Value.{value_view}
+use Rattle.shader_report_resources.specs.DeclaredLines.{all_global_lines, global_lines}
+use Rattle.shader_report_resources.proofs.declared_lines.all_global_lines.Given as goal
+
+abbrev pub invariant-loop-handle : goal.invariant-loop-handle
+invariant-loop-handle l =
+    (goal.iterator-loop-handle).can_next l.handle-iterator
+    × (goal.iterator-loop-handle).is_finite l.handle-iterator
+    × (string_bytes l.text ++ flat_map (global_lines (value_view l.root) l.«module» l.layouter) l.handle-iterator
+    ≡ all_global_lines (value_view l.root) l.«module» l.layouter)
