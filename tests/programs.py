@@ -1,4 +1,4 @@
-"""Tests whether a program of crates/, of a library that of its tests, is built: tests/programs.py NAME.
+"""Tests whether a program of crates/, of a library that of its tests, is built, or a static library: tests/programs.py NAME.
 
 Exit status 0 where it is built, and nothing that it is built from is newer; 1 where it isn't.
 """
@@ -11,8 +11,10 @@ PARTS = ("src", "specs", "proofs")
 
 
 def program_of(name):
-    """Returns where the program of a crate stands once it is built."""
+    """Returns where the program of a crate stands once it is built, or the archive of a static library."""
     folder = TOP / "crates" / name
+    if listed()[name][0].startswith(f"{name} staticlib"):
+        return folder / "out" / f"lib{name}.a"
     return folder / "out" / (name if (folder / "src/main.rt").exists() else f"{name}_tests")
 
 
@@ -29,7 +31,7 @@ def sources_of(name):
 def is_built(name):
     """Returns whether the program is built and no source of it is newer. Only what is proved is ever built there."""
     program = program_of(name)
-    if not os.access(program, os.X_OK):
+    if not os.access(program, os.R_OK if program.suffix == ".a" else os.X_OK):
         return False
     built = os.stat(program).st_mtime_ns
     return all(os.lstat(it).st_mtime_ns <= built for it in sources_of(name))
