@@ -4,23 +4,20 @@
 //! - `nests NUMBER..`: for each number `yes` if the blocks nest no deeper, or else `no`.
 use crate::words::Words;
 use shader_ir::Module;
-use shader_resolve::{ModuleFault, ModuleLocation, check_module, find_fault, nests_within};
+use shader_resolve::{FaultAt, ModuleFault, check_module, find_fault, nests_within};
 use std::alloc::{AllocError, Global};
 
 /// Returns whether two calls report the same violation, or both none.
-fn agree(reported: Result<(), ModuleFault>, found: Option<(ModuleLocation, ModuleFault)>) -> bool {
+fn agree(reported: Result<(), ModuleFault>, found: Option<FaultAt>) -> bool {
     match (reported, found) {
         (Ok(()), None) => true,
-        (Err(reported), Some((_, found))) => reported == found,
+        (Err(reported), Some(found)) => reported == found.fault,
         _ => false,
     }
 }
 
-fn fault_text(
-    alloc: Global,
-    location: ModuleLocation,
-    fault: ModuleFault,
-) -> Result<String, AllocError> {
+fn fault_text(alloc: Global, found: FaultAt) -> Result<String, AllocError> {
+    let FaultAt { location, fault } = found;
     format!(in alloc; "{location:?} {fault:?}")
 }
 
@@ -39,7 +36,7 @@ pub fn fault(
             .map(Some);
     }
     let text = match find_fault(module) {
-        Some((location, fault)) => fault_text(alloc, location, fault),
+        Some(found) => fault_text(alloc, found),
         None => "none".to_string(alloc),
     };
     text.map(Some)

@@ -11,10 +11,8 @@ ghost use Rattle.shader_ir.specs.Sizes.{AreTypeSizesInRange};
 use crate::render::Reply;
 use crate::words::Words;
 use shader_arena::{Handle, UniqueArena};
-use shader_ir::{
-    GlobalCtx, Layouter, Module, Type, TypeLayout, UpdateError, mark, sizes_in_range,
-    sizes_in_range_from,
-};
+use shader_ir::proc::{Layouter, TypeLayout, UpdateError, sizes_in_range, sizes_in_range_from};
+use shader_ir::{GlobalCtx, Module, Type, mark};
 use std::alloc::{AllocError, Global};
 
 fn add_layout(text: &mut String, layout: TypeLayout) -> Result<(), AllocError>

@@ -7,7 +7,8 @@
 use crate::render::Reply;
 use crate::words::Words;
 use shader_arena::Handle;
-use shader_ir::{Function, Module, Operands, expression_operands, mark, statement_operands};
+use shader_ir::proc::{Operands, expression_operands, statement_operands};
+use shader_ir::{Function, Module, mark};
 use std::alloc::Global;
 
 /// Returns the operands as text.

@@ -10,7 +10,8 @@ use crate::resolve::stored::{Resolved, resolve_stored, stored_types};
 use crate::resolve::texts::resolved_text;
 use crate::words::Words;
 use shader_arena::Handle;
-use shader_ir::{Function, Module, TypeResolution};
+use shader_ir::proc::TypeResolution;
+use shader_ir::{Function, Module};
 use shader_resolve::ResolveContext;
 use std::alloc::{AllocError, Global};
 

@@ -8,7 +8,8 @@ ghost use Rattle.shader_ir.specs.Sizes.{IsTypeSizeInRange};
 use crate::render::{Reply, render};
 use crate::words::Words;
 use shader_arena::Handle;
-use shader_ir::{GlobalCtx, Module, TypeInner, mark, sizes_in_range};
+use shader_ir::proc::sizes_in_range;
+use shader_ir::{GlobalCtx, Module, TypeInner, mark};
 use std::alloc::Global;
 
 /// Returns the size of a type, by both functions that compute it.

@@ -18,7 +18,8 @@ use crate::render::{Reply, render};
 pub use crate::types::resolutions::next_resolution;
 use crate::words::Words;
 use shader_arena::{Handle, UniqueArena};
-use shader_ir::{Module, Type, mark, types_backward};
+use shader_ir::proc::types_backward;
+use shader_ir::{Module, Type, mark};
 use std::alloc::Global;
 
 /// The types of a module.

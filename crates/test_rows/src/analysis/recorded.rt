@@ -8,7 +8,8 @@ use shader_arena::Handle;
 use shader_info::{
     AnalysisError, AnalysisLocation, Capabilities, FunctionInfo, GlobalOrArgument, ValidationFlags,
 };
-use shader_ir::{Module, Scalar, TypeInner, TypeResolution, mark};
+use shader_ir::proc::TypeResolution;
+use shader_ir::{Module, Scalar, TypeInner, mark};
 use shader_resolve::check_module;
 use std::alloc::{AllocError, Global};
 

@@ -3,7 +3,8 @@ ghost use Rattle.shader_resolve.specs.DerivesByRule.{AnswerFits};
 
 use crate::words::Words;
 use shader_arena::{Handle, UniqueArena};
-use shader_ir::{Expression, Type, TypeResolution, mark, types_backward};
+use shader_ir::proc::{TypeResolution, types_backward};
+use shader_ir::{Expression, Type, mark};
 use shader_resolve::{ResolveContext, ResolveError};
 use std::alloc::{AllocError, Global};
 

@@ -1,5 +1,6 @@
 //! Types and errors in printed form.
-use shader_ir::{Scalar, ScalarKind, TypeInner, TypeResolution, vector_size_str};
+use shader_ir::proc::{TypeResolution, vector_size_str};
+use shader_ir::{Scalar, ScalarKind, TypeInner};
 use shader_resolve::ResolveError;
 use std::alloc::{AllocError, Global};
 use std::fmt;

@@ -5,7 +5,8 @@ ghost use Rattle.shader_ir.specs.TypeTree.{IsBackward, PointsBelow};
 use crate::render::{Reply, render};
 use crate::types::{Types, next_type};
 use crate::words::Words;
-use shader_ir::{Same, Type, TypeInner, types_backward};
+use shader_ir::proc::types_backward;
+use shader_ir::{Same, Type, TypeInner};
 use std::alloc::Global;
 
 /// Returns whether the canonical forms of two types, one of which isn't a struct, are equal.

@@ -5,7 +5,8 @@ ghost use Rattle.shader_ir.specs.TypeTree.{IsBackward, PointsBelow};
 use crate::render::{Reply, render};
 use crate::types::{Types, next_type};
 use crate::words::Words;
-use shader_ir::{ScalarKind, TypeInner, types_backward};
+use shader_ir::proc::types_backward;
+use shader_ir::{ScalarKind, TypeInner};
 use std::alloc::Global;
 
 /// Returns the reply to a query of the type's scalar.

@@ -6,7 +6,8 @@ use crate::render::{Reply, render};
 use crate::types::Types;
 use crate::words::Words;
 use shader_arena::Handle;
-use shader_ir::{TypeResolution, compare_types, mark, types_backward};
+use shader_ir::mark;
+use shader_ir::proc::{TypeResolution, compare_types, types_backward};
 use std::alloc::{AllocError, Global};
 
 /// Returns the number after a letter.

@@ -2,7 +2,8 @@
 use crate::resolve::texts::{InnerText, ResolutionText};
 use crate::words::Words;
 use shader_arena::{Handle, UniqueArena};
-use shader_ir::{Function, Module, Type, mark, types_backward};
+use shader_ir::proc::types_backward;
+use shader_ir::{Function, Module, Type, mark};
 use shader_resolve::{ResolveContext, ResolveError};
 use shader_typifier::{Typifier, TypifyError};
 use std::alloc::{AllocError, Global};
