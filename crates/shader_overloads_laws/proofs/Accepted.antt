@@ -1,6 +1,6 @@
 -- The remaining rules of the built-in functions, by the types of their arguments.
 use Rattle.std.proofs.Common.{◌≡◌, ◌∙◌, ap, sym, refl, inl, inr, ℕ, zero, suc, Bool, true, false}
-use Rattle.std.proofs.Common.{cond, ◌&&◌, List, [], ◌∷◌, Option, Some, None, slice_get}
+use Rattle.std.proofs.Common.{◌&&◌, List, [], ◌∷◌, Option, Some, None, slice_get}
 use Rattle.std.specs.List.{filter, list_all}
 use Rattle.std.specs.Option.{option_and_then}
 use Rattle.std.proofs.lemmas.Bool.{and_parts, both_ways, cases_Bool}
@@ -10,7 +10,7 @@ use Rattle.shader_ir.specs.declared.scalar.Scalar as s
 use Rattle.shader_ir.specs.declared.types.«Type».{«Type»}
 use Rattle.shader_ir.specs.declared.types.TypeInner.{TypeInner}
 use Rattle.shader_ir.specs.declared.types.TypeInner.TheVariants.{Scalar, Vector, Matrix}
-use Rattle.shader_ir.specs.Conversion.{same_size}
+use Rattle.shader_ir.specs.Conversion.{same_size, scalar_converts}
 use Rattle.shader_ir.specs.Scalars.{is_convertible}
 use Rattle.shader_overloads.specs.declared.overload_set.SetCall.{SetCall}
 use Rattle.shader_overloads.specs.declared.overload_set.SetCall.TheVariants.{Arg, ConcreteOnly}
@@ -18,18 +18,34 @@ use Rattle.shader_overloads.specs.declared.rule.Rule.{Rule}
 use Rattle.shader_overloads.specs.AcceptanceLaws.{is_named, is_named_or_none}
 use Rattle.shader_overloads.specs.BuiltinGroups.{is_listed}
 use Rattle.shader_overloads.specs.Builtins.{acceptance_of, rules_of}
-use Rattle.shader_overloads.specs.Rank.{leaf_rank, rank_at}
-use Rattle.shader_overloads.specs.Remaining.{accepts, leaf_scalar, list_accepts, list_takes, passes}
+use Rattle.shader_overloads.specs.Rank.{conversion_rank, leaf_rank, rank_at}
+use Rattle.shader_overloads.specs.Remaining.{accepts, leaf_scalar, list_accepts, passes}
 use Rattle.shader_overloads.specs.Remaining.{remaining, some_list_takes, some_takes, takes}
-use Rattle.shader_overloads.proofs.AgreementLemmas.{list_takes_plainly, takes_plainly}
+use Rattle.shader_overloads.proofs.AgreementLemmas.{all_at, list_takes_plainly, takes_plainly}
 use Rattle.shader_overloads.proofs.BuiltinLemmas.{is_named_inner, is_named_rule, rules_named}
 use Rattle.shader_overloads_laws.specs.Optimality.{remaining_of}
-use Rattle.shader_overloads_laws.proofs.Arguments.{argument_is, concrete_is, inners, inners_named}
+use Rattle.shader_overloads_laws.proofs.Arguments.{argument_is, concrete_is, inners, inners_named, is_plain_concrete}
 use Rattle.shader_overloads_laws.proofs.Arguments.{built_rank, plain_takes_parts, same_built, leaf}
-use Rattle.shader_overloads_laws.proofs.Orders.{are_concrete, is_taken, some_taken, taken_rank}
+use Rattle.shader_overloads_laws.proofs.Filters.{filter_each}
 use Rattle.shader_overloads_laws.proofs.Scalars.{convertible_named}
 
 -- ---- one argument
+
+-- whether an argument accepts a value of the type
+abbrev pub is_taken : TypeInner → TypeInner → Bool
+is_taken ty f = same_built ty f && scalar_converts (leaf ty) (leaf f)
+
+abbrev pub some_taken : TypeInner → Option TypeInner → Bool
+some_taken ty None = false
+some_taken ty (Some f) = is_taken ty f
+
+-- the rank of the type at an argument
+abbrev pub taken_rank : TypeInner → Option TypeInner → Option ℕ
+taken_rank ty None = None
+taken_rank ty (Some f) = conversion_rank (leaf ty) (leaf f)
+
+abbrev pub are_concrete : List TypeInner → Bool
+are_concrete fs = list_all is_plain_concrete fs
 
 unconvertible : (a b : s.Scalar) → is_named a ≡ false → is_convertible a b ≡ false
 unconvertible a b odd = elim (cases_Bool (is_convertible a b)) [
@@ -124,14 +140,6 @@ stays_is types listed (call ∷ calls) rule named =
     ap (λ b. b && list_all (passes (accepting listed) types rule) calls) (pass_is types listed rule call named)
     ∙ ap (λ b. pass listed rule call && b) (stays_is types listed calls rule named)
 
-filter_named : (p q : Rule → Bool) → ((rule : Rule) → is_named_rule rule ≡ true → p rule ≡ q rule) → (rules : List Rule) →
-    list_all is_named_rule rules ≡ true → filter p rules ≡ filter q rules
-filter_named p q same [] named = refl
-filter_named p q same (rule ∷ rules) named =
-    let parts = and_parts (is_named_rule rule) (list_all is_named_rule rules) named in
-    ap (λ b. cond b (rule ∷ filter p rules) (filter p rules)) (same rule parts.0)
-    ∙ ap (λ (rest : List Rule). cond (q rule) (rule ∷ rest) rest) (filter_named p q same rules parts.1)
-
 acceptance_is : (function : MathFunction) → acceptance_of function ≡ accepting (is_listed function)
 acceptance_is f.Ldexp = refl
 acceptance_is _ = refl
@@ -141,5 +149,11 @@ pub remaining_is : (function : MathFunction) (types : List «Type») (calls : Li
     remaining_of function types calls ≡ filter (stays (is_listed function) calls) (rules_of function)
 remaining_is function types calls =
     ap (λ accept. remaining accept types calls (rules_of function)) (acceptance_is function)
-    ∙ filter_named (λ rule. list_all (passes (accepting (is_listed function)) types rule) calls) (stays (is_listed function) calls)
-    (stays_is types (is_listed function) calls) (rules_of function) (rules_named function)
+    ∙ filter_each (λ rule. list_all (passes (accepting (is_listed function)) types rule) calls) (stays (is_listed function) calls)
+    (rules_of function) (λ k rule at. stays_is types (is_listed function) calls rule
+    (all_at is_named_rule (rules_of function) k rule (rules_named function) at))
+
+-- a remaining rule accepts the supplied types
+pub taken_at : (listed : Bool) (calls : List SetCall) (rule : Rule) (call i : ℕ) (ty : TypeInner) → stays listed calls rule ≡ true →
+    slice_get calls call ≡ Some (Arg i ty) → some_taken ty (slice_get (inners rule) i) ≡ true
+taken_at listed calls rule call i ty stay at = (and_parts (allows listed ty) _ (all_at (pass listed rule) calls call (Arg i ty) stay at)).1

@@ -1,9 +1,9 @@
 -- The types of arguments of the rules of the built-in functions: scalars, vectors and matrices.
-use Rattle.std.proofs.Common.{◌≡◌, ◌∙◌, ap, sym, refl, ℕ, zero, suc, Bool, true, false, not}
+use Rattle.std.proofs.Common.{◌≡◌, ◌∙◌, ap, sym, refl, ℕ, zero, suc, Bool, true, false}
 use Rattle.std.proofs.Common.{◌&&◌, List, [], ◌∷◌, map, Option, Some, None, slice_get}
 use Rattle.std.specs.List.{list_all}
 use Rattle.std.specs.Option.{is_some, option_and_then}
-use Rattle.std.proofs.lemmas.Bool.{and_from, and_parts, both_ways}
+use Rattle.std.proofs.lemmas.Bool.{and_from, and_parts}
 use Rattle.shader_ir.specs.declared.scalar.Scalar as s
 use Rattle.shader_ir.specs.declared.scalar.ScalarKind.TheVariants as kinds
 use Rattle.shader_ir.specs.declared.scalar.VectorSize.{VectorSize}
@@ -72,14 +72,6 @@ same_found_told None b e = cc
 pub same_built_reported : (a b : TypeInner) → same_built a b ≡ true → constructor_of a ≡ constructor_of b
 same_built_reported a b e = same_found_told (constructor_of a) (constructor_of b) e
 
--- two types that have the constructor of a third have one constructor
-pub built_alike : (ty a b : TypeInner) → same_built ty a ≡ true → same_built ty b ≡ true → same_built a b ≡ true
-built_alike ty a b p q = ap (λ o. same_found o (constructor_of b)) (sym (same_built_reported ty a p)) ∙ q
-
--- having the same constructor is transitive
-pub built_through : (ty a b : TypeInner) → same_built ty a ≡ true → same_built a b ≡ true → same_built ty b ≡ true
-built_through ty a b p q = ap (λ o. same_found o (constructor_of b)) (same_built_reported ty a p) ∙ q
-
 pub found_first : (a b : Option ConstructorSize) → same_found a b ≡ true → is_some a ≡ true
 found_first (Some a) (Some b) e = refl
 found_first (Some a) None e = cc
@@ -95,10 +87,6 @@ built_leaf (Scalar a) e = refl
 built_leaf (Vector n a) e = refl
 built_leaf (Matrix m n a) e = refl
 built_leaf _ e = cc
-
--- a type that an argument accepts has a leaf scalar
-pub supplied_leaf : (ty a : TypeInner) → same_built ty a ≡ true → leaf_scalar ty ≡ Some (leaf ty)
-supplied_leaf ty a e = built_leaf ty (found_first (constructor_of ty) (constructor_of a) e)
 
 -- the rank of an argument that has the constructor of the type supplied
 pub built_rank : (ty a : TypeInner) → same_built ty a ≡ true →

@@ -1,7 +1,10 @@
+pub mod Filters
 pub mod Scalars
 pub mod Arguments
-pub mod Orders
 pub mod Tables
 pub mod Accepted
+pub mod Sets
+pub mod Regulars
+pub mod Shapes
 pub mod Optimal
 pub mod Ties

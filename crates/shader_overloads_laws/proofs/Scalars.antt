@@ -4,7 +4,7 @@ use Rattle.std.proofs.Common.{not, ◌&&◌, ◌||◌, List, [], ◌∷◌, map,
 use Rattle.std.specs.Prelude.{IsSome}
 use Rattle.std.specs.List.{list_all, list_any}
 use Rattle.std.specs.Option.{is_some}
-use Rattle.std.proofs.lemmas.Bool.{and_from, and_parts, both_ways, cases_Bool, eq-eqb, or_cases, or_left, or_right}
+use Rattle.std.proofs.lemmas.Bool.{and_parts, both_ways, cases_Bool, eq-eqb, or_cases, or_left, or_right}
 use Rattle.shader_ir.specs.declared.scalar.Scalar.{Scalar}
 use Rattle.shader_ir.specs.declared.scalar.ScalarKind.{ScalarKind}
 use Rattle.shader_ir.specs.declared.scalar.ScalarKind.TheVariants as kinds
@@ -169,7 +169,7 @@ abbrev pub same_bool : Bool → Bool → Bool
 same_bool true b = b
 same_bool false b = not b
 
-same_bool_reported : (a b : Bool) → same_bool a b ≡ true → a ≡ b
+pub same_bool_reported : (a b : Bool) → same_bool a b ≡ true → a ≡ b
 same_bool_reported true true e = refl
 same_bool_reported true false e = cc
 same_bool_reported false true e = cc

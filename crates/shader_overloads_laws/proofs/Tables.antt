@@ -16,22 +16,12 @@ use Rattle.shader_overloads.specs.declared.rule.Conclusion.TheVariants.{Value, P
 use Rattle.shader_overloads.specs.declared.rule.Rule.{Rule}
 use Rattle.shader_overloads.specs.Builtins.{extract_bits_rules, insert_bits_rules, ldexp_rules, mix_rules}
 use Rattle.shader_overloads.specs.Builtins.{outer_rules, refract_rules, rules_of, transpose_rules}
-use Rattle.shader_overloads.specs.BuiltinGroups.{is_listed}
 use Rattle.shader_overloads.specs.Rules.{regular_rules}
 use Rattle.shader_overloads.proofs.AgreementLemmas.{same_scalar_reported}
 use Rattle.shader_overloads.proofs.BuiltinLemmas.{is_named_inner}
 use Rattle.shader_overloads.proofs.SetLemmas.{same_scalar_self, same_size_self}
 use Rattle.shader_overloads_laws.proofs.Arguments.{constructor_of, found_first, inners, leaf, same_built}
 use Rattle.shader_overloads_laws.proofs.Arguments.{same_built_reported, same_parts, same_size_reported}
-use Rattle.shader_overloads_laws.proofs.Orders.{all_fine}
-use Rattle.shader_overloads_laws.proofs.Scalars.{sources_of}
-
--- ---- order
-
-pub rules_fine : (function : MathFunction) → all_fine (sources_of (is_listed function)) [] (rules_of function) ≡ true
-unfolding regular_rules named_scalars ldexp_rules outer_rules refract_rules transpose_rules extract_bits_rules insert_bits_rules mix_rules
-rules_fine f.Ldexp = refl
-rules_fine _ = refl
 
 -- ---- equal arguments, equal conclusions
 

@@ -16,10 +16,9 @@ use Rattle.shader_overloads.specs.Rank.{HaveEqualRanks, IsSupplied}
 use Rattle.shader_overloads.proofs.AgreementLemmas.{all_at}
 use Rattle.shader_overloads.proofs.BuiltinLemmas.{is_named_rule, rules_named}
 use Rattle.shader_overloads_laws.specs.Optimality.{EquallyRankedRulesAreEqual}
-use Rattle.shader_overloads_laws.proofs.Accepted.{rank_is, remaining_is, stays}
+use Rattle.shader_overloads_laws.proofs.Accepted.{rank_is, remaining_is, some_taken, stays, taken_at, taken_rank}
 use Rattle.shader_overloads_laws.proofs.Arguments.{inners, inners_named, leaf, built_same, plain, same_built, values_of}
-use Rattle.shader_overloads_laws.proofs.Optimal.{filter_preserves, filter_passes, taken_at}
-use Rattle.shader_overloads_laws.proofs.Orders.{some_taken, taken_rank}
+use Rattle.shader_overloads_laws.proofs.Filters.{filter_passes, filter_preserves}
 use Rattle.shader_overloads_laws.proofs.Scalars.{one_rank_one_target}
 use Rattle.shader_overloads_laws.proofs.Tables.{agree, concludes_so, rules_agree, same_inners, same_inners_self}
 

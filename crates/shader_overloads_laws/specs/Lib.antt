@@ -1,1 +1,2 @@
 pub mod Optimality
+pub mod ScalarSets
