@@ -1,6 +1,8 @@
 -- What was written is the report on what was read.
 use Rattle.std.proofs.Common.{◌≡◌, ◌∙◌, ◌<◌, ◌++◌, refl, sym, subst, ap, inl, ℕ, Bool, true, false, List, [], length}
-use Rattle.std.proofs.Common.{Option, Some, None, IfSome, append-nil, length-append, arith}
+use Rattle.std.proofs.Common.{Option, Some, None, IfSome, IsSome, append-nil, length-append, arith}
+use Rattle.std.specs.Str.{IsUtf8}
+use Rattle.json.specs.Json.{document}
 use Rattle.std.specs.Io.KnownBytes.{Appends, Consumes, IsAtEnd}
 use Rattle.shader_analysis_spec.specs.Program.{Module}
 use Rattle.shader_json_reader.specs.Errors.{most_text_bytes}
@@ -70,6 +72,30 @@ module _ (options : Options) (before after : Option (List ℕ)) where
   answered old new input text outcome WriteFailed read ended report h = tt
   answered old new input text outcome OutOfMemory read ended report h = tt
   answered old new input text outcome NotModule read ended report h = tt
+
+  spells : (input text : List ℕ) (outcome : Outcome) → IfSome before (λ all. all ≡ input) → IsReport options input outcome text →
+      OnAnswered (outcome_status outcome) (IfSome before (λ all. IsUtf8 all × IsSome (document all)))
+  spells input text outcomes.Accepted e report =
+      of_all (λ all. IsUtf8 all × IsSome (document all)) before input e (report.utf8, report.parses)
+  spells input text outcomes.Refused e report =
+      of_all (λ all. IsUtf8 all × IsSome (document all)) before input e (report.utf8, report.parses)
+  spells input text outcomes.NotModule e report = tt
+
+  -- and that is JSON
+  pub spelled : (input text : List ℕ) (outcome : Outcome) (status : Status) (P : Type 0) → Consumes before after input → IsAtEnd after →
+      IsReport options input outcome text → OnAnswered status ((status ≡ outcome_status outcome) × P) →
+      OnAnswered status (IfSome before (λ all. IsUtf8 all × IsSome (document all)))
+  spelled input text outcome Accepted P read ended report (e, h) =
+      subst (λ (s : Status). OnAnswered s (IfSome before (λ all. IsUtf8 all × IsSome (document all)))) (sym e)
+      (spells input text outcome (whole before after input read ended) report)
+  spelled input text outcome Refused P read ended report (e, h) =
+      subst (λ (s : Status). OnAnswered s (IfSome before (λ all. IsUtf8 all × IsSome (document all)))) (sym e)
+      (spells input text outcome (whole before after input read ended) report)
+  spelled input text outcome BadUsage P read ended report h = tt
+  spelled input text outcome ReadFailed P read ended report h = tt
+  spelled input text outcome WriteFailed P read ended report h = tt
+  spelled input text outcome OutOfMemory P read ended report h = tt
+  spelled input text outcome NotModule P read ended report h = tt
 
   of_no_module : (input text : List ℕ) (outcome : Outcome) → IsReport options input outcome text →
       OnNotModule (outcome_status outcome) (IsReport options input outcomes.NotModule text)

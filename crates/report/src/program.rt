@@ -10,11 +10,12 @@ ghost use Rattle.report.specs.Runs.{IsAnswerOf, IsTold, OnAnswered, OnNotModule,
 
 use crate::status::Status;
 use program_io::{Failed, InputError, Sink, Source, read_input, write_all};
-use report_answers::{Options, Outcome, Progress, Report, Stage};
+use report_answers::{Options, Outcome, Progress, Reading, Report, Stage};
 use shader_json_module::{MOST_BYTES, ReadError};
 use std::alloc::{AllocError, Global};
 
-/// Reads the whole input, builds the whole report, and then writes it. Errors of the input go to `errors`, unless they are told as JSON.
+/// Reads the whole input, drops it, builds the whole report, and then writes it. Errors of the input go to `errors`, unless they are told
+/// as JSON.
 pub fn run<R: Source, W: Sink, E: Sink, P: Progress>(
     alloc: Global,
     options: Options,
@@ -54,7 +55,12 @@ pub fn run<R: Source, W: Sink, E: Sink, P: Progress>(
         Err(InputError::TooLong) => return refuse(alloc, options, writer, errors, progress),
         Err(InputError::OutOfMemory) => return Status::OutOfMemory,
     };
-    match Report::on(alloc, options, input.as_slice(), progress) {
+    let Ok(reading) = Reading::of(alloc, options, input.as_slice(), progress) else {
+        return Status::OutOfMemory;
+    };
+    // The report needs no more of the input, which may be large.
+    drop(input);
+    match Report::of(alloc, options, reading, progress) {
         Ok(report) => write_report(options, &report, writer, errors, progress),
         Err(AllocError) => Status::OutOfMemory,
     }

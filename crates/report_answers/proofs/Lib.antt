@@ -1,2 +1,3 @@
 pub mod OptionLemmas
+pub mod ReadingLemmas
 pub mod ReportLemmas

@@ -1,5 +1,5 @@
 -- Options of words.
-use Rattle.std.proofs.Common.{◌≡◌, ◌∙◌, ◌+◌, ◌∷◌, ap, drop, List, Ok, String, ℕ}
+use Rattle.std.proofs.Common.{◌≡◌, ◌∙◌, ◌+◌, ◌∷◌, ap, List, Ok, String, ℕ}
 use Rattle.std.specs.String.{string_bytes}
 use Rattle.report_answers.specs.Options.{on_ok, options_from, with_word}
 use Rattle.report_answers.specs.declared.options.Options.{Options}

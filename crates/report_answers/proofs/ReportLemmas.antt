@@ -1,5 +1,6 @@
 -- The report on a module by the flow that the options have decided.
-use Rattle.std.proofs.Common.{refl, ◌≡◌, sym, subst, inl, inr, ℕ, Bool, true, false, List, Option, Some, IsSome}
+use Rattle.std.proofs.Common.{refl, ◌≡◌, ◌∙◌, ◌++◌, ap, append_assoc, sym, subst, inl, inr, ℕ, Bool, true, false, List, Option, Some}
+use Rattle.std.proofs.Common.{IsSome}
 use Rattle.std.specs.Prelude.{MatchOption}
 use Rattle.std.specs.Str.{IsUtf8}
 use Rattle.json.specs.Json.{Json, document}
@@ -9,9 +10,10 @@ use Rattle.shader_json_module.specs.Modules.{IsModule, IsOfValue}
 use Rattle.shader_json_reader.specs.declared.error.ReadError.{ReadError}
 use Rattle.shader_report_json.specs.Answers.{IsModuleAnswer}
 use Rattle.shader_report_text.specs.Verdicts.{IsVerdict}
-use Rattle.report_answers.specs.Members.{AreMembers, EndsWithLines}
+use Rattle.report_answers.specs.Members.{AreExtras, AreMembers, EndsWithLines, lines_of}
+use Rattle.report_answers.specs.Reading.{IsRead}
 use Rattle.report_answers.specs.Options.{capabilities_of, flags_of}
-use Rattle.report_answers.specs.Reports.{verdict, HasFlow, IsFlowReport, IsJson, IsModuleReport, IsOutputBy, IsPeople, IsRefusal, IsReport}
+use Rattle.report_answers.specs.Reports.{verdict, HasFlow, IsJson, IsModuleReport, IsOutputBy, IsPeople, IsRefusal, IsReport}
 use Rattle.report_answers.specs.Reports.{IsReportOn, IsRest}
 use Rattle.report_answers.specs.declared.options.FlowCheck.{FlowCheck}
 use Rattle.report_answers.specs.declared.options.FlowCheck.TheVariants.{Defined, Naga, Off}
@@ -57,6 +59,15 @@ module _ (options : Options) (j : Json) (m : Module) where
       EndsWithLines options j m text → IsPeople options j m accepted text
   people_told accepted text verdict lines = record { verdict = verdict; lines = lines }
 
+  -- a text that ends with the lines still does behind another one
+  pub still_ends : (before text : List ℕ) → EndsWithLines options j m text → EndsWithLines options j m (before ++ text)
+  still_ends before text ends = record {
+    before = before ++ ends.before;
+    resources = ends.resources;
+    asked = ends.asked;
+    told = ap (λ (more : List ℕ). before ++ more) ends.told ∙ sym (append_assoc before ends.before (lines_of ends.resources));
+  }
+
   spelled : (input : List ℕ) (accepted : Bool) (text : List ℕ) → IsUtf8 input → document input ≡ Some j → IsModule j m →
       IsOutputBy options.flow options j m accepted text → IsModuleReport options input accepted text
   spelled input accepted text utf8 parses stands report = record {
@@ -81,3 +92,10 @@ pub no_module_told : (options : Options) (input : List ℕ) (j : Json) (error : 
 no_module_told options input j error outcome text utf8 parses of e refusal =
     subst (λ (o : Outcome). IsReport options input o text) (sym e)
     (inl (record { error = error; accurate = of input utf8 parses; refusal = refusal }))
+
+-- the report on a module that was read of an input
+pub read_told : (options : Options) (input : List ℕ) (m : Module) (extras : List ℕ) (outcome : Outcome) (text : List ℕ)
+    → ((j : Json) → AreExtras options j m extras → IsReportOn options j m outcome text) → IsRead options input m extras
+    → IsReport options input outcome text
+read_told options input m extras outcome text on read =
+    module_told options read.j m input outcome text read.utf8 read.parses read.stands (on read.j read.are)

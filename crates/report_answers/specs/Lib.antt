@@ -4,4 +4,5 @@ pub mod Members
 pub mod Options
 pub mod Places
 pub mod Policies
+pub mod Reading
 pub mod Reports

@@ -63,3 +63,11 @@ pub record EndsWithLines (options : Options) (j : Json) (m : Module) (text : Lis
   pub resources : Option (List ℕ)
   pub asked : AreResourcesAsked options notations.Lines j m resources
   pub told : text ≡ before ++ lines_of resources
+
+abbrev pub AreExtrasFor : Bool → Options → Json → Module → List ℕ → Type 0
+AreExtrasFor true options j m text = AreMembers options j m text
+AreExtrasFor false options j m text = EndsWithLines options j m text
+
+-- what the report on a module for which the JSON stands has beside the analysis: members, or lines for people
+abbrev pub AreExtras : Options → Json → Module → List ℕ → Type 0
+AreExtras options j m text = AreExtrasFor options.is_json options j m text

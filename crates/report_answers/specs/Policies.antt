@@ -5,7 +5,6 @@ use Rattle.std.specs.Option.{option_and_then}
 use Rattle.std.specs.Str.{bytes_eq}
 use Rattle.shader_bounds.specs.Policies.{unchecked}
 use Rattle.shader_bounds.specs.declared.policies.BoundsCheckPolicies.{BoundsCheckPolicies}
-use Rattle.shader_bounds.specs.declared.policies.BoundsCheckPolicy.{BoundsCheckPolicy}
 use Rattle.shader_bounds.specs.declared.policies.BoundsCheckPolicy.TheVariants.{Restrict, ReadZeroSkipWrite, Unchecked}
 use Rattle.report_answers.specs.declared.policies.Setting.{Setting}
 use Rattle.report_answers.specs.declared.policies.Setting.TheVariants.{Index, Buffer, ImageLoad, BindingArray}

@@ -1,5 +1,5 @@
 -- The report on the module that an input is.
-use Rattle.std.specs.Prelude.{◌≡◌, ◌⊎◌, ◌∷◌, ◌++◌, ℕ, Bool, true, false, List, IsSome, Some, codes, drop}
+use Rattle.std.specs.Prelude.{◌≡◌, ◌⊎◌, ◌++◌, ℕ, Bool, true, false, List, IsSome, Some, codes, drop}
 use Rattle.std.specs.Str.{IsUtf8}
 use Rattle.json.specs.Json.{Json, document}
 use Rattle.shader_analysis_spec.specs.Program.{Module}
@@ -43,6 +43,11 @@ IsRest options j m accepted text = IsReportFor options.is_json options j m accep
 abbrev pub KeepsRest : Bool → (rest text : List ℕ) → Type 0
 KeepsRest true rest text = text ≡ rest
 KeepsRest false rest text = Unit {0}
+
+-- the section on the flow of a module, as JSON or for people
+abbrev pub IsFlowSection : Bool → Module → Bool → List ℕ → Type 0
+IsFlowSection true m accepted text = IsJsonSection m accepted text
+IsFlowSection false m accepted text = IsPeopleSection m accepted
 
 -- with the verdict on that: as JSON the first member of the object, and for people the text or why the flow is refused
 abbrev pub HasFlow : Bool → Module → Bool → (rest text : List ℕ) → Type 0

@@ -1,9 +1,10 @@
 //! The verdict on uniform flow as part of a report.
-ghost use Rattle.std.specs.Prelude.{◌≡◌, ◌++◌, true, false, IfOk, codes, drop};
-ghost use Rattle.report_answers.specs.Reports.{HasFlow};
+ghost use Rattle.std.specs.Prelude.{◌≡◌, ◌++◌, true, false, IfOk, codes, drop, string_bytes};
+ghost use Rattle.shader_analysis_spec.specs.Program.{Module as IrModule};
+ghost use Rattle.report_answers.specs.Reports.{HasFlow, IsFlowSection};
 
 use shader_ir::Module;
-use shader_uniformity_text::{json_section, people_section};
+use shader_uniformity_text::{Section, json_section, people_section};
 use std::alloc::{AllocError, Global};
 
 /// A text on a module, and whether the module is accepted by it.
@@ -35,11 +36,22 @@ fn with_member(alloc: Global, member: &[u8], line: &[u8]) -> Result<Vec<u8>, All
     Ok(text)
 }
 
-/// Returns the line of JSON on a module that has no other fault, with the verdict on its flow.
-fn json_with_flow(alloc: Global, module: &Module, rest: &[u8]) -> Result<Part, AllocError>
-    ensures { IfOk result (λ part. HasFlow true «module».now part.is_accepted rest.now part.text.items) }
+/// Decides the flow of a module. The section is what a report on the module has of that, if the module has no other fault.
+pub fn flow_section(alloc: Global, is_json: bool, module: &Module) -> Result<Section, AllocError>
+    ensures { IfOk result (λ section. IsFlowSection is_json «module».now section.is_accepted (string_bytes section.text)) }
 {
-    let section = json_section(alloc, module)?;
+    if is_json {
+        json_section(alloc, module)
+    } else {
+        people_section(alloc, module)
+    }
+}
+
+/// Returns the line of JSON on a module that has no other fault, with the verdict on its flow.
+fn json_with_flow(alloc: Global, section: &Section, rest: &[u8]) -> Result<Part, AllocError>
+    ensures { IfOk result (λ part. (m : IrModule) → IsFlowSection true m section.now.is_accepted (string_bytes section.now.text) →
+        HasFlow true m part.is_accepted rest.now part.text.items) }
+{
     let text = with_member(alloc, section.text.as_bytes(), rest)?;
     Ok(Part {
         text,
@@ -48,35 +60,36 @@ fn json_with_flow(alloc: Global, module: &Module, rest: &[u8]) -> Result<Part, A
 }
 
 /// Returns the text for people on such a module: what is said of it, or why its flow is refused.
-fn people_with_flow(alloc: Global, module: &Module, rest: Vec<u8>) -> Result<Part, AllocError>
-    ensures { IfOk result (λ part. HasFlow false «module».now part.is_accepted rest.items part.text.items) }
+fn people_with_flow(section: Section, rest: Vec<u8>) -> Part
+    ensures { (m : IrModule) → IsFlowSection false m section.is_accepted (string_bytes section.text) →
+        HasFlow false m result.is_accepted rest.items result.text.items }
 {
-    let section = people_section(alloc, module)?;
     if section.is_accepted {
-        Ok(Part {
+        Part {
             text: rest,
             is_accepted: true,
-        })
+        }
     } else {
-        Ok(Part {
+        Part {
             text: section.text.into_bytes(),
             is_accepted: false,
-        })
+        }
     }
 }
 
-/// Returns the report on a module that has no other fault, with the verdict on its flow.
+/// Returns the report on a module that has no other fault, with the section on its flow.
 pub fn with_flow(
     alloc: Global,
     is_json: bool,
-    module: &Module,
+    section: Section,
     rest: Vec<u8>,
 ) -> Result<Part, AllocError>
-    ensures { IfOk result (λ part. HasFlow is_json «module».now part.is_accepted rest.items part.text.items) }
+    ensures { IfOk result (λ part. (m : IrModule) → IsFlowSection is_json m section.is_accepted (string_bytes section.text) →
+        HasFlow is_json m part.is_accepted rest.items part.text.items) }
 {
     if is_json {
-        json_with_flow(alloc, module, rest.as_slice())
+        json_with_flow(alloc, &section, rest.as_slice())
     } else {
-        people_with_flow(alloc, module, rest)
+        Ok(people_with_flow(section, rest))
     }
 }

@@ -10,8 +10,10 @@ mod options;
 mod places;
 mod policies;
 mod progress;
+mod reading;
 mod reports;
 
 pub use options::{BadWord, Flag, FlowCheck, Options};
 pub use progress::{Progress, Silent, Stage};
+pub use reading::Reading;
 pub use reports::{Outcome, Report};

@@ -1,12 +1,13 @@
-//! The parts of a report that words ask for.
-ghost use Rattle.std.specs.Prelude.{◌≡◌, IfOk, OnOk, string_bytes};
+//! What words ask for beside the analysis of a module.
+ghost use Rattle.std.specs.Prelude.{◌≡◌, IfOk, string_bytes};
 ghost use Rattle.std.specs.Option.{option_map};
 ghost use Rattle.json.specs.Value.{value_view};
-ghost use Rattle.report_answers.specs.Members.{AreMembers, AreResourcesAsked, EndsWithLines, IsAsked, lines_of, member_text};
+ghost use Rattle.report_answers.specs.Members.{AreExtras, AreMembers, AreResourcesAsked, EndsWithLines, IsAsked, lines_of, member_text};
 ghost use Rattle.report_answers.specs.Members.{resources_text};
 
 use crate::options::Options;
 use json::Value;
+use shader_interface::{Interface, ResourceBinding};
 use shader_ir::Module;
 use shader_report_bounds::{BoundsJson, BoundsText, ModuleBounds, find_bounds};
 use shader_report_resources::{Notation, find_resources};
@@ -68,7 +69,7 @@ fn resources_member(alloc: Global, found: &Option<String>) -> Result<String, All
 }
 
 /// Returns the members that words ask for, each after a comma.
-pub fn members_of(
+fn members_of(
     alloc: Global,
     options: Options,
     root: &Value<'_>,
@@ -108,19 +109,55 @@ fn resources_lines(alloc: Global, found: Option<String>) -> String
     }
 }
 
-/// Adds the lines that words ask for to a text for people: those on bounds checks, and behind them those on resources.
-pub fn add_lines(
+/// Returns the lines that words ask for at the end of a text for people: those on bounds checks, and behind them those on resources.
+fn asked_lines(
     alloc: Global,
     options: Options,
     root: &Value<'_>,
     module: &Module,
-    text: &mut String,
-) -> Result<(), AllocError>
-    ensures { OnOk result (EndsWithLines options (value_view root.now) «module».now (string_bytes text.new)) }
+) -> Result<String, AllocError>
+    ensures { IfOk result (λ text. EndsWithLines options (value_view root.now) «module».now (string_bytes text)) }
 {
-    let bounds = bounds_lines(alloc, options, module)?;
-    text.push_str(bounds.as_str())?;
+    let mut text = bounds_lines(alloc, options, module)?;
     let found = asked_resources(alloc, options, Notation::Lines, root, module)?;
     let lines = resources_lines(alloc, found);
-    text.push_str(lines.as_str())
+    text.push_str(lines.as_str())?;
+    Ok(text)
+}
+
+/// What a report has beside the analysis of the module.
+#[derive(Drop)]
+pub struct Extras {
+    /// As JSON the members that words ask for, and for people the lines at the end.
+    pub text: String,
+    /// Where the host binds each global variable, for people.
+    pub bindings: Vec<Option<ResourceBinding>>,
+}
+
+impl Extras {
+    /// Returns what a report on a module has that a JSON value stands for.
+    ///
+    /// # Errors
+    ///
+    /// `AllocError` if an allocation fails.
+    pub fn of(
+        alloc: Global,
+        options: Options,
+        root: &Value<'_>,
+        module: &Module,
+    ) -> Result<Extras, AllocError>
+        ensures { IfOk result (λ extras. AreExtras options (value_view root.now) «module».now (string_bytes extras.text)) }
+    {
+        if options.is_json {
+            Ok(Extras {
+                text: members_of(alloc, options, root, module)?,
+                bindings: Vec::new(alloc),
+            })
+        } else {
+            Ok(Extras {
+                text: asked_lines(alloc, options, root, module)?,
+                bindings: Interface(root).bound_first(alloc, module.global_variables.len())?,
+            })
+        }
+    }
 }

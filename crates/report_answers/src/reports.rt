@@ -1,14 +1,13 @@
 //! The report on the module that an input is.
 
 use crate::errors::{error_object, error_text, nesting_object, nesting_text};
-use crate::flow::{Part, with_flow};
-use crate::members::{add_lines, members_of};
+use crate::flow::{Part, flow_section, with_flow};
+use crate::members::Extras;
 use crate::options::{FlowCheck, Options};
 use crate::progress::{Progress, Stage};
-use json::{Scratch, Value};
-use shader_interface::Interface;
+use crate::reading::{ReadModule, Reading};
 use shader_ir::Module;
-use shader_json_module::{ReadError, parse_bytes, read_value};
+use shader_json_module::ReadError;
 use shader_report_json::answer_module;
 use shader_report_text::summarize;
 use shader_resolve::{MOST_LEVELS, nests_within};
@@ -35,10 +34,10 @@ pub struct Report {
 }
 
 impl Report {
-    ghost use Rattle.std.specs.Prelude.{◌≡◌, IfOk, OnOk, Some};
-    ghost use Rattle.std.specs.Str.{IsUtf8};
-    ghost use Rattle.json.specs.Json.{document};
-    ghost use Rattle.json.specs.Value.{value_view};
+    ghost use Rattle.std.specs.Prelude.{◌≡◌, ℕ, IfOk, List, string_bytes};
+    ghost use Rattle.json.specs.Json.{Json};
+    ghost use Rattle.report_answers.specs.Members.{AreExtras, AreMembers, EndsWithLines};
+    ghost use Rattle.report_answers.specs.Reading.{IsReading};
     ghost use Rattle.report_answers.specs.Reports.{IsJson, IsNesting, IsPeople, IsRefusal, IsReport, IsReportOn, IsRest, verdict};
 
     /// Returns the report with this text and verdict on a module.
@@ -106,19 +105,19 @@ impl Report {
         Ok(Report::without_module(text))
     }
 
-    /// Returns the report on all of a module but the uniform flow of `shader_uniformity`, as a line of JSON.
+    /// Returns the report on all of a module but the uniform flow of `shader_uniformity`, as a line of JSON with these members.
     #[tactic(auto, using(crate::proofs::ReportLemmas::json_told))]
     fn json_of(
         alloc: Global,
         options: Options,
-        root: &Value<'_>,
+        members: &str,
         module: &Module,
     ) -> Result<Part, AllocError>
-        ensures { IfOk result (λ part. IsJson options (value_view root.now) «module».now part.is_accepted part.text.items) }
+        ensures { IfOk result (λ part. (j : Json) → AreMembers options j «module».now members.now →
+            IsJson options j «module».now part.is_accepted part.text.items) }
     {
         let (flags, capabilities) = (options.flags(), options.capabilities());
-        let members = members_of(alloc, options, root, module)?;
-        let answer = answer_module(alloc, module, flags, capabilities, members.as_str())?;
+        let answer = answer_module(alloc, module, flags, capabilities, members)?;
         Ok(Part {
             text: answer.text.into_bytes(),
             is_accepted: answer.is_accepted,
@@ -126,23 +125,23 @@ impl Report {
     }
 
     /// Returns the same as text for people.
-    #[tactic(auto, using(crate::proofs::ReportLemmas::people_told))]
+    #[tactic(auto, using(crate::proofs::ReportLemmas::people_told, crate::proofs::ReportLemmas::still_ends))]
     fn text_of(
         alloc: Global,
         options: Options,
-        root: &Value<'_>,
+        extras: &Extras,
         module: &Module,
     ) -> Result<Part, AllocError>
-        ensures { IfOk result (λ part. IsPeople options (value_view root.now) «module».now part.is_accepted part.text.items) }
+        ensures { IfOk result (λ part. (j : Json) → EndsWithLines options j «module».now (string_bytes extras.now.text) →
+            IsPeople options j «module».now part.is_accepted part.text.items) }
     {
         let (flags, capabilities) = (options.flags(), options.capabilities());
         let is_drawn = options.drawing == Some(true);
-        let bindings = Interface(root).bound_first(alloc, module.global_variables.len())?;
-        let bindings = bindings.as_slice();
+        let bindings = extras.bindings.as_slice();
         let summary = summarize(alloc, module, bindings, flags, capabilities, is_drawn)?;
         let is_accepted = summary.is_accepted;
         let mut text = summary.text;
-        add_lines(alloc, options, root, module, &mut text)?;
+        text.push_str(extras.text.as_str())?;
         Ok(Part {
             text: text.into_bytes(),
             is_accepted,
@@ -153,33 +152,36 @@ impl Report {
     fn rest_on(
         alloc: Global,
         options: Options,
-        root: &Value<'_>,
+        extras: &Extras,
         module: &Module,
     ) -> Result<Part, AllocError>
-        ensures { IfOk result (λ part. IsRest options (value_view root.now) «module».now part.is_accepted part.text.items) }
+        ensures { IfOk result (λ part. (j : Json) → AreExtras options j «module».now (string_bytes extras.now.text) →
+            IsRest options j «module».now part.is_accepted part.text.items) }
     {
         if options.is_json {
-            Report::json_of(alloc, options, root, module)
+            Report::json_of(alloc, options, extras.text.as_str(), module)
         } else {
-            Report::text_of(alloc, options, root, module)
+            Report::text_of(alloc, options, extras, module)
         }
     }
 
-    /// Returns the report with the verdict on the flow of a module, which is decided where it has no other fault.
+    /// Returns the report with the verdict on the flow of a module, if it has no other fault. The flow is decided first, since the rest of
+    /// the report is as large as what that takes.
     #[tactic(auto, using(crate::proofs::ReportLemmas::refused_told, crate::proofs::ReportLemmas::flow_told))]
     fn with_defined_flow(
         alloc: Global,
         options: Options,
-        root: &Value<'_>,
+        extras: &Extras,
         module: &Module,
-        rest: Part,
     ) -> Result<Report, AllocError>
-        requires flow { options.flow ≡ FlowCheck.Defined }
-        requires rest { IsRest options (value_view root.now) «module».now rest.is_accepted rest.text.items }
-        ensures { IfOk result (λ report. IsReportOn options (value_view root.now) «module».now report.outcome report.text.items) }
+        requires { options.flow ≡ FlowCheck.Defined }
+        ensures { IfOk result (λ report. (j : Json) → AreExtras options j «module».now (string_bytes extras.now.text) →
+            IsReportOn options j «module».now report.outcome report.text.items) }
     {
+        let section = flow_section(alloc, options.is_json, module)?;
+        let rest = Report::rest_on(alloc, options, extras, module)?;
         if rest.is_accepted {
-            let part = with_flow(alloc, options.is_json, module, rest.text)?;
+            let part = with_flow(alloc, options.is_json, section, rest.text)?;
             Ok(Report::with_verdict(part))
         } else {
             Ok(Report::with_verdict(rest))
@@ -191,16 +193,22 @@ impl Report {
     fn on_module(
         alloc: Global,
         options: Options,
-        root: &Value<'_>,
+        extras: &Extras,
         module: &Module,
     ) -> Result<Report, AllocError>
-        ensures { IfOk result (λ report. IsReportOn options (value_view root.now) «module».now report.outcome report.text.items) }
+        ensures { IfOk result (λ report. (j : Json) → AreExtras options j «module».now (string_bytes extras.now.text) →
+            IsReportOn options j «module».now report.outcome report.text.items) }
     {
-        let rest = Report::rest_on(alloc, options, root, module)?;
         match options.flow {
-            FlowCheck::Defined => Report::with_defined_flow(alloc, options, root, module, rest),
-            FlowCheck::Naga => Ok(Report::with_verdict(rest)),
-            FlowCheck::Off => Ok(Report::with_verdict(rest)),
+            FlowCheck::Defined => Report::with_defined_flow(alloc, options, extras, module),
+            FlowCheck::Naga => {
+                let rest = Report::rest_on(alloc, options, extras, module)?;
+                Ok(Report::with_verdict(rest))
+            }
+            FlowCheck::Off => {
+                let rest = Report::rest_on(alloc, options, extras, module)?;
+                Ok(Report::with_verdict(rest))
+            }
         }
     }
 
@@ -208,35 +216,38 @@ impl Report {
     fn on_read<P: Progress>(
         alloc: Global,
         options: Options,
-        root: &Value<'_>,
-        module: &Module,
+        read: &ReadModule,
         progress: &mut P,
     ) -> Result<Report, AllocError>
-        ensures { IfOk result (λ report. IsReportOn options (value_view root.now) «module».now report.outcome report.text.items) }
+        ensures { IfOk result (λ report. (j : Json) → AreExtras options j read.now.«module» (string_bytes read.now.extras.text) →
+            IsReportOn options j read.now.«module» report.outcome report.text.items) }
     {
+        let module = &read.module;
         if !nests_within(module, MOST_LEVELS) {
             return Report::on_nesting(alloc, options);
         }
         progress.begins(Stage::Analysis);
-        Report::on_module(alloc, options, root, module)
+        Report::on_module(alloc, options, &read.extras, module)
     }
 
-    /// Returns the report on the module that a JSON value, which the input spells, stands for.
-    #[tactic(auto, using(crate::proofs::ReportLemmas::module_told, crate::proofs::ReportLemmas::no_module_told))]
-    fn on_value<P: Progress>(
+    /// Returns the report on what was read of an input, which may be gone by then.
+    ///
+    /// # Errors
+    ///
+    /// `AllocError` if an allocation fails.
+    #[tactic(auto, using(crate::proofs::ReportLemmas::read_told))]
+    pub fn of<P: Progress>(
         alloc: Global,
         options: Options,
-        input: &[u8],
-        root: &Value<'_>,
+        reading: Reading,
         progress: &mut P,
     ) -> Result<Report, AllocError>
-        requires utf8 { IsUtf8 input.now }
-        requires spells { document input.now ≡ Some (value_view root.now) }
-        ensures { IfOk result (λ report. IsReport options input.now report.outcome report.text.items) }
+        ensures { IfOk result (λ report. (input : List ℕ) → IsReading options input reading →
+            IsReport options input report.outcome report.text.items) }
     {
-        match read_value(alloc, root) {
-            Ok(module) => Report::on_read(alloc, options, root, &module, progress),
-            Err(error) => Report::on_error(alloc, options, input, &error),
+        match reading {
+            Reading::Module(read) => Report::on_read(alloc, options, &read, progress),
+            Reading::Refused(report) => Ok(report),
         }
     }
 
@@ -253,11 +264,7 @@ impl Report {
     ) -> Result<Report, AllocError>
         ensures { IfOk result (λ report. IsReport options input.now report.outcome report.text.items) }
     {
-        progress.begins(Stage::Module(input.len()));
-        let mut scratch = Scratch::new(alloc);
-        match parse_bytes(alloc, input, &mut scratch) {
-            Ok(root) => Report::on_value(alloc, options, input, &root, progress),
-            Err(error) => Report::on_error(alloc, options, input, &error),
-        }
+        let reading = Reading::of(alloc, options, input, progress)?;
+        Report::of(alloc, options, reading, progress)
     }
 }

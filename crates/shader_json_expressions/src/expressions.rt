@@ -45,11 +45,15 @@ fn expression_at(
 ) -> Result<Expression, Failure>
     ensures { IfOk result (λ e. IsExpression (value_view value.now) e) }
 {
-    within(index, expression(context, value))
+    within(index, read_expression(context, value))
 }
 
 /// Reads one expression.
-fn expression(context: &mut Context, value: &Value<'_>) -> Result<Expression, Failure>
+///
+/// # Errors
+///
+/// An allocation failure, or a value that is no expression.
+pub fn read_expression(context: &mut Context, value: &Value<'_>) -> Result<Expression, Failure>
     ensures { IfOk result (λ e. IsExpression (value_view value.now) e) }
 {
     let Variant { name, data } = Variant::of(context, value)?;

@@ -9,4 +9,4 @@ mod literal;
 mod operators;
 
 pub use expression_parts::Tile;
-pub use expressions::Expressions;
+pub use expressions::{Expressions, read_expression};

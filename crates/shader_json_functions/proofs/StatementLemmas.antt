@@ -2,13 +2,15 @@
 use Rattle.std.proofs.Common.{◌≡◌, ℕ, zero, suc, refl, ◌+◌, ◌<◌, ◌≤◌, List, [], ◌∷◌, ◌++◌, ◌∙◌, ap, sym, subst, take, get_or, length}
 use Rattle.std.proofs.Common.{Global, arith}
 use Rattle.std.proofs.lemmas.List.{take_more}
-use Rattle.json.specs.Json.{Json, array}
+use Rattle.json.specs.Json.{Json, Items, array, boolean, item, no_items, null, number, object, string}
+use Rattle.json.specs.Token.{Token}
 use Rattle.json.specs.Value.{value_view, items_view}
 use Rattle.json.specs.declared.value.Value.{Value}
 use Rattle.shader_ir.specs.BodyOf.{body_of, cases_of, step_of}
 use Rattle.shader_ir.specs.declared.statement.Statement.{Statement}
 use Rattle.shader_ir.specs.declared.statement.SwitchCase.{SwitchCase}
-use Rattle.shader_json_reader.specs.Shapes.{IsArray}
+use Rattle.shader_json_reader.specs.Shapes.{Each, IsArray, IsList}
+use Rattle.shader_json_functions.specs.Next.{IsNext}
 use Rattle.shader_json_functions.specs.Statements.{AreCases, AreStatements, IsBlock, IsCase, IsStatement}
 
 front : (vs : List (Value Global)) (i : ℕ) (v : Value Global) → i < length vs → v ≡ get_or vs i v → take i vs ++ v ∷ [] ≡ take (i + 1) vs
@@ -71,3 +73,25 @@ all_cases j vs i xs is end each =
     let all : AreCases (cases_of xs) (items_view vs) =
     subst (λ (ws : List (Value Global)). AreCases (cases_of xs) (items_view ws)) (take_over vs i end) each in
     subst (λ (k : Json). IsArray k (λ js. AreCases (cases_of xs) js)) (sym is) all
+
+-- the items of a block that stand for statements one by one
+each_statement : (js : Items) (xs : List Statement)
+    → Each (λ k statement. IsStatement k (step_of statement)) js xs → AreStatements (body_of xs) js
+each_statement no_items [] each = tt
+each_statement no_items (x ∷ xs) each = absurd each
+each_statement (item j js) [] each = absurd each
+each_statement (item j js) (x ∷ xs) each = (each.0, each_statement js xs each.1)
+
+block_of_items : (j : Json) (xs : List Statement) → IsList (λ k statement. IsStatement k (step_of statement)) j xs → IsBlock j (body_of xs)
+block_of_items null xs are = are
+block_of_items (boolean b) xs are = are
+block_of_items (number s) xs are = are
+block_of_items (string s) xs are = are
+block_of_items (array js) xs are = each_statement js xs are
+block_of_items (object ms) xs are = are
+
+-- the next value stands for a block if it stands for its statements
+pub next_block : (depth : ℕ) (tokens rest : List Token) (xs : List Statement)
+    → IsNext (IsList (λ k statement. IsStatement k (step_of statement))) depth tokens rest xs
+    → IsNext IsBlock depth tokens rest (body_of xs)
+next_block depth tokens rest xs read = record { j = read.j; next = read.next; stands = block_of_items read.j xs read.stands }

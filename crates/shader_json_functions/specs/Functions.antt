@@ -1,5 +1,5 @@
 -- Functions and entry points in the JSON of modules.
-use Rattle.std.specs.Prelude.{ℕ, List, Option, codes}
+use Rattle.std.specs.Prelude.{codes}
 use Rattle.json.specs.Json.{Json, Members}
 use Rattle.shader_ir.specs.declared.function.EntryPoint.{EntryPoint}
 use Rattle.shader_ir.specs.declared.function.Function.{Function}
@@ -8,6 +8,13 @@ use Rattle.shader_json_reader.specs.Shapes.{IsObject, IsList, HasField, MayHaveF
 use Rattle.shader_json_declarations.specs.Declarations.{IsArgument, IsLocal, IsResult, IsStage}
 use Rattle.shader_json_expressions.specs.Expressions.{IsExpression}
 use Rattle.shader_json_functions.specs.Statements.{IsBlock}
+
+-- what a function has beside its code
+abbrev pub HasSignature : Members → Function → Type 0
+HasSignature ms f =
+    MayHaveField IsText (codes "name") ms f.name × HasField (IsList IsArgument) (codes "arguments") ms f.arguments
+    × MayHaveField IsResult (codes "result") ms f.result × HasField (IsList IsLocal) (codes "local_variables") ms f.local_variables
+    × MayHaveField IsUnsigned (codes "diagnostic_filter_leaf") ms f.diagnostic_filter_leaf
 
 -- Of the names of expressions it says nothing.
 abbrev pub HasFunction : Members → Function → Type 0

@@ -1,3 +1,4 @@
 pub mod Functions
+pub mod Next
 pub mod Operations
 pub mod Statements

@@ -1,5 +1,5 @@
 -- The components of statements in the JSON of modules.
-use Rattle.std.specs.Prelude.{◌≡◌, ℕ, ℤ, List, [], ◌∷◌, Option, codes}
+use Rattle.std.specs.Prelude.{◌≡◌, ℕ, List, [], ◌∷◌, Option, codes}
 use Rattle.json.specs.Json.{Json, string}
 use Rattle.shader_ir.specs.declared.flags.Barrier.{Barrier}
 use Rattle.shader_ir.specs.declared.statement.AtomicFunction.{AtomicFunction}

@@ -1,13 +1,16 @@
 //! Reads functions and entry points.
 ghost use Rattle.std.specs.Prelude.{IfOk, OnOk};
 ghost use Rattle.json.specs.Value.{members_view, value_view};
-ghost use Rattle.shader_json_functions.specs.Functions.{HasFunction, IsEntryPoint, IsFunction};
+ghost use Rattle.shader_json_declarations.specs.Declarations.{IsStage};
+ghost use Rattle.shader_json_functions.specs.Functions.{HasFunction, HasSignature, IsEntryPoint, IsFunction};
 ghost use Rattle.shader_json_reader.specs.Shapes.{IsList};
 
+use crate::next::{ReadNext, next_value};
+use crate::parts::Parts;
 use crate::statements::Body;
-use json::Value;
+use json::{Reader, Value};
 use shader_arena::Arena;
-use shader_ir::{EntryPoint, Function, Items, mark};
+use shader_ir::{EntryPoint, Expression, Function, Items, ShaderStage, mark};
 use shader_json_declarations::{Fields, Read, read_item};
 use shader_json_expressions::Expressions;
 use shader_json_reader::{Context, Failure, within};
@@ -25,9 +28,21 @@ fn fill(
     ensures { OnOk result (HasFunction (members_view fields.entry.members.now) function.new) }
 {
     let Expressions(expressions) = fields.needed(context, "expressions")?;
-    function.expressions = expressions;
     let Body(body) = fields.needed(context, "body")?;
+    fill_declarations(context, fields, function)?;
+    function.expressions = expressions;
     function.body = body;
+    Ok(())
+}
+
+/// Fills an empty function with what these fields declare beside its code.
+fn fill_declarations(
+    context: &mut Context,
+    fields: Fields<'_, '_>,
+    function: &mut Function,
+) -> Result<(), Failure>
+    ensures { OnOk result (HasSignature (members_view fields.entry.members.now) function.new) }
+{
     function.name = fields.optional(context, "name")?;
     function.arguments = fields.needed(context, "arguments")?;
     function.result = fields.optional(context, "result")?;
@@ -35,6 +50,35 @@ fn fill(
     function.named_expressions = fields.needed(context, "named_expressions")?;
     function.diagnostic_filter_leaf = fields.optional(context, "diagnostic_filter_leaf")?;
     Ok(())
+}
+
+impl ReadNext for Function {
+    ghost stands = { λ j function. IsFunction j function };
+
+    fn read_next(
+        context: &mut Context,
+        reader: &mut Reader<'_>,
+        depth: usize,
+    ) -> Result<Function, Failure> {
+        let parts: Parts<'_, Arena<Expression, mark::Expression>, Body> = Parts::read_next(
+            context,
+            reader,
+            depth,
+            "expressions",
+            "body",
+        )?;
+        let Parts {
+            first,
+            second: Body(body),
+            rest,
+        } = parts;
+        let fields = Fields::of(context, &rest)?;
+        let mut function = Function::new(context.alloc);
+        fill_declarations(context, fields, &mut function)?;
+        function.expressions = first;
+        function.body = body;
+        Ok(function)
+    }
 }
 
 impl Read for ReadFunction {
@@ -116,4 +160,42 @@ fn entry_point(context: &mut Context, value: &Value<'_>) -> Result<EntryPoint, F
         stage,
         function,
     })
+}
+
+impl ReadNext for ShaderStage {
+    ghost stands = { λ j stage. IsStage j stage };
+
+    fn read_next(
+        context: &mut Context,
+        reader: &mut Reader<'_>,
+        depth: usize,
+    ) -> Result<ShaderStage, Failure> {
+        let value = next_value(context, reader, depth)?;
+        ShaderStage::read(context, &value)
+    }
+}
+
+impl ReadNext for EntryPoint {
+    ghost stands = { λ j entry_point. IsEntryPoint j entry_point };
+
+    fn read_next(
+        context: &mut Context,
+        reader: &mut Reader<'_>,
+        depth: usize,
+    ) -> Result<EntryPoint, Failure> {
+        let parts: Parts<'_, Function, ShaderStage> = Parts::read_next(
+            context, reader, depth, "function", "stage",
+        )?;
+        let Parts {
+            first: function,
+            second: stage,
+            rest,
+        } = parts;
+        let name = Fields::of(context, &rest)?.needed(context, "name")?;
+        Ok(EntryPoint {
+            name,
+            stage,
+            function,
+        })
+    }
 }

@@ -3,7 +3,11 @@
 
 mod code;
 mod functions;
+mod next;
 mod operations;
+mod parts;
 mod statements;
 
 pub use functions::{EntryPoints, Functions};
+pub use next::ReadNext;
+pub use parts::Parts;

@@ -8,9 +8,10 @@ ghost use Rattle.shader_json_reader.specs.Numbers.{IsUnsigned};
 ghost use Rattle.shader_json_reader.specs.Shapes.{IsArray, IsOnly, values_of};
 
 use crate::code::Code;
-use json::{MAX_DEPTH, Value};
+use crate::next::{ReadNext, next_value};
+use json::{MAX_DEPTH, Reader, Value};
 use shader_arena::Handle;
-use shader_ir::{Block, Statement, SwitchCase, mark};
+use shader_ir::{Block, Items, Statement, SwitchCase, mark};
 use shader_json_declarations::{Data, Fields, Read, Variant};
 use shader_json_expressions::Tile;
 use shader_json_reader::{Context, Failure, within};
@@ -24,6 +25,33 @@ impl Read for Body {
 
     fn read(context: &mut Context, value: &Value<'_>) -> Result<Body, Failure> {
         Ok(Body(block(context, MAX_DEPTH, value)?))
+    }
+}
+
+impl ReadNext for Statement {
+    ghost stands = { λ j statement. IsStatement j (step_of statement) };
+
+    fn read_next(
+        context: &mut Context,
+        reader: &mut Reader<'_>,
+        depth: usize,
+    ) -> Result<Statement, Failure> {
+        let value = next_value(context, reader, depth)?;
+        statement(context, MAX_DEPTH - 1, &value)
+    }
+}
+
+impl ReadNext for Body {
+    ghost stands = { λ j body. IsBlock j body.0 };
+
+    fn read_next(
+        context: &mut Context,
+        reader: &mut Reader<'_>,
+        depth: usize,
+    ) -> Result<Body, Failure> {
+        let items: Items<Statement> = Items::read_next(context, reader, depth)?;
+        let statements = items.into_vec();
+        Ok(Body(Block { statements }))
     }
 }
 

@@ -1,4 +1,5 @@
 mod AccurateLemmas
+pub mod PartsLemmas
 pub mod Shapes
 pub mod Numbers
 pub mod Scalars

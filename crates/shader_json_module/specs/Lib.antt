@@ -1,2 +1,3 @@
 pub mod Fixed
 pub mod Modules
+pub mod Parts

@@ -27,6 +27,16 @@ HasCode ms m =
     × HasField (IsList IsFunction) (codes "functions") ms m.functions
     × HasField (IsList IsEntryPoint) (codes "entry_points") ms m.entry_points
 
+-- what a module has beside its functions and entry points
+abbrev pub HasBesideCode : Members → Module → Type 0
+HasBesideCode ms m =
+    HasField (IsList IsType) (codes "types") ms m.types
+    × HasField (IsList IsExpression) (codes "global_expressions") ms m.global_expressions
+    × HasField AreSpecialTypes (codes "special_types") ms m.special_types × HasField (IsList IsConstant) (codes "constants") ms m.constants
+    × HasField (IsList IsOverride) (codes "overrides") ms m.overrides
+    × HasField (IsList IsGlobal) (codes "global_variables") ms m.global_variables
+    × HasField (IsList IsFilterNode) (codes "diagnostic_filters") ms m.diagnostic_filters
+
 -- the value stands for the module
 abbrev pub IsModule : Json → Module → Type 0
 IsModule j m = IsObject j (λ ms. HasCode ms m × HasDeclarations ms m)

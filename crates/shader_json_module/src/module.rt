@@ -3,9 +3,10 @@ ghost use Rattle.std.specs.Prelude.{◌≡◌, ◌<◌, ◌↔◌, length, Err, 
 ghost use Rattle.std.specs.Str.{IsUtf8};
 ghost use Rattle.json.specs.Json.{document};
 ghost use Rattle.json.specs.Value.{members_view, value_view};
-ghost use Rattle.shader_json_module.specs.Modules.{HasCode, HasDeclarations, IsModule, IsOfValue, IsTextOf};
+ghost use Rattle.shader_json_module.specs.Modules.{HasBesideCode, HasCode, HasDeclarations, IsModule, IsOfValue, IsTextOf};
 ghost use Rattle.shader_json_reader.specs.Errors.{IsAccurate, most_text_bytes};
 
+use crate::parts::read_parts;
 use json::{Scratch, Value};
 use shader_ir::Module;
 use shader_json_declarations::Fields;
@@ -45,6 +46,22 @@ fn fill_declarations(
     module.overrides = fields.needed(context, "overrides")?;
     module.global_variables = fields.needed(context, "global_variables")?;
     module.diagnostic_filters = fields.needed(context, "diagnostic_filters")?;
+    Ok(())
+}
+
+/// Fills an empty module with all that these fields have beside functions and entry points.
+pub(crate) fn fill_beside_code(
+    context: &mut Context,
+    fields: Fields<'_, '_>,
+    module: &mut Module,
+) -> Result<(), Failure>
+    ensures { OnOk result (HasBesideCode (members_view fields.entry.members.now) «module».new) }
+{
+    let types = fields.needed(context, "types")?;
+    let Expressions(global_expressions) = fields.needed(context, "global_expressions")?;
+    fill_declarations(context, fields, module)?;
+    module.types = types;
+    module.global_expressions = global_expressions;
     Ok(())
 }
 
@@ -108,13 +125,20 @@ pub fn read_value(alloc: Global, root: &Value<'_>) -> Result<Module, ReadError>
 /// # Errors
 ///
 /// A text that is too long, is no JSON or is no module; or an allocation failure.
-#[tactic(auto, using(crate::proofs::AccurateLemmas::accurate))]
+#[tactic(auto, using(crate::proofs::AccurateLemmas::accurate, crate::proofs::PartsLemmas::text_of_parts))]
 pub fn read_module(alloc: Global, text: &[u8]) -> Result<Module, ReadError>
     ensures ok { OnOk result (IsUtf8 text.now × IsSome (document text.now)) }
     ensures text { IfOk result (λ m. IsTextOf text.now m) }
     ensures err { IfErr result (IsAccurate text.now) }
     ensures too_long { (result ≡ Err ReadError.TooLong) ↔ (most_text_bytes < length text.now) }
 {
+    if MOST_BYTES < text.len() {
+        return Err(ReadError::TooLong);
+    }
+    let mut scratch = Scratch::new(alloc);
+    if let Some(parts) = read_parts(alloc, text, &mut scratch)? {
+        return Ok(parts.module);
+    }
     let mut scratch = Scratch::new(alloc);
     let root = parse_bytes(alloc, text, &mut scratch)?;
     read_value(alloc, &root)

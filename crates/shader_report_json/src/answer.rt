@@ -224,6 +224,17 @@ fn layout_section(alloc: Global, module: &Module) -> Result<Section, AllocError>
     }
 }
 
+/// Returns the line with a section between its front and further members. The section may be long, so it isn't copied.
+fn around(front: &str, section: String, members: &str) -> Result<String, AllocError>
+    ensures { IfOk result (λ text. string_bytes text ≡ front.now ++ (string_bytes section ++ (members.now ++ codes "}\n"))) }
+{
+    let mut text = section;
+    text.insert_str(0, front)?;
+    text.push_str(members)?;
+    text.push_str("}\n")?;
+    Ok(text)
+}
+
 /// Returns the report on a well-formed module, with further members.
 fn analysed(
     alloc: Global,
@@ -238,8 +249,9 @@ fn analysed(
 {
     let layouts = layout_section(alloc, module)?;
     let analysis = analysis_section(alloc, module, flags, capabilities)?;
-    let text = format!(in alloc; "{{{},{}{members}}}\n", layouts.text, analysis.text)?;
     let is_accepted = layouts.passes && analysis.passes;
+    let front = format!(in alloc; "{{{},", layouts.text)?;
+    let text = around(front.as_str(), analysis.text, members)?;
     Ok(Answer { text, is_accepted })
 }
 

@@ -1,22 +1,32 @@
 use Rattle.std.proofs.Common.{◌∙◌, ap, sym, subst, Err}
 use Rattle.std.specs.Io.KnownBytes.{Consumes}
-use Rattle.report.proofs.RunLemmas.{answered, refused, refused_as_long}
+use Rattle.report_answers.specs.Reports.{IsReport}
+use Rattle.report.proofs.RunLemmas.{answered, refused, refused_as_long, spelled}
 use Rattle.report.proofs.program.run.Given.{Over}
 use Rattle.report.proofs.program.run.Goals as goal
+use Rattle.report.proofs.program.run.Goals.{After-drop-report}
 
 -- the report is on what was read
-read : (g : Over) (c : goal.After-drop-input g) →
+read : (g : Over) (c : After-drop-report g) →
     Consumes (g.R.Source.remaining c.args.reader.now) (g.R.Source.remaining c.read_input.new.reader) c.as_slice.result.now
 read g c = subst (λ input. Consumes (g.R.Source.remaining c.args.reader.now) (g.R.Source.remaining c.read_input.new.reader) input)
     (sym c.as_slice.ensures.value) c.in-Ok.ensures.bytes
 
-pub returns-in-Ok-on-clause-answer : goal.returns-in-Ok-on-clause-answer
-returns-in-Ok-on-clause-answer g c =
-    answered _ _ _ _ _ _ _ _ _ (read g c) c.in-Ok.ensures.end c.in-Ok-on.ensures c.write_report.ensures.answer
+report : (g : Over) (c : After-drop-report g) →
+    IsReport c.args.options c.as_slice.result.now c.in-Ok-of-2.report.outcome c.in-Ok-of-2.report.text.items
+report g c = c.in-Ok-of-2.ensures c.as_slice.result.now c.in-Ok-of.ensures
 
-pub returns-in-Ok-on-clause-refusal : goal.returns-in-Ok-on-clause-refusal
-returns-in-Ok-on-clause-refusal g c =
-    refused _ _ _ _ _ _ _ _ _ _ _ _ (read g c) c.in-Ok.ensures.end c.in-Ok-on.ensures c.write_report.ensures.refusal
+pub returns-in-Ok-of-2-clause-json : goal.returns-in-Ok-of-2-clause-json
+returns-in-Ok-of-2-clause-json g c =
+    spelled _ _ _ _ _ _ _ _ (read g c) c.in-Ok.ensures.end (report g c) c.write_report.ensures.answer
+
+pub returns-in-Ok-of-2-clause-answer : goal.returns-in-Ok-of-2-clause-answer
+returns-in-Ok-of-2-clause-answer g c =
+    answered _ _ _ _ _ _ _ _ _ (read g c) c.in-Ok.ensures.end (report g c) c.write_report.ensures.answer
+
+pub returns-in-Ok-of-2-clause-refusal : goal.returns-in-Ok-of-2-clause-refusal
+returns-in-Ok-of-2-clause-refusal g c =
+    refused _ _ _ _ _ _ _ _ _ _ _ _ (read g c) c.in-Ok.ensures.end (report g c) c.write_report.ensures.refusal
 
 pub returns-in-Err-TooLong-clause-refusal : goal.returns-in-Err-TooLong-clause-refusal
 returns-in-Err-TooLong-clause-refusal g c =

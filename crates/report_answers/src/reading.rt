@@ -1,0 +1,93 @@
+//! What a report reads of its input, which needn't be there afterwards.
+ghost use Rattle.std.specs.Prelude.{◌≡◌, IfOk, false};
+ghost use Rattle.json.specs.Value.{value_view};
+ghost use Rattle.report_answers.specs.Reading.{IsReading};
+ghost use Rattle.shader_json_module.specs.Parts.{AreModuleParts};
+
+use crate::members::Extras;
+use crate::options::Options;
+use crate::progress::{Progress, Stage};
+use crate::reports::Report;
+use json::Scratch;
+use shader_ir::Module;
+use shader_json_module::{ModuleParts, parse_bytes, read_parts, read_value};
+use std::alloc::{AllocError, Global};
+
+/// A module that was read, and what the report on it has beside the analysis.
+#[derive(Drop)]
+pub struct ReadModule {
+    pub module: Module,
+    pub extras: Extras,
+}
+
+/// What was read of an input.
+#[derive(Drop)]
+pub enum Reading {
+    /// A module.
+    Module(ReadModule),
+    /// No module, and this report says why.
+    Refused(Report),
+}
+
+impl Reading {
+    /// Reads an input in parts, of which none but the rest is a JSON value as a whole.
+    #[tactic(auto, using(crate::proofs::ReadingLemmas::parts_read))]
+    fn of_parts(
+        alloc: Global,
+        options: Options,
+        input: &[u8],
+        parts: ModuleParts<'_>,
+    ) -> Result<Reading, AllocError>
+        requires unasked { options.has_resources ≡ false }
+        requires are { AreModuleParts input.now parts.«module» (value_view parts.rest) }
+        ensures { IfOk result (λ reading. IsReading options input.now reading) }
+    {
+        let ModuleParts { module, rest } = parts;
+        let extras = Extras::of(alloc, options, &rest, &module)?;
+        Ok(Reading::Module(ReadModule { module, extras }))
+    }
+
+    /// Reads an input as one JSON value.
+    #[tactic(auto, using(crate::proofs::ReadingLemmas::whole_read, crate::proofs::ReadingLemmas::no_module_read))]
+    fn of_whole(alloc: Global, options: Options, input: &[u8]) -> Result<Reading, AllocError>
+        ensures { IfOk result (λ reading. IsReading options input.now reading) }
+    {
+        let mut scratch = Scratch::new(alloc);
+        let root = match parse_bytes(alloc, input, &mut scratch) {
+            Ok(root) => root,
+            Err(error) => {
+                return Ok(Reading::Refused(Report::on_error(alloc, options, input, &error)?));
+            }
+        };
+        match read_value(alloc, &root) {
+            Ok(module) => {
+                let extras = Extras::of(alloc, options, &root, &module)?;
+                Ok(Reading::Module(ReadModule { module, extras }))
+            }
+            Err(error) => { Ok(Reading::Refused(Report::on_error(alloc, options, input, &error)?)) }
+        }
+    }
+
+    /// Reads a module from an input. Where words don't ask for its resources, which need the whole JSON, it is read in parts.
+    ///
+    /// # Errors
+    ///
+    /// `AllocError` if an allocation fails.
+    pub fn of<P: Progress>(
+        alloc: Global,
+        options: Options,
+        input: &[u8],
+        progress: &mut P,
+    ) -> Result<Reading, AllocError>
+        ensures { IfOk result (λ reading. IsReading options input.now reading) }
+    {
+        progress.begins(Stage::Module(input.len()));
+        if !options.has_resources {
+            let mut scratch = Scratch::new(alloc);
+            if let Some(parts) = read_parts(alloc, input, &mut scratch)? {
+                return Reading::of_parts(alloc, options, input, parts);
+            }
+        }
+        Reading::of_whole(alloc, options, input)
+    }
+}
