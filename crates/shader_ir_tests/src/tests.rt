@@ -7,4 +7,4 @@ mod scalars;
 mod texts;
 
 /// The message of a test that fails only when out of memory.
-const OUT_OF_MEMORY: &str = "want of memory";
+const OUT_OF_MEMORY: &str = "out of memory";

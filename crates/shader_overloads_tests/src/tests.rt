@@ -1,5 +1,6 @@
 //! One module for each kind of test, and their helpers. The narrowing of sets is tested line by line (tests/samples/call.in, narrow.in and
 //! rules.in).
+mod calls;
 mod conclusions;
 mod lists;
 mod refusals;
@@ -15,7 +16,7 @@ use std::alloc::{AllocError, Global};
 use std::process::Abort;
 
 /// The message of a test that fails only when out of memory.
-pub const OUT_OF_MEMORY: &str = "want of memory";
+pub const OUT_OF_MEMORY: &str = "out of memory";
 
 pub const SCALAR: ConstructorSize = ConstructorSize::Scalar;
 

@@ -11,7 +11,7 @@ use std::collections::HashSet;
 use std::process::Abort;
 
 /// The message of a test that only an allocation failure makes fail.
-pub const OUT_OF_MEMORY: &str = "want of memory";
+pub const OUT_OF_MEMORY: &str = "out of memory";
 
 const IMAGE: GlobalOrArgument = GlobalOrArgument::Argument(0);
 

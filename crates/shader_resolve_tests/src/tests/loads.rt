@@ -89,7 +89,7 @@ fn with_pair(rt: &impl Abort, alloc: Global) -> Module {
     module
         .types
         .insert(Type { name: None, inner })
-        .expect(rt, "want of memory");
+        .expect(rt, "out of memory");
     module
 }
 

@@ -4,7 +4,7 @@ use shader_resolve::{MOST_LEVELS, check_module, nests_within};
 use std::alloc::Global;
 use std::process::Abort;
 
-const OUT_OF_MEMORY: &str = "want of memory";
+const OUT_OF_MEMORY: &str = "out of memory";
 
 /// Returns `levels` nested blocks, the innermost empty.
 fn nested(rt: &impl Abort, alloc: Global, levels: usize) -> Block {

@@ -1,12 +1,12 @@
 //! Tests of copies of errors, and of the texts of errors that no query of a module returns.
 use shader_arena::Handle;
 use shader_overloads::MissingSpecialType;
-use shader_resolve::{ModuleFault, ResolveError};
+use shader_resolve::{FaultAt, ModuleFault, ModuleLocation, ResolveError};
 use std::alloc::Global;
 use std::fmt::Display;
 use std::process::Abort;
 
-const OUT_OF_MEMORY: &str = "want of memory";
+const OUT_OF_MEMORY: &str = "out of memory";
 
 /// Asserts that a copy of an error is equal to it.
 fn is_copied(rt: &impl Abort, alloc: Global, error: ResolveError) {
@@ -60,6 +60,20 @@ fn texts(rt: HostRuntime) {
         ModuleFault::EmitRange,
         "An emitted range ends past the function's expressions",
     );
+}
+
+#[test]
+fn a_fault_shows_its_location(rt: HostRuntime) {
+    let alloc = rt.alloc();
+    let location = ModuleLocation::FunctionExpression(Handle::from_index(1), Handle::from_index(2));
+    let fault = ModuleFault::OperandNotEarlier;
+    let text = "function [1], expression [2]: An operand is the expression itself or a later one";
+    shows(&rt, alloc, FaultAt { location, fault }, text);
+    let location = ModuleLocation::EntryPointBody(0);
+    let fault = ModuleFault::EmitRange;
+    let text =
+        "entry point 0, its statements: An emitted range ends past the function's expressions";
+    shows(&rt, alloc, FaultAt { location, fault }, text);
 }
 
 #[test]

@@ -16,7 +16,7 @@ use std::alloc::Global;
 use std::io::Print;
 use std::process::Abort;
 
-const OUT_OF_MEMORY: &str = "want of memory";
+const OUT_OF_MEMORY: &str = "out of memory";
 
 type Expressions = Arena<Expression, mark::Expression>;
 

@@ -1,0 +1,38 @@
+//! Tests of the rule that a call means.
+use crate::tests::{OUT_OF_MEMORY, SCALAR, is_rule};
+use shader_arena::UniqueArena;
+use shader_ir::{MathFunction, Scalar, TypeInner};
+use shader_overloads::{Rule, rule_of};
+use std::alloc::Global;
+use std::process::Abort;
+
+/// Returns the rule that `max` of two scalars means, in a module without types.
+fn rule_of_max(rt: &impl Abort, alloc: Global, left: Scalar, right: Scalar) -> Option<Rule> {
+    let types = UniqueArena::new(alloc);
+    let arguments = [TypeInner::Scalar(left), TypeInner::Scalar(right)];
+    let rule = rule_of(alloc, MathFunction::Max, &arguments, &types).expect(rt, OUT_OF_MEMORY);
+    drop(types);
+    rule
+}
+
+#[test]
+fn a_call_means_its_preferred_rule(rt: HostRuntime) {
+    let rule = rule_of_max(&rt, rt.alloc(), Scalar::U32, Scalar::ABSTRACT_INT);
+    let is_of_u32 = match &rule {
+        Some(rule) => {
+            let u32 = (SCALAR, Scalar::U32);
+            is_rule(rule, &[u32, u32], u32)
+        }
+        None => false,
+    };
+    drop(rule);
+    assert!(rt; is_of_u32);
+}
+
+#[test]
+fn a_call_that_no_rule_accepts_means_none(rt: HostRuntime) {
+    let rule = rule_of_max(&rt, rt.alloc(), Scalar::F32, Scalar::F64);
+    let is_none = rule.is_none();
+    drop(rule);
+    assert!(rt; is_none);
+}
