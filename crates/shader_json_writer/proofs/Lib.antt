@@ -1,0 +1,6 @@
+pub mod FloatLemmas
+pub mod ListLemmas
+pub mod MemberLemmas
+pub mod NumberLemmas
+pub mod StatementLemmas
+pub mod TextLemmas
