@@ -7,7 +7,7 @@ use Rattle.shader_ir.specs.declared.types.TypeInner.TheVariants.{Scalar, Vector,
 use Rattle.shader_ir.specs.declared.proc.type_resolution.TypeResolution.{TypeResolution}
 use Rattle.shader_ir.specs.declared.proc.type_resolution.TypeResolution.TheVariants.{Handle, Value}
 use Rattle.shader_ir.specs.Key.{StructKey, InnerKey, pointer_to, pointer_at, canonical, shape_key, found_key}
-use Rattle.shader_ir.specs.Key.{key_of, found_inner, inner_of, FitsTypes, IsNoStruct, IsSameHandle}
+use Rattle.shader_ir.specs.Key.{key_of, found_inner, inner_of, FitsTypes, IsNoStruct, IsSameHandle, PointsInRange}
 use Rattle.shader_ir.specs.TypeTree.{PointsBelow, IsBackward}
 use Rattle.shader_ir.proofs.TypeTreeLemmas.{below, weaker}
 
@@ -99,10 +99,15 @@ module _ (types : List «Type») where
             let both : InnerKey (canonical types left) ≡ InnerKey (canonical types right) = sym first ∙ e ∙ second in cc),
       )
 
+  -- the handles of a resolution that fits are in range
+  pub fits-in_range : (resolution : TypeResolution) → FitsTypes types resolution → PointsInRange types resolution
+  fits-in_range (Handle handle) fits = fits
+  fits-in_range (Value inner) fits = fits.0
+
   -- the handles of a resolution's shape are in range
-  pub inner_fits : IsBackward types → (resolution : TypeResolution) (inner : TypeInner) → inner_of types resolution ≡ Some inner →
-      FitsTypes types resolution → PointsBelow (length types) inner
-  inner_fits backward (Handle handle) inner e fits = fits_found (slice_get types handle) refl e
+  pub inner_in_range : IsBackward types → (resolution : TypeResolution) (inner : TypeInner) → inner_of types resolution ≡ Some inner →
+      PointsInRange types resolution → PointsBelow (length types) inner
+  inner_in_range backward (Handle handle) inner e fits = fits_found (slice_get types handle) refl e
     where
       fits_found : (found : Option «Type») → slice_get types handle ≡ found → found_inner found ≡ Some inner →
           PointsBelow (length types) inner
@@ -111,4 +116,8 @@ module _ (types : List «Type») where
           subst (λ a. PointsBelow (length types) a) same (weaker handle (length types) type.inner (omega (arith, fits))
           (below types backward handle type at))
       fits_found None at e = absurd (cc)
-  inner_fits backward (Value value) inner e fits = let same : value ≡ inner = cc in subst (λ a. PointsBelow (length types) a) same fits.0
+  inner_in_range backward (Value value) inner e fits = let same : value ≡ inner = cc in subst (λ a. PointsBelow (length types) a) same fits
+
+  pub inner_fits : IsBackward types → (resolution : TypeResolution) (inner : TypeInner) → inner_of types resolution ≡ Some inner →
+      FitsTypes types resolution → PointsBelow (length types) inner
+  inner_fits backward resolution inner e fits = inner_in_range backward resolution inner e (fits-in_range resolution fits)

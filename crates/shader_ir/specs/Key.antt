@@ -61,6 +61,11 @@ abbrev pub IsNoStruct : TypeInner → Type 0
 IsNoStruct (Struct span members) = ⊥
 IsNoStruct _ = Unit {0}
 
+-- the type handles of the resolution are in range
+abbrev pub PointsInRange : List «Type» → TypeResolution → Type 0
+PointsInRange types (Handle handle) = handle < length types
+PointsInRange types (Value inner) = PointsBelow (length types) inner
+
 -- the handles of the resolution are in range, and no type outside the arena is a struct
 abbrev pub FitsTypes : List «Type» → TypeResolution → Type 0
 FitsTypes types (Handle handle) = handle < length types
