@@ -2,7 +2,7 @@
 
 ghost use Rattle.std.specs.Prelude.{IsTrue};
 ghost use Rattle.shader_resolve.specs.Context.{IsInRange};
-ghost use Rattle.shader_resolve.specs.DerivesByRule.{AnswerFits};
+ghost use Rattle.shader_resolve.specs.DerivesByRule.{AnswerInRange};
 
 use shader_arena::{Arena, Handle, UniqueArena};
 use shader_ir::proc::{TypeResolution, types_backward};
@@ -35,11 +35,11 @@ fn stored_type<'a>(
     stored: &'a [TypeResolution],
     operand: Handle<mark::Expression>,
 ) -> Result<&'a TypeResolution, ResolveError>
-    ensures { AnswerFits types.now result }
+    ensures { AnswerInRange types.now result }
 {
     match stored.get(operand.index()) {
         Some(resolution) => {
-            if resolution.fits(types) {
+            if resolution.is_in_range(types) {
                 Ok(resolution)
             } else {
                 Err(ResolveError::FunctionReturnsVoid)
@@ -66,7 +66,7 @@ fn resolve_next(
         alloc,
         expr,
         |operand: Handle<mark::Expression>| -> Result<&TypeResolution, ResolveError>
-            ensures { AnswerFits types.entry.now result }
+            ensures { AnswerInRange types.entry.now result }
         { stored_type(types, stored, operand) },
     )
 }

@@ -13,17 +13,17 @@ use Rattle.shader_analysis_spec.specs.Faults.{NoResource, NonUniformControlFlow,
 use Rattle.shader_analysis_spec.specs.StepFaults.{StepFault}
 use Rattle.shader_analysis_spec.specs.Infos.{Info, Picks}
 use Rattle.shader_analysis_spec.specs.Needs.{Need, bit_of_need}
-use Rattle.shader_analysis_spec.specs.Program.{Function, Module}
+use Rattle.shader_analysis_spec.specs.Program.{Expression, Function, Module}
 use Rattle.shader_analysis_spec.specs.Steps.{MeetsSteps, StepExpressionNeed, StepKill, StepNeed, StepResult}
 use Rattle.shader_pass_laws.proofs.Arguments.{typed_functions_have_arguments}
 use Rattle.shader_pass_laws.proofs.Pairs.{collected_pairs_fit}
 use Rattle.shader_pass_laws.specs.PairsFit.{FitStored}
 use Rattle.shader_pass_laws.specs.Refused.{CountsFit}
-use Rattle.shader_info.specs.Fit.{Fits}
+use Rattle.shader_info.specs.Fit.{Fits, IsOfModule}
 use Rattle.shader_info.specs.declared.info.ExpressionInfo.{ExpressionInfo}
 use Rattle.shader_info.specs.declared.info.FunctionInfo.{FunctionInfo}
 use Rattle.shader_ir.specs.Key.{FitsTypes}
-use Rattle.shader_resolve.specs.Context.{context_of}
+use Rattle.shader_resolve.specs.Context.{IsInRange, context_of}
 use Rattle.shader_resolve.specs.WellFormed.{ExpressionInRange, FunctionInRange}
 use Rattle.shader_pass_laws.proofs.ResultLemmas.{expression_needs_of_the_step, kills_of_the_step, needs_of_the_step}
 use Rattle.shader_pass_laws.proofs.ResultLemmas.{pairs_of_the_step, results_of_the_step}
@@ -35,6 +35,7 @@ use Rattle.shader_pass_laws.specs.OfTheStep.{HasUses}
 use Rattle.shader_passes.specs.InfoOf.{info_of, infos_of}
 use Rattle.shader_passes.specs.RecordedPairs.{SameMembers, info_pairs}
 use Rattle.shader_analysis.proofs.PositionLemmas.{found_at}
+use Rattle.shader_analysis.proofs.SizesLemmas.{types_of_module}
 use Rattle.shader_analysis.proofs.FewNeeds.{few_expression_needs, few_needs}
 use Rattle.shader_analysis.specs.Analyzable.{AreStored, IsAnalyzable}
 
@@ -52,11 +53,16 @@ pub record IsComputed (m : Module) (infos : List FunctionInfo) (f : Function) (i
   pub uses : HasUses m infos f (map (λ at. at.0) info.global_uses)
   pub pairs : SameMembers (info_pairs info) (computed_pairs infos f)
 
+-- all that the expressions of such a function name exists
+names_in_range : (m : Module) (f : Function) → FunctionInRange m f → (e : ℕ) (x : Expression) → slice_get f.expressions e ≡ Some x →
+    IsInRange (function_context m f) x
+names_in_range m f within e x is_there =
+    (All-contains (ExpressionInRange m (context_of m f.local_variables f.arguments) f.expressions) f.expressions x within.expressions
+    (is_item f.expressions e x is_there)).names
+
 -- the globals that an analysable function names exist, and each stored info has an entry for each
 pub globals_within : (m : Module) (f : Function) → FunctionInRange m f → GlobalsWithin m f
-globals_within m f within e g is_there =
-    (All-contains (ExpressionInRange m (context_of m f.local_variables f.arguments) f.expressions) f.expressions _ within.expressions
-    (is_item f.expressions e _ is_there)).names
+globals_within m f within e g is_there = names_in_range m f within e _ is_there
 
 pub fit_stored : (m : Module) (infos : List FunctionInfo) → AreStored m infos → FitStored m infos
 fit_stored m infos stored = record {
@@ -67,10 +73,10 @@ fit_stored m infos stored = record {
 pub each_fits : (m : Module) (infos : List FunctionInfo) → AreStored m infos → EachFits m infos
 each_fits m infos stored c info is = let r = (fit_stored m infos stored).function c info is in (stored.fit c r.0 info r.1 is).global_uses
 
-all_of_map : (m : Module) (infos : List ExpressionInfo) → All (FitsTypes m.types) (map (λ (e : ExpressionInfo). e.ty) infos) →
-    All (λ (e : ExpressionInfo). FitsTypes m.types e.ty) infos
+all_of_map : (m : Module) (infos : List ExpressionInfo) → All (IsOfModule m) (map (λ (e : ExpressionInfo). e.ty) infos) →
+    All (λ (e : ExpressionInfo). IsOfModule m e.ty) infos
 all_of_map m infos all k d lt =
-    subst (FitsTypes m.types) (get_or-map (λ (e : ExpressionInfo). e.ty) infos k d d.ty lt)
+    subst (IsOfModule m) (get_or-map (λ (e : ExpressionInfo). e.ty) infos k d d.ty lt)
     (all k d.ty (omega (arith, lt, length-map infos (λ (e : ExpressionInfo). e.ty))))
 
 module _ (m : Module) (infos : List FunctionInfo) (f : Function) (on : IsAnalyzable m infos f) (info : FunctionInfo)
@@ -115,7 +121,9 @@ module _ (m : Module) (infos : List FunctionInfo) (f : Function) (on : IsAnalyza
       record {
         global_uses = sym (length-map info.global_uses (λ at. at.0)) ∙ is.uses.1;
         expressions = long;
-        types = all_of_map m info.expressions is.fit;
+        types = all_of_map m info.expressions
+            (types_of_module (function_context m f) f.expressions (names_in_range m f on.handles) m
+            (map (λ (e : ExpressionInfo). e.ty) info.expressions) is.fit is.types.derived);
         known = pairs.0;
         with_arguments = pairs.1;
       }

@@ -8,3 +8,4 @@ pub mod Growing
 pub mod NextLemmas
 pub mod PositionLemmas
 pub mod TypedLemmas
+pub mod SizesLemmas

@@ -1,7 +1,7 @@
 -- One more global expression, if those before it have their types.
 use Rattle.std.proofs.Common.{◌≡◌, sym, ap, subst, ◌∙◌, ◌⊎◌, inl, inr, ℕ, ◌+◌, ◌<◌}
 use Rattle.std.proofs.Common.{List, [], ◌∷◌, ◌++◌, Result, Ok, Err, IfOk, IfErr, Some, length, length-append, arith, slice_get}
-use Rattle.std.proofs.lemmas.Option.{slice_get_within}
+use Rattle.std.proofs.lemmas.Option.{same_Some, slice_get_within}
 use Rattle.shader_analysis_spec.proofs.TypeLemmas.{types_are_unique}
 use Rattle.shader_analysis_spec.specs.Derivable.{Derives, IsRefused}
 use Rattle.shader_analysis_spec.specs.Faults.{Cause, ComesBefore, IsFirstFault, ModuleFault, OfEntryPoint, OfFunction}
@@ -15,7 +15,9 @@ use Rattle.shader_resolve.proofs.ContextLemmas.{contexts_of_well_formed}
 use Rattle.shader_resolve.proofs.MemoryLemmas.{wanted}
 use Rattle.shader_resolve.specs.Context.{Context, IsInRange, TypesInRange, context_of}
 use Rattle.shader_resolve.specs.DerivesByRule.{memory_of}
-use Rattle.shader_resolve.specs.Outcome.{Memory, refusal_of}
+use Rattle.shader_resolve.specs.Outcome.{Given, Memory, refusal_of}
+use Rattle.shader_resolve.specs.Stored.{IsOutcomeOf, outcome_at}
+use Rattle.shader_resolve.specs.TypingRules.{typing_rule}
 use Rattle.shader_resolve.specs.WellFormed.{IsWellFormed}
 use Rattle.shader_resolve.specs.declared.error.ResolveError.{ResolveError}
 use Rattle.shader_resolve.specs.declared.error.ResolveError.TheVariants as resolve
@@ -31,10 +33,15 @@ module _ (context : Context) (expressions : List Expression) (types : List TypeR
   abbrev Determined : Memory → Result TypeResolution ResolveError → Type 0
   Determined memory result = AreOfTheFirst context expressions types → IsResultOf context expressions (length types) memory result
 
-  pub is_next : (memory : Memory) (result : Result TypeResolution ResolveError) → Determined memory result →
+  pub is_next : (x : Expression) → slice_get expressions (length types) ≡ Some x → (memory : Memory)
+      (result : Result TypeResolution ResolveError) → IsOutcomeOf types memory (typing_rule context x) result → Determined memory result →
       (TypesInRange context → IfOk result (λ ty. FitsTypes context.types ty)) → IfOk result (IsNextType context expressions types)
-  is_next memory (Ok ty) reported fits = record { derived = reported; fits = fits }
-  is_next memory (Err failure) reported fits = tt
+  is_next x is memory (Ok ty) outcome reported fits = record {
+    by_rule = λ y is_y. subst (λ v. outcome_at types (typing_rule context v) ≡ Some (Given ty)) (same_Some x y (sym is ∙ is_y)) outcome;
+    derived = reported;
+    fits = fits;
+  }
+  is_next x is memory (Err failure) outcome reported fits = tt
 
   pub is_refusal : (x : Expression) → slice_get expressions (length types) ≡ Some x → (result : Result TypeResolution ResolveError) →
       Determined (memory_of x) result → IfErr result (IsTypeRefusal context expressions types)

@@ -8,7 +8,9 @@ use Rattle.shader_ir.specs.TypeTree.{IsBackward}
 use Rattle.shader_ir.specs.declared.proc.type_resolution.TypeResolution.{TypeResolution}
 use Rattle.shader_resolve.specs.Context.{Context, IsInRange, TypesInRange}
 use Rattle.shader_resolve.specs.DerivesByRule.{memory_of}
-use Rattle.shader_resolve.specs.Outcome.{IsOutOfMemory, refusal_of}
+use Rattle.shader_resolve.specs.Outcome.{Given, IsOutOfMemory, refusal_of}
+use Rattle.shader_resolve.specs.Stored.{outcome_at}
+use Rattle.shader_resolve.specs.TypingRules.{typing_rule}
 use Rattle.shader_resolve.specs.WellFormed.{OperandsBelow}
 use Rattle.shader_resolve.specs.declared.error.ResolveError.{ResolveError}
 use Rattle.shader_resolve.specs.declared.error.ResolveError.TheVariants.{OutOfMemory}
@@ -24,8 +26,10 @@ module _ (context : Context) (expressions : List Expression) where
     pub operands : (x : Expression) → slice_get expressions e ≡ Some x → OperandsBelow e x
     pub fit : All (FitsTypes context.types) types
 
-  -- the next expression has the type if those before it have theirs; the type names only types that exist if those of the context do
+  -- the type is the rule's outcome at the types before it, and that of the next expression if those before it have theirs; it names only
+  -- types that exist if those of the context do
   pub record IsNextType (types : List TypeResolution) (ty : TypeResolution) : Type 0 where
+    pub by_rule : (x : Expression) → slice_get expressions (length types) ≡ Some x → outcome_at types (typing_rule context x) ≡ Some (Given ty)
     pub derived : AreOfTheFirst context expressions types → Derives context expressions (length types) ty
     pub fits : TypesInRange context → FitsTypes context.types ty
 

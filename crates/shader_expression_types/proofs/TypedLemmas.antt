@@ -8,12 +8,12 @@ use Rattle.shader_analysis_spec.specs.Derivable.{Answers, plain, by_one, by_two,
 use Rattle.shader_analysis_spec.specs.Program.{Expression, Label, expression_operands}
 use Rattle.shader_expression_types.specs.Typed.{AreOfTheFirst, IsResultOf}
 use Rattle.shader_expression_types.proofs.ListLemmas.{at_position}
-use Rattle.shader_ir.specs.Key.{FitsTypes}
-use Rattle.shader_resolve.proofs.QueriedLemmas.{queried, each-queried}
+use Rattle.shader_ir.specs.Key.{FitsTypes, HoldsNoMembers}
+use Rattle.shader_resolve.proofs.GivenLemmas.{GivesNoMembers, KeepsNoMembers, fits-no_members, no_members_kept}
 use Rattle.shader_resolve.proofs.MemoryLemmas.{for_type}
 use Rattle.shader_resolve.specs.declared.error.ResolveError.{ResolveError}
-use Rattle.shader_resolve.specs.Context.{Context}
-use Rattle.shader_resolve.specs.DerivesByRule.{OperandAnswer, DerivesByRule, Answered, EachQueried, AnswerFits}
+use Rattle.shader_resolve.specs.Context.{Context, IsInRange}
+use Rattle.shader_resolve.specs.DerivesByRule.{OperandAnswer, DerivesByRule, Answered}
 use Rattle.shader_resolve.specs.Outcome.{Given, Meets, Memory, Outcome, Refusal, Refused}
 use Rattle.shader_resolve.specs.TypingRules.{TypingRule, Plain, One, Two, typing_rule}
 use Rattle.shader_resolve.specs.WellFormed.{OperandsBelow}
@@ -32,13 +32,14 @@ module _ (context : Context) (expressions : List Expression) (types : List TypeR
 
   module _ (e : ℕ) (x : Expression) (is : slice_get expressions e ≡ Some x) (below : OperandsBelow (length types) x) (memory : Memory) where
     -- a result that meets the typing rule's outcome is the outcome for the expression
-    concluded : (result : Result TypeResolution ResolveError) (outcome : Outcome) → Answers context expressions e outcome →
-        Meets memory result outcome →
+    concluded : (result : Result TypeResolution ResolveError) (outcome : Outcome) → GivesNoMembers outcome →
+        Answers context expressions e outcome → Meets memory result outcome →
         IsResultOf context expressions e memory result
-    concluded (Ok resolution) (Given g) answers meets = given answers (ap Given (sym meets))
-    concluded (Ok resolution) (Refused refusal) answers meets = absurd meets
-    concluded (Err failure) (Given g) answers meets = inr (for_type memory failure meets)
-    concluded (Err failure) (Refused refusal) answers (inl same) =
+    concluded (Ok resolution) (Given g) none answers meets = given answers (ap Given (sym meets))
+    concluded (Ok resolution) (Refused refusal) none answers meets = absurd meets
+    concluded (Err failure) (Given g) none answers (inl for_rule) = inr (for_type memory failure for_rule)
+    concluded (Err failure) (Given g) none answers (inr for_copy) = absurd (for_copy.0 none)
+    concluded (Err failure) (Refused refusal) none answers (inl same) =
         let P : Refusal → Type 0 = λ r. Answers context expressions e (Refused r) in
         inl (record {
           expression = x;
@@ -49,45 +50,30 @@ module _ (context : Context) (expressions : List Expression) (types : List TypeR
               (there.0, there.2);
           refused = subst P (sym same) answers;
         })
-    concluded (Err failure) (Refused refusal) answers (inr out_of_memory) = inr out_of_memory
+    concluded (Err failure) (Refused refusal) none answers (inr out_of_memory) = inr out_of_memory
 
-    module _ (Post : ℕ → OperandAnswer → Type 0) (determines : (operand : ℕ) (reported : OperandAnswer) → Post operand reported →
+    module _ (names : IsInRange context x) (fit : All (FitsTypes context.types) types)
+        (Post : ℕ → OperandAnswer → Type 0) (determines : (operand : ℕ) (reported : OperandAnswer) → Post operand reported →
         IsOkAnd reported (λ t. slice_get types operand ≡ Some t.now))
         (result : Result TypeResolution ResolveError) where
       answered : (operand : ℕ) (Rest : TypeResolution → Type 0) → Answered Post result operand Rest →
-          (t : TypeResolution) × Derives context expressions operand t × Rest t
-      answered operand Rest (Ok t, post, rest) = (t.now, first operand t.now (determines operand (Ok t) post), rest)
+          (t : TypeResolution) × Derives context expressions operand t × Rest t × HoldsNoMembers t
+      answered operand Rest (Ok t, post, rest) =
+          let at = determines operand (Ok t) post in
+          (t.now, first operand t.now at, rest, fits-no_members context.types t.now
+          (at_position (FitsTypes context.types) types operand t.now fit at))
       answered operand Rest (Err failure, post, rest) = absurd (determines operand (Err failure) post)
 
-      by_rule : (queried : TypingRule) → typing_rule context x ≡ queried → DerivesByRule memory Post result queried →
+      by_rule : (queried : TypingRule) → typing_rule context x ≡ queried → KeepsNoMembers queried → DerivesByRule memory Post result queried →
           IsResultOf context expressions e memory result
-      by_rule (Plain outcome) same follows = concluded result outcome (plain is same) follows
-      by_rule (One operand answer) same follows =
+      by_rule (Plain outcome) same keeps follows = concluded result outcome keeps (plain is same) follows
+      by_rule (One operand answer) same keeps follows =
           let t = answered operand (λ reported. Meets memory result (answer reported)) follows in
-          concluded result (answer t.0) (by_one is same t.1) t.2
-      by_rule (Two l r answer) same follows =
+          concluded result (answer t.0) (keeps t.0 t.3) (by_one is same t.1) t.2
+      by_rule (Two l r answer) same keeps follows =
           let t = answered l (λ reported. Answered Post result r (λ second. Meets memory result (answer reported second))) follows in
           let u = answered r (λ second. Meets memory result (answer t.0 second)) t.2 in
-          concluded result (answer t.0 u.0) (by_two is same t.1 u.1) u.2
+          concluded result (answer t.0 u.0) (keeps t.0 u.0 t.3 u.3) (by_two is same t.1 u.1) u.2
 
       pub is_reported : DerivesByRule memory Post result (typing_rule context x) → IsResultOf context expressions e memory result
-      is_reported follows = by_rule (typing_rule context x) refl follows
-
--- the queried operands have types, and the resulting type fits
-pub may_query : (context : Context) (x : Expression) (types : List TypeResolution) → OperandsBelow (length types) x → (Pre : ℕ → Type 0) →
-    ((operand : ℕ) → operand < length types → Pre operand) → EachQueried Pre (typing_rule context x)
-may_query context x types below Pre may = each-queried (λ operand. operand < length types) Pre may (typing_rule context x)
-    (queried context x (length types) below)
-
-pub reported_fits : (context : Context) (x : Expression) (types : List TypeResolution) → OperandsBelow (length types) x →
-    All (FitsTypes context.types) types →
-    (Post : ℕ → OperandAnswer → Type 0) → ((operand : ℕ) (reported : OperandAnswer) → Post operand reported →
-    IsOkAnd reported (λ t. slice_get types operand ≡ Some t.now)) →
-    EachQueried (λ operand. (reported : OperandAnswer) → Post operand reported → AnswerFits context.types reported) (typing_rule context x)
-reported_fits context x types below fit Post determines =
-    may_query context x types below (λ operand. (reported : OperandAnswer) → Post operand reported →
-    AnswerFits context.types reported) (λ operand lt reported post. fits operand reported (determines operand reported post)) where
-      fits : (operand : ℕ) (reported : OperandAnswer) → IsOkAnd reported (λ t. slice_get types operand ≡ Some t.now) →
-          AnswerFits context.types reported
-      fits operand (Ok t) is = at_position (FitsTypes context.types) types operand t.now fit is
-      fits operand (Err failure) is = absurd is
+      is_reported follows = by_rule (typing_rule context x) refl (no_members_kept context x names) follows

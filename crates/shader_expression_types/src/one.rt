@@ -6,6 +6,8 @@ ghost use Rattle.shader_ir.specs.Key.{FitsTypes};
 ghost use Rattle.shader_ir.specs.TypeTree.{IsBackward};
 ghost use Rattle.shader_resolve.specs.Context.{IsInRange, TypesInRange};
 ghost use Rattle.shader_resolve.specs.DerivesByRule.{memory_of};
+ghost use Rattle.shader_resolve.specs.Stored.{IsOutcomeOf};
+ghost use Rattle.shader_resolve.specs.TypingRules.{typing_rule};
 ghost use Rattle.shader_resolve.specs.WellFormed.{OperandsBelow};
 
 use shader_arena::Handle;
@@ -33,6 +35,7 @@ pub fn type_of<'a>(
     ensures reported { (expressions : List Expression) → slice_get expressions (length types.now) ≡ Some expression.now →
         AreOfTheFirst context.now expressions types.now → IsResultOf context.now expressions (length types.now)
         (memory_of expression.now) result }
+    ensures by_rule { IsOutcomeOf types.now (memory_of expression.now) (typing_rule context.now expression.now) result }
     ensures fits { TypesInRange context.now → IfOk result (λ resolution. FitsTypes context.now.types resolution) }
 {
     context.resolve(

@@ -1,56 +1,52 @@
 //! A check that an info fits a function of a module.
-ghost use Rattle.std.specs.Prelude.{◌≡◌, ◌↔◌, ◌<◌, false, All, IsTrue};
-ghost use Rattle.shader_ir.specs.Key.{FitsTypes, IsNoStruct};
-ghost use Rattle.shader_ir.specs.TypeTree.{PointsBelow};
-ghost use Rattle.shader_info.specs.Fit.{Fits, IsKnown, IsResourceInRange, IsOpen};
+ghost use Rattle.std.specs.Prelude.{◌≡◌, ◌↔◌, ◌<◌, All, IfSome, IsTrue, length};
+ghost use Rattle.shader_resolve.specs.WellFormed.{pending_size, sizing_override};
+ghost use Rattle.shader_info.specs.Fit.{Fits, IsKnown, IsOfModule, IsOpen, IsResourceInRange};
 
 use crate::{ExpressionInfo, FunctionInfo, GlobalOrArgument, Sampling, SamplingKey};
-use shader_arena::UniqueArena;
 use shader_ir::proc::TypeResolution;
-use shader_ir::{Function, Module, StructMember, Type, TypeInner, mark};
+use shader_ir::{ArraySize, Function, Module, TypeInner};
 use std::collections::HashSet;
 
-fn members_point_below(members: &[StructMember], count: usize) -> bool
-    ensures { IsTrue result ↔ All (λ member. member.ty < count) members.now }
+/// Returns whether the override that sizes an array, if one does, is in range.
+fn is_size_in_range(module: &Module, size: ArraySize) -> bool
+    ensures { IsTrue result ↔ IfSome (pending_size size) (λ override. override < length «module».now.overrides) }
 {
-    members.iter().all(|member| member.ty.index() < count)
+    match size {
+        ArraySize::Pending(handle) => module.overrides.contains_handle(handle),
+        ArraySize::Constant(_) | ArraySize::Dynamic => true,
+    }
 }
 
-/// Returns whether a type names only the first `count` types.
-fn points_below(inner: &TypeInner, count: usize) -> bool
-    ensures { IsTrue result ↔ PointsBelow count inner.now }
+fn is_sized_in_range(module: &Module, inner: &TypeInner) -> bool
+    ensures { IsTrue result ↔ IfSome (sizing_override inner.now) (λ override. override < length «module».now.overrides) }
 {
     match inner {
-        TypeInner::Pointer { base, .. }
-        | TypeInner::Array { base, .. }
-        | TypeInner::BindingArray { base, .. } => base.index() < count,
-        TypeInner::Struct { members, .. } => members_point_below(members.as_slice(), count),
+        TypeInner::Array { size, .. } | TypeInner::BindingArray { size, .. } => {
+            is_size_in_range(module, *size)
+        }
         _ => true,
     }
 }
 
-fn is_struct(inner: &TypeInner) -> bool
-    ensures { (result ≡ false) ↔ IsNoStruct inner.now }
-{
-    matches!(inner, TypeInner::Struct { .. })
-}
-
-/// Returns whether the handles of a type are in range, and a type outside the arena isn't a struct.
-fn type_fits(types: &UniqueArena<Type, mark::Type>, ty: &TypeResolution) -> bool
-    ensures { IsTrue result ↔ FitsTypes types.now ty.now }
+/// Returns whether the handles of a type are in range.
+fn is_of_module(module: &Module, ty: &TypeResolution) -> bool
+    ensures { IsTrue result ↔ IsOfModule «module».now ty.now }
 {
     match ty {
-        TypeResolution::Handle(handle) => types.contains_handle(*handle),
-        TypeResolution::Value(inner) => points_below(inner, types.len()) && !is_struct(inner),
+        TypeResolution::Handle(handle) => module.types.contains_handle(*handle),
+        TypeResolution::Value(inner) => {
+            inner.is_in_range(&module.types) && is_sized_in_range(module, inner)
+        }
     }
 }
 
-fn types_fit(types: &UniqueArena<Type, mark::Type>, expressions: &[ExpressionInfo]) -> bool
-    ensures { IsTrue result ↔ All (λ expression. FitsTypes types.now expression.ty) expressions.now }
+fn are_of_module(module: &Module, expressions: &[ExpressionInfo]) -> bool
+    ensures { IsTrue result ↔ All (λ expression. IsOfModule «module».now expression.ty) expressions.now }
 {
     expressions
         .iter()
-        .all(|expression| type_fits(types, &expression.ty))
+        .all(|expression| is_of_module(module, &expression.ty))
 }
 
 fn is_known(globals: usize, key: &SamplingKey) -> bool
@@ -96,7 +92,7 @@ impl FunctionInfo {
         let globals = module.global_variables.len();
         self.global_uses.len() == globals
             && self.expressions.len() == function.expressions.len()
-            && types_fit(&module.types, self.expressions.as_slice())
+            && are_of_module(module, self.expressions.as_slice())
             && are_known(globals, &self.sampling_set)
             && are_open(globals, function.arguments.len(), &self.sampling)
     }

@@ -1,6 +1,6 @@
 -- The remaining rules of a built-in function, what they read of types, and their conclusions.
-use Rattle.std.proofs.Common.{◌≡◌, ◌∙◌, ap, sym, refl, ℕ, ◌<◌, Bool, true, false, ◌&&◌, List}
-use Rattle.std.proofs.Common.{[], ◌∷◌, map, Option, Some, None, IfSome, All, length}
+use Rattle.std.proofs.Common.{◌≡◌, ◌∙◌, ap, sym, refl, ℕ, Bool, true, false, ◌&&◌, List}
+use Rattle.std.proofs.Common.{[], ◌∷◌, map, Option, Some, None, IfSome, All}
 use Rattle.std.specs.List.{filter, flat_map, list_all}
 use Rattle.std.proofs.lemmas.List.Elements.{All-nil, All-append, All-cons, All-filter, All-head, filter_agree}
 use Rattle.std.proofs.lemmas.List.Sums.{AllPass-from_list_all}
@@ -13,8 +13,9 @@ use Rattle.shader_ir.specs.declared.scalar.Scalar.{Scalar}
 use Rattle.shader_ir.specs.declared.types.«Type».{«Type»}
 use Rattle.shader_ir.specs.declared.types.TypeInner.{TypeInner}
 use Rattle.shader_ir.specs.declared.types.TypeInner.TheVariants as type
+use Rattle.shader_ir.specs.declared.proc.type_resolution.TypeResolution.{TypeResolution}
 use Rattle.shader_ir.specs.declared.proc.type_resolution.TypeResolution.TheVariants as resolutions
-use Rattle.shader_ir.specs.Key.{canonical, FitsTypes}
+use Rattle.shader_ir.specs.Key.{canonical}
 use Rattle.shader_overloads.specs.declared.constructor_set.ConstructorSize.{ConstructorSize}
 use Rattle.shader_overloads.specs.declared.constructor_set.ConstructorSize.TheVariants as sizes
 use Rattle.shader_overloads.specs.declared.overload_set.SetCall.TheVariants.{Arg}
@@ -84,7 +85,7 @@ module _ (types : List «Type») (fun : MathFunction) where
 -- ---- conclusions
 
 -- the conclusion is a type without handles, or one that a module registers
-abbrev is_plain_inner : TypeInner → Bool
+abbrev pub is_plain_inner : TypeInner → Bool
 is_plain_inner (type.Scalar scalar) = true
 is_plain_inner (type.Vector size scalar) = true
 is_plain_inner (type.Matrix columns rows scalar) = true
@@ -163,34 +164,29 @@ rules-plain f.InsertBits = listed-plain insert_bits_rules insert_bits-plain
 rules-plain f.Mix = listed-plain mix_rules mix-plain
 rules-plain fun = regular-plain _ _ _ _
 
-module _ (types : List «Type») where
+-- a property of resolutions that those of plain types have, and those that a module registers
+module _ (Fits : TypeResolution → Type 0) (plain-fits : (inner : TypeInner) → is_plain_inner inner ≡ true → Fits (resolutions.Value inner))
+    (special : SpecialTypes) (stored : All (λ (entry : PredeclaredType × ℕ). Fits (resolutions.Handle entry.1)) special.predeclared_types) where
   abbrev AnswerFits : Outcome → Type 0
-  AnswerFits (Given resolution) = FitsTypes types resolution
+  AnswerFits (Given resolution) = Fits resolution
   AnswerFits (Refused refusal) = Unit {0}
 
-  plain-fits : (inner : TypeInner) → is_plain_inner inner ≡ true → FitsTypes types (resolutions.Value inner)
-  plain-fits (type.Scalar scalar) e = (All-nil (λ handle. handle < length types), tt)
-  plain-fits (type.Vector size scalar) e = (All-nil (λ handle. handle < length types), tt)
-  plain-fits (type.Matrix columns rows scalar) e = (All-nil (λ handle. handle < length types), tt)
-  plain-fits inner e = absurd (cc)
+  registered-fits : (predeclared : PredeclaredType) (found : Option ℕ) → IfSome found (λ ty. Fits (resolutions.Handle ty)) →
+      registered special predeclared ≡ found → AnswerFits (concluded (resolution_of special (Predeclared predeclared)))
+  registered-fits predeclared (Some handle) fits e = rw e fits
+  registered-fits predeclared None fits e = rw e tt
 
-  module _ (special : SpecialTypes) (stored : All (λ (entry : PredeclaredType × ℕ). entry.1 < length types) special.predeclared_types) where
-    registered-fits : (predeclared : PredeclaredType) (found : Option ℕ) → IfSome found (λ ty. ty < length types) →
-        registered special predeclared ≡ found → AnswerFits (concluded (resolution_of special (Predeclared predeclared)))
-    registered-fits predeclared (Some handle) lt e = rw e lt
-    registered-fits predeclared None lt e = rw e tt
+  concluded-fits : (conclusion : Conclusion) → is_plain conclusion ≡ true → AnswerFits (concluded (resolution_of special conclusion))
+  concluded-fits (Value inner) e = plain-fits inner e
+  concluded-fits (Predeclared predeclared) e =
+      registered-fits predeclared (registered special predeclared)
+      (All-lookup (λ ty. Fits (resolutions.Handle ty)) (same_predeclared predeclared) special.predeclared_types stored) refl
 
-    concluded-fits : (conclusion : Conclusion) → is_plain conclusion ≡ true → AnswerFits (concluded (resolution_of special conclusion))
-    concluded-fits (Value inner) e = plain-fits inner e
-    concluded-fits (Predeclared predeclared) e =
-        registered-fits predeclared (registered special predeclared)
-        (All-lookup (λ ty. ty < length types) (same_predeclared predeclared) special.predeclared_types stored) refl
-
-    -- the first of such rules concludes a type in the arena
-    pub first-fits : (p : Rule → Bool) (fun : MathFunction) → AnswerFits (first_conclusion special (filter p (rules_of fun)))
-    first-fits p fun = at_first (filter p (rules_of fun)) (All-filter p (λ rule. concludes_plainly rule ≡ true) (rules_of fun)
-        (rules-plain fun))
-      where
-        at_first : (rules : List Rule) → ArePlain rules → AnswerFits (first_conclusion special rules)
-        at_first [] plain = tt
-        at_first (rule ∷ rules) plain = concluded-fits rule.conclusion (All-head (λ rule. concludes_plainly rule ≡ true) rule rules plain)
+  -- the first of such rules concludes a type that has it
+  pub first-fits : (p : Rule → Bool) (fun : MathFunction) → AnswerFits (first_conclusion special (filter p (rules_of fun)))
+  first-fits p fun = at_first (filter p (rules_of fun)) (All-filter p (λ rule. concludes_plainly rule ≡ true) (rules_of fun)
+      (rules-plain fun))
+    where
+      at_first : (rules : List Rule) → ArePlain rules → AnswerFits (first_conclusion special rules)
+      at_first [] plain = tt
+      at_first (rule ∷ rules) plain = concluded-fits rule.conclusion (All-head (λ rule. concludes_plainly rule ≡ true) rule rules plain)

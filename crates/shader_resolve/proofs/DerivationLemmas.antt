@@ -42,7 +42,8 @@ module _ (memory : Memory) (types : List «Type») where
       HasKey types result (outcome_key types outcome)
   meets-key (Ok resolution) (Given given) meets = ap (λ reported. Some (key_of types reported)) (sym meets)
   meets-key (Ok resolution) (Refused refusal) meets = absurd meets
-  meets-key (Err failure) (Given given) meets = inr (wanted memory failure (for_type memory failure meets))
+  meets-key (Err failure) (Given given) (inl for_rule) = inr (wanted memory failure (for_type memory failure for_rule))
+  meets-key (Err failure) (Given given) (inr for_copy) = inr for_copy.1
   meets-key (Err failure) (Refused refusal) meets = inl refl
 
   failed : (result : Result TypeResolution ResolveError) (failure : ResolveError) → result ≡ Err failure → HasKey types result None

@@ -3,10 +3,10 @@ pub mod BelowLemmas
 pub mod BodyLemmas
 pub mod BuiltinLemmas
 pub mod CongruenceLemmas
-pub mod CopyLemmas
 pub mod ContextLemmas
 pub mod FaultyLocationLemmas
 pub mod FitsLemmas
+pub mod GivenLemmas
 pub mod DerivationLemmas
 pub mod MappedTests
 pub mod KeyLemmas
@@ -18,5 +18,6 @@ pub mod PositionLemmas
 pub mod PointerLemmas
 pub mod RangeLemmas
 pub mod RuleLemmas
+pub mod StoredLemmas
 pub mod TestLemmas
 pub mod TypingLemmas

@@ -1,5 +1,5 @@
 -- Laws: equal types of operands give equal types.
-use Rattle.std.specs.Prelude.{ℕ, ◌≡◌, List, Option, Result, Ok, Err}
+use Rattle.std.specs.Prelude.{ℕ, ◌≡◌, ◌⊎◌, List, Option, Result, Ok, Err}
 use Rattle.shader_ir.specs.declared.expression.Expression.{Expression}
 use Rattle.shader_ir.specs.declared.types.«Type».{«Type»}
 use Rattle.shader_ir.specs.declared.proc.type_resolution.TypeResolution.{TypeResolution}
@@ -7,7 +7,7 @@ use Rattle.shader_ir.specs.Key.{Key, key_of}
 use Rattle.shader_resolve.specs.declared.error.ResolveError.{ResolveError}
 use Rattle.shader_resolve.specs.Context.{Context}
 use Rattle.shader_resolve.specs.DerivesByRule.{OperandAnswer, EachQueried, DerivesByRule, memory_of}
-use Rattle.shader_resolve.specs.Outcome.{Memory, IsOutOfMemoryForType}
+use Rattle.shader_resolve.specs.Outcome.{Memory, IsOutOfMemoryForCopy, IsOutOfMemoryForType}
 use Rattle.shader_resolve.specs.TypingRules.{TypingRule, Plain, One, Two, typing_rule}
 use Rattle.shader_resolve.specs.Typing.{outcome_key, typing}
 
@@ -33,12 +33,13 @@ module _ (types : List «Type») where
       EachQueried (λ operand. (reported other : OperandAnswer) → Post operand reported → Other operand other →
       AnswersHaveEqualKeys reported other) queried
 
-  -- both results have equal keys, or both are errors; one alone may be out of memory if the rule allocates for the type
+  -- both results have equal keys, or both are errors; one alone may be out of memory if the rule allocates for the type, or for a copy of
+  -- the type, which has members
   abbrev pub HaveEqualKeys : Memory → Result TypeResolution ResolveError → Result TypeResolution ResolveError → Type 0
   HaveEqualKeys memory (Ok first) (Ok second) = key_of types first ≡ key_of types second
   HaveEqualKeys memory (Err failure) (Err other) = Unit {0}
-  HaveEqualKeys memory (Ok resolution) (Err failure) = IsOutOfMemoryForType memory failure
-  HaveEqualKeys memory (Err failure) (Ok resolution) = IsOutOfMemoryForType memory failure
+  HaveEqualKeys memory (Ok resolution) (Err failure) = IsOutOfMemoryForType memory failure ⊎ IsOutOfMemoryForCopy resolution failure
+  HaveEqualKeys memory (Err failure) (Ok resolution) = IsOutOfMemoryForType memory failure ⊎ IsOutOfMemoryForCopy resolution failure
 
 -- equal keys of the queried operands give an equal key, or none in both cases
 abbrev pub KeysRestOnKeys : Type 0

@@ -8,7 +8,7 @@ use Rattle.shader_ir.specs.declared.operators.BinaryOperator.TheVariants as oper
 use Rattle.shader_ir.specs.declared.operators.RelationalFunction.TheVariants as relational
 use Rattle.shader_ir.specs.declared.types.«Type».{«Type»}
 use Rattle.shader_ir.specs.declared.proc.type_resolution.TypeResolution.{TypeResolution}
-use Rattle.shader_ir.specs.Key.{FitsTypes}
+use Rattle.shader_ir.specs.Key.{FitsTypes, PointsInRange}
 use Rattle.shader_resolve.specs.declared.error.ResolveError.{ResolveError}
 use Rattle.shader_resolve.specs.Outcome.{ForNothing, ForRules, ForWords, Meets, Memory}
 use Rattle.shader_resolve.specs.TypingRules.{TypingRule, Plain, One, Two}
@@ -59,6 +59,10 @@ EachQueried Pre (One operand answer) = Pre operand
 EachQueried Pre (Two left right answer) = Pre left × Pre right
 
 -- the handles of the operand's type are in range
+abbrev pub AnswerInRange : List «Type» → OperandAnswer → Type 0
+AnswerInRange types reported = IfOk reported (λ resolution. PointsInRange types resolution.now)
+
+-- so they are, and the type is no struct outside the arena
 abbrev pub AnswerFits : List «Type» → OperandAnswer → Type 0
 AnswerFits types reported = IfOk reported (λ resolution. FitsTypes types resolution.now)
 

@@ -15,5 +15,6 @@ pub mod LocationTests
 pub mod PointerLaws
 pub mod TypingRules
 pub mod Statements
+pub mod Stored
 pub mod Typing
 pub mod WellFormed

@@ -3,7 +3,7 @@ use Rattle.std.specs.Prelude.{ℕ, Bool, ◌≡◌, ◌⊎◌, Option, Some, Non
 use Rattle.shader_ir.specs.declared.types.«Type».{«Type»}
 use Rattle.shader_ir.specs.declared.types.TypeInner.{TypeInner}
 use Rattle.shader_ir.specs.declared.proc.type_resolution.TypeResolution.{TypeResolution}
-use Rattle.shader_ir.specs.Key.{inner_of}
+use Rattle.shader_ir.specs.Key.{inner_of, HoldsNoMembers}
 use Rattle.shader_resolve.specs.declared.error.ResolveError.{ResolveError}
 use Rattle.shader_resolve.specs.declared.error.ResolveError.TheVariants as error
 
@@ -87,6 +87,10 @@ IsOutOfMemoryForType ForNothing failure = ⊥
 IsOutOfMemoryForType ForWords failure = ⊥
 IsOutOfMemoryForType ForRules failure = failure ≡ error.OutOfMemory
 
+-- out of memory for a copy of the type, which has a list of members
+abbrev pub IsOutOfMemoryForCopy : TypeResolution → ResolveError → Type 0
+IsOutOfMemoryForCopy resolution failure = (HoldsNoMembers resolution → ⊥) × (failure ≡ error.OutOfMemory)
+
 module _ (memory : Memory) where
   -- the error is the rule's, with some text, or out of memory
   abbrev pub IsRefusal : Refusal → ResolveError → Type 0
@@ -96,5 +100,5 @@ module _ (memory : Memory) where
   abbrev pub Meets : Result TypeResolution ResolveError → Outcome → Type 0
   Meets (Ok resolution) (Given given) = resolution ≡ given
   Meets (Ok resolution) (Refused refusal) = ⊥
-  Meets (Err failure) (Given given) = IsOutOfMemoryForType memory failure
+  Meets (Err failure) (Given given) = IsOutOfMemoryForType memory failure ⊎ IsOutOfMemoryForCopy given failure
   Meets (Err failure) (Refused refusal) = IsRefusal refusal failure

@@ -42,8 +42,8 @@ pub fn equal_keys_give_equal_keys()
 {}
 
 /// States that `ResolveContext::resolve` respects `compare_types`: if two closures return, for each queried operand, types that are equal
-/// by `compare_types` or both an error, then the two results are equal by it or both errors. If the expression's rule allocates, one of
-/// them alone may be out of memory.
+/// by `compare_types` or both an error, then the two results are equal by it or both errors. If the expression's rule allocates, or gives
+/// a copy of a struct outside the arena, one of them alone may be out of memory.
 ///
 /// The premises are the postconditions of the calls: that the result of `resolve` derives by the expression's typing rule, and that
 /// `compare_types` decides equality of keys.

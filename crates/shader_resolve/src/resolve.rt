@@ -36,11 +36,12 @@ type Resolved = Result<TypeResolution, ResolveError>;
 
 impl<'a> ResolveContext<'a> {
     ghost use Rattle.std.specs.Prelude.{◌≡◌, ℕ, Option, length, Some, IfOk};
-    ghost use Rattle.shader_ir.specs.Key.{Key, inner_of, FitsTypes};
+    ghost use Rattle.shader_ir.specs.Key.{Key, inner_of, FitsTypes, PointsInRange};
     ghost use Rattle.shader_ir.specs.TypeTree.{IsBackward, PointsBelow};
     ghost use Rattle.shader_resolve.specs.Context.{IsInRange, TypesInRange};
     ghost use Rattle.shader_resolve.specs.TypingRules.{math_rule, typing_rule};
-    ghost use Rattle.shader_resolve.specs.DerivesByRule.{EachQueried, AnswerFits, DerivesByRule, IsAccessing, IsOfImage, IsOperation};
+    ghost use Rattle.shader_resolve.specs.DerivesByRule.{EachQueried, AnswerFits, AnswerInRange, DerivesByRule, IsAccessing};
+    ghost use Rattle.shader_resolve.specs.DerivesByRule.{IsOfImage, IsOperation};
     ghost use Rattle.shader_resolve.specs.DerivesByRule.{memory_of};
     ghost use Rattle.shader_resolve.specs.Outcome.{ForRules};
     ghost use Rattle.shader_resolve.specs.Typing.{HasKey, AnswersHaveKeys, typing};
@@ -49,20 +50,22 @@ impl<'a> ResolveContext<'a> {
     ///
     /// # Errors
     ///
-    /// The error of the typing rule; the first error that `past` returns; or out of memory, in place of an error that names an operation
-    /// and for calls of built-in functions, which build their rules.
+    /// The error of the typing rule; the first error that `past` returns; or out of memory, in place of an error that names an operation,
+    /// for calls of built-in functions, which build their rules, and for a copy of an operand's type that is a struct outside the arena.
     pub fn resolve<F>(&self, alloc: Global, expr: &Expression, past: F) -> Resolved
     where
         F: Fn(Handle<mark::Expression>) -> Result<&'a TypeResolution, ResolveError>,
         requires backward { IsBackward self.now.types }
         requires in_range { IsInRange self.now expr.now }
         requires queried { EachQueried (F.pre past) (typing_rule self.now expr.now) }
-        requires reported_fits { EachQueried (λ operand. (reported : _) → F.post past operand reported →
-            AnswerFits self.now.types reported) (typing_rule self.now expr.now) }
+        requires reported_in_range { EachQueried (λ operand. (reported : _) → F.post past operand reported →
+            AnswerInRange self.now.types reported) (typing_rule self.now expr.now) }
         ensures follows { DerivesByRule (memory_of expr.now) (F.post past) result (typing_rule self.now expr.now) }
         ensures key { (keys : ℕ → Option Key) → AnswersHaveKeys self.now.types (F.post past) keys (typing_rule self.now expr.now) →
             HasKey self.now.types result (typing self.now keys expr.now) }
-        ensures fits { TypesInRange self.now → IfOk result (λ resolution. FitsTypes self.now.types resolution) }
+        ensures in_range { TypesInRange self.now → IfOk result (λ resolution. PointsInRange self.now.types resolution) }
+        ensures fits { EachQueried (λ operand. (reported : _) → F.post past operand reported → AnswerFits self.now.types reported)
+            (typing_rule self.now expr.now) → TypesInRange self.now → IfOk result (λ resolution. FitsTypes self.now.types resolution) }
     {
         self.resolve_by_rule(alloc, expr, past)
     }
@@ -74,8 +77,8 @@ impl<'a> ResolveContext<'a> {
         requires backward { IsBackward self.now.types }
         requires in_range { IsInRange self.now expr.now }
         requires queried { EachQueried (F.pre past) (typing_rule self.now expr.now) }
-        requires reported_fits { EachQueried (λ operand. (reported : _) → F.post past operand reported →
-            AnswerFits self.now.types reported) (typing_rule self.now expr.now) }
+        requires reported_in_range { EachQueried (λ operand. (reported : _) → F.post past operand reported →
+            AnswerInRange self.now.types reported) (typing_rule self.now expr.now) }
         ensures { DerivesByRule (memory_of expr.now) (F.post past) result (typing_rule self.now expr.now) }
     {
         match expr {
@@ -114,8 +117,8 @@ impl<'a> ResolveContext<'a> {
         requires backward { IsBackward self.now.types }
         requires form { IsAccessing expr.now }
         requires queried { EachQueried (F.pre past) (typing_rule self.now expr.now) }
-        requires reported_fits { EachQueried (λ operand. (reported : _) → F.post past operand reported →
-            AnswerFits self.now.types reported) (typing_rule self.now expr.now) }
+        requires reported_in_range { EachQueried (λ operand. (reported : _) → F.post past operand reported →
+            AnswerInRange self.now.types reported) (typing_rule self.now expr.now) }
         ensures { DerivesByRule (memory_of expr.now) (F.post past) result (typing_rule self.now expr.now) }
     {
         match expr {
@@ -153,8 +156,8 @@ impl<'a> ResolveContext<'a> {
         requires backward { IsBackward self.now.types }
         requires form { IsOfImage expr.now }
         requires queried { EachQueried (F.pre past) (typing_rule self.now expr.now) }
-        requires reported_fits { EachQueried (λ operand. (reported : _) → F.post past operand reported →
-            AnswerFits self.now.types reported) (typing_rule self.now expr.now) }
+        requires reported_in_range { EachQueried (λ operand. (reported : _) → F.post past operand reported →
+            AnswerInRange self.now.types reported) (typing_rule self.now expr.now) }
         ensures { DerivesByRule (memory_of expr.now) (F.post past) result (typing_rule self.now expr.now) }
     {
         match expr {
@@ -176,15 +179,14 @@ impl<'a> ResolveContext<'a> {
     }
 
     /// Resolves expressions that compute with their operands.
-    #[tactic(auto, using(crate::proofs::CopyLemmas::stored_types))]
     fn resolve_operation<F>(&self, alloc: Global, expr: &Expression, past: F) -> Resolved
     where
         F: Fn(Handle<mark::Expression>) -> Result<&'a TypeResolution, ResolveError>,
         requires backward { IsBackward self.now.types }
         requires form { IsOperation expr.now }
         requires queried { EachQueried (F.pre past) (typing_rule self.now expr.now) }
-        requires reported_fits { EachQueried (λ operand. (reported : _) → F.post past operand reported →
-            AnswerFits self.now.types reported) (typing_rule self.now expr.now) }
+        requires reported_in_range { EachQueried (λ operand. (reported : _) → F.post past operand reported →
+            AnswerInRange self.now.types reported) (typing_rule self.now expr.now) }
         ensures { DerivesByRule (memory_of expr.now) (F.post past) result (typing_rule self.now expr.now) }
     {
         match expr {
@@ -195,7 +197,7 @@ impl<'a> ResolveContext<'a> {
                 ..
             }
             | Expression::CooperativeMultiplyAdd { c: operand, .. } => {
-                Ok(copied(alloc, past(*operand)?))
+                copied(alloc, past(*operand)?)
             }
             Expression::Binary {
                 op: BinaryOperator::Multiply,
@@ -232,8 +234,8 @@ impl<'a> ResolveContext<'a> {
         F: Fn(Handle<mark::Expression>) -> Result<&'a TypeResolution, ResolveError>,
         requires backward { IsBackward self.now.types }
         requires queried { EachQueried (F.pre past) (math_rule self.now fun arg arg1) }
-        requires reported_fits { EachQueried (λ operand. (reported : _) → F.post past operand reported →
-            AnswerFits self.now.types reported) (math_rule self.now fun arg arg1) }
+        requires reported_in_range { EachQueried (λ operand. (reported : _) → F.post past operand reported →
+            AnswerInRange self.now.types reported) (math_rule self.now fun arg arg1) }
         ensures { DerivesByRule ForRules (F.post past) result (math_rule self.now fun arg arg1) }
     {
         match arg1 {
@@ -245,9 +247,9 @@ impl<'a> ResolveContext<'a> {
     /// Returns the shape of an operand's type.
     fn inner(&self, resolution: &'a TypeResolution) -> &'a TypeInner
         requires backward { IsBackward self.now.types }
-        requires fits { FitsTypes self.now.types resolution.now }
+        requires in_range { PointsInRange self.now.types resolution.now }
         ensures shape { inner_of self.now.types resolution.now ≡ Some result.now }
-        ensures in_range { PointsBelow (length self.now.types) result.now }
+        ensures points_below { PointsBelow (length self.now.types) result.now }
     {
         resolution.inner_with(self.types)
     }

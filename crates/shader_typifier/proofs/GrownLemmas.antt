@@ -16,7 +16,8 @@ use Rattle.shader_ir.proofs.TypeTreeLemmas.{weaker}
 use Rattle.shader_resolve.specs.Context.{Context}
 use Rattle.shader_resolve.specs.Outcome.{Outcome}
 use Rattle.shader_resolve.specs.TypingRules.{TypingRule, Plain, One, Two, typing_rule}
-use Rattle.shader_typifier.specs.Grown.{AreTyped, Grows, IsTyped, grows, stays, outcome_at}
+use Rattle.shader_typifier.specs.Grown.{AreTyped, Grows, IsTyped, grows, stays}
+use Rattle.shader_resolve.specs.Stored.{outcome_at}
 use Rattle.shader_typifier.specs.Laws.{AreDerived, GrownTypesAreDerived, TypesFitLargerArenas}
 
 module _ (context : Context) (expressions : List Expression) (stored : List TypeResolution)

@@ -1,25 +1,18 @@
 -- Growth of a table of types.
-use Rattle.std.specs.Prelude.{◌≡◌, ◌≤◌, ◌⊎◌, ◌++◌, ◌∷◌, [], ℕ, List, take, Option, Some, length, slice_get, option_map}
-use Rattle.std.specs.Option.{option_and_then}
+use Rattle.std.specs.Prelude.{◌≡◌, ◌≤◌, ◌⊎◌, ◌++◌, ◌∷◌, [], ℕ, List, take, Some, length, slice_get}
 use Rattle.shader_ir.specs.declared.expression.Expression.{Expression}
 use Rattle.shader_ir.specs.declared.proc.type_resolution.TypeResolution.{TypeResolution}
 use Rattle.shader_ir.specs.Key.{FitsTypes}
 use Rattle.shader_resolve.specs.Context.{Context, IsInRange}
 use Rattle.shader_resolve.specs.DerivesByRule.{memory_of}
-use Rattle.shader_resolve.specs.Outcome.{IsOutOfMemory, Outcome, Given, Refused, refusal_of}
-use Rattle.shader_resolve.specs.TypingRules.{TypingRule, Plain, One, Two, typing_rule}
+use Rattle.shader_resolve.specs.Outcome.{IsOutOfMemory, Given, Refused, refusal_of}
+use Rattle.shader_resolve.specs.Stored.{outcome_at}
+use Rattle.shader_resolve.specs.TypingRules.{typing_rule}
 use Rattle.shader_resolve.specs.WellFormed.{OperandsBelow}
 use Rattle.shader_resolve.specs.declared.error.ResolveError.{ResolveError}
 use Rattle.shader_resolve.specs.declared.error.ResolveError.TheVariants as resolve
 use Rattle.shader_typifier.specs.declared.error.TypifyError.{TypifyError}
 use Rattle.shader_typifier.specs.declared.error.TypifyError.TheVariants as error
-
--- the outcome of a typing rule at the stored types of its operands
-abbrev pub outcome_at : List TypeResolution → TypingRule → Option Outcome
-outcome_at stored (Plain outcome) = Some outcome
-outcome_at stored (One operand answer) = option_map answer (slice_get stored operand)
-outcome_at stored (Two left right answer) =
-    option_and_then (λ first. option_map (answer first) (slice_get stored right)) (slice_get stored left)
 
 module _ (context : Context) (stored : List TypeResolution) (x : Expression) where
   -- the expression has the type, given the stored types of earlier ones

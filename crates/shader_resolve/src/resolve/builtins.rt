@@ -67,7 +67,7 @@ fn invalid_arguments(name: Result<String, AllocError>) -> ResolveError
 }
 
 impl<'a> ResolveContext<'a> {
-    ghost use Rattle.shader_ir.specs.Key.{FitsTypes};
+    ghost use Rattle.shader_ir.specs.Key.{PointsInRange};
     ghost use Rattle.shader_ir.specs.TypeTree.{IsBackward};
     ghost use Rattle.shader_overloads.specs.AnySet.{rules_in};
     ghost use Rattle.shader_overloads.specs.Resolutions.{resolution_of};
@@ -83,7 +83,7 @@ impl<'a> ResolveContext<'a> {
         first: &'a TypeResolution,
     ) -> Resolved
         requires backward { IsBackward self.now.types }
-        requires fits { FitsTypes self.now.types first.now }
+        requires in_range { PointsInRange self.now.types first.now }
         ensures { Meets ForRules result (math_of_one self.now.types self.now.special_types fun first.now) }
     {
         let left = after_one(alloc, self.types, fun, self.inner(first))?;
@@ -100,8 +100,8 @@ impl<'a> ResolveContext<'a> {
         second: &'a TypeResolution,
     ) -> Resolved
         requires backward { IsBackward self.now.types }
-        requires first_fits { FitsTypes self.now.types first.now }
-        requires second_fits { FitsTypes self.now.types second.now }
+        requires first_in_range { PointsInRange self.now.types first.now }
+        requires second_in_range { PointsInRange self.now.types second.now }
         ensures { Meets ForRules result (math_of_two self.now.types self.now.special_types fun first.now second.now) }
     {
         let left = after_two(

@@ -12,7 +12,7 @@ use std::alloc::{AllocError, Global};
 use std::fmt::Debug;
 
 impl<'a> ResolveContext<'a> {
-    ghost use Rattle.shader_ir.specs.Key.{FitsTypes};
+    ghost use Rattle.shader_ir.specs.Key.{PointsInRange};
     ghost use Rattle.shader_ir.specs.TypeTree.{IsBackward};
     ghost use Rattle.shader_resolve.specs.DerivesByRule.{memory_of_binary};
     ghost use Rattle.shader_resolve.specs.Operations.{left_type, product};
@@ -20,7 +20,6 @@ impl<'a> ResolveContext<'a> {
 
     /// Returns the type of a product.
     #[inline(always)]
-    #[tactic(auto, using(crate::proofs::CopyLemmas::stored_types))]
     pub(super) fn product(
         &self,
         alloc: Global,
@@ -28,13 +27,13 @@ impl<'a> ResolveContext<'a> {
         right: &'a TypeResolution,
     ) -> Resolved
         requires backward { IsBackward self.now.types }
-        requires left_fits { FitsTypes self.now.types left.now }
-        requires right_fits { FitsTypes self.now.types right.now }
+        requires left_in_range { PointsInRange self.now.types left.now }
+        requires right_in_range { PointsInRange self.now.types right.now }
         ensures { Meets ForWords result (product self.now.types left.now right.now) }
     {
         match product_of(self.inner(left), self.inner(right)) {
-            Product::AsLeft => Ok(copied(alloc, left)),
-            Product::AsRight => Ok(copied(alloc, right)),
+            Product::AsLeft => copied(alloc, left),
+            Product::AsRight => copied(alloc, right),
             Product::Built(inner) => Ok(TypeResolution::Value(inner)),
             Product::NoProduct => Err(incompatible("Multiply".to_string(alloc))),
         }
@@ -42,7 +41,6 @@ impl<'a> ResolveContext<'a> {
 
     /// Returns the type of a binary operation that depends only on its left operand.
     #[inline(always)]
-    #[tactic(auto, using(crate::proofs::CopyLemmas::stored_types))]
     pub(super) fn left_type(
         &self,
         alloc: Global,
@@ -50,7 +48,7 @@ impl<'a> ResolveContext<'a> {
         left: &'a TypeResolution,
     ) -> Resolved
         requires backward { IsBackward self.now.types }
-        requires fits { FitsTypes self.now.types left.now }
+        requires in_range { PointsInRange self.now.types left.now }
         ensures { Meets (memory_of_binary op) result (left_type self.now.types op left.now) }
     {
         match op {
@@ -63,7 +61,7 @@ impl<'a> ResolveContext<'a> {
             BinaryOperator::LogicalAnd | BinaryOperator::LogicalOr => {
                 logical(alloc, &op, self.inner(left))
             }
-            _ => Ok(copied(alloc, left)),
+            _ => copied(alloc, left),
         }
     }
 }

@@ -1,7 +1,9 @@
 //! Types outside the arena.
 ghost use Rattle.std.specs.Prelude.{◌≡◌};
-ghost use Rattle.shader_ir.specs.Key.{HoldsNoMembers};
+ghost use Rattle.shader_resolve.specs.Outcome.{Given, Meets, Memory};
 
+use super::Resolved;
+use crate::ResolveError;
 use shader_ir::proc::TypeResolution;
 use shader_ir::{CooperativeRole, CooperativeSize, Scalar, TypeInner, VectorSize};
 use std::alloc::Global;
@@ -44,18 +46,20 @@ pub fn cooperative_type(
     })
 }
 
-/// Returns an equal resolution without allocating. Scalars and vectors, which most operands are, are copied inline.
+/// Returns an equal resolution, which takes memory only for the members of a struct outside the arena. Scalars and vectors, which most
+/// operands are, are copied inline.
 #[inline(always)]
-pub fn copied(alloc: Global, resolution: &TypeResolution) -> TypeResolution
-    requires { HoldsNoMembers resolution.now }
-    ensures { result ≡ resolution.now }
+pub fn copied(alloc: Global, resolution: &TypeResolution) -> Resolved
+    ensures { (memory : Memory) → Meets memory result (Given resolution.now) }
 {
     match resolution {
-        TypeResolution::Value(TypeInner::Scalar(scalar)) => scalar_type(*scalar),
-        TypeResolution::Value(TypeInner::Vector { size, scalar }) => vector_type(*size, *scalar),
+        TypeResolution::Value(TypeInner::Scalar(scalar)) => Ok(scalar_type(*scalar)),
+        TypeResolution::Value(TypeInner::Vector { size, scalar }) => {
+            Ok(vector_type(*size, *scalar))
+        }
         _ => match resolution.copy(alloc) {
-            Ok(copy) => copy,
-            Err(_) => unreachable!(),
+            Ok(copy) => Ok(copy),
+            Err(_) => Err(ResolveError::OutOfMemory),
         },
     }
 }

@@ -1,5 +1,5 @@
 //! The stored types of an expression's operands, and the type that the expression has by them.
-ghost use Rattle.shader_resolve.specs.DerivesByRule.{AnswerFits};
+ghost use Rattle.shader_resolve.specs.DerivesByRule.{AnswerInRange};
 
 use crate::words::Words;
 use shader_arena::{Handle, UniqueArena};
@@ -59,11 +59,11 @@ fn type_of_operand<'a>(
     stored: &'a [TypeResolution],
     operand: Handle<mark::Expression>,
 ) -> Result<&'a TypeResolution, ResolveError>
-    ensures { AnswerFits types.now result }
+    ensures { AnswerInRange types.now result }
 {
     match stored.get(operand.index()) {
         Some(resolution) => {
-            if resolution.fits(types) {
+            if resolution.is_in_range(types) {
                 Ok(resolution)
             } else {
                 Err(ResolveError::FunctionReturnsVoid)
@@ -89,7 +89,7 @@ pub fn resolve_stored<'a>(
         alloc,
         expr,
         |operand: Handle<mark::Expression>| -> Result<&TypeResolution, ResolveError>
-            ensures { AnswerFits types.entry.now result }
+            ensures { AnswerInRange types.entry.now result }
         { type_of_operand(types, stored, operand) },
     );
     Some(resolved)

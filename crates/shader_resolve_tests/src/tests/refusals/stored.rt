@@ -1,5 +1,5 @@
 //! Types of expressions whose operands' types are stored in a list.
-ghost use Rattle.shader_resolve.specs.DerivesByRule.{AnswerFits};
+ghost use Rattle.shader_resolve.specs.DerivesByRule.{AnswerInRange};
 
 use shader_arena::{Handle, UniqueArena};
 use shader_ir::proc::{TypeResolution, types_backward};
@@ -13,11 +13,11 @@ fn stored_type<'a>(
     stored: &'a [TypeResolution],
     operand: Handle<mark::Expression>,
 ) -> Result<&'a TypeResolution, ResolveError>
-    ensures { AnswerFits types.now result }
+    ensures { AnswerInRange types.now result }
 {
     match stored.get(operand.index()) {
         Some(resolution) => {
-            if resolution.fits(types) {
+            if resolution.is_in_range(types) {
                 Ok(resolution)
             } else {
                 Err(ResolveError::FunctionReturnsVoid)
@@ -42,7 +42,7 @@ pub fn resolve_stored<'a>(
         alloc,
         expr,
         |operand: Handle<mark::Expression>| -> Result<&TypeResolution, ResolveError>
-            ensures { AnswerFits types.entry.now result }
+            ensures { AnswerInRange types.entry.now result }
         { stored_type(types, stored, operand) },
     );
     Some(resolved)

@@ -1,7 +1,9 @@
 use Rattle.std.proofs.Common.{rules, refl, subst, inr}
 use Rattle.shader_resolve.specs.DerivesByRule.{memory_of}
 use Rattle.shader_resolve.specs.TypingRules.{typing_rule}
-use Rattle.shader_typifier.proofs.TypedLemmas.{IsOutcomeOf, derivation_gives, is_refused_as, may_query, reported_fits}
+use Rattle.shader_resolve.proofs.StoredLemmas.{may_query, outcome_of, reported_in_range}
+use Rattle.shader_resolve.specs.Stored.{IsOutcomeOf}
+use Rattle.shader_typifier.proofs.TypedLemmas.{is_refused_as}
 use Rattle.shader_typifier.proofs.typifier.Typifier.next_type.Goals as goal
 
 pub resolve-resolved-requires : goal.resolve-resolved-requires
@@ -13,7 +15,7 @@ resolve-resolved-requires c κs = (
       search rules,
       (
         may_query c.args.context.now c.args.expression.now c.args.self.now (search rules) _ (λ operand lt. search rules),
-        reported_fits c.args.context.now c.args.expression.now c.args.self.now (search rules) c.requires.fit _
+        reported_in_range c.args.context.now c.args.expression.now c.args.self.now (search rules) c.requires.fit _
             (λ operand reported post. search rules),
       ),
     ),
@@ -26,8 +28,8 @@ returns-in-Err-clause-refused c =
     let memory = memory_of c.args.expression.now in
     is_refused_as c.args.context.now c.args.self.now c.args.expression.now c.in-Err.failure
     (subst (IsOutcomeOf c.args.self.now memory queries) c.in-Err.is
-    (derivation_gives c.args.self.now memory _ c.resolve-resolved.result queries
-    c.resolve-resolved.ensures.follows (λ operand reported post. search rules)))
+    (outcome_of c.args.context.now c.args.expression.now c.args.self.now (search rules) (search rules) c.requires.fit _
+    c.resolve-resolved.result c.resolve-resolved.ensures.follows (λ operand reported post. search rules)))
 
 pub returns-then-fits-clause-typed : goal.returns-then-fits-clause-typed
 returns-then-fits-clause-typed c =
@@ -37,8 +39,8 @@ returns-then-fits-clause-typed c =
       names = search rules;
       operands = search rules;
       reported = subst (IsOutcomeOf c.args.self.now memory queries) c.in-Ok.is
-          (derivation_gives c.args.self.now memory _ c.resolve-resolved.result queries
-          c.resolve-resolved.ensures.follows (λ operand reported post. search rules));
+          (outcome_of c.args.context.now c.args.expression.now c.args.self.now (search rules) (search rules) c.requires.fit _
+          c.resolve-resolved.result c.resolve-resolved.ensures.follows (λ operand reported post. search rules));
       fits = search rules;
     }
 
@@ -49,7 +51,7 @@ returns-else-fits-clause-refused c =
     inr (record {
       resolution = c.in-Ok.resolution;
       reported = subst (IsOutcomeOf c.args.self.now memory queries) c.in-Ok.is
-          (derivation_gives c.args.self.now memory _ c.resolve-resolved.result queries
-          c.resolve-resolved.ensures.follows (λ operand reported post. search rules));
+          (outcome_of c.args.context.now c.args.expression.now c.args.self.now (search rules) (search rules) c.requires.fit _
+          c.resolve-resolved.result c.resolve-resolved.ensures.follows (λ operand reported post. search rules));
       unfit = λ fits. search rules;
     })

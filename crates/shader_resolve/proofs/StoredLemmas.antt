@@ -1,0 +1,86 @@
+-- A type resolved over stored types is the outcome of the rule at them.
+use Rattle.std.proofs.Common.{◌≡◌, refl, sym, subst, ◌∙◌, ap, inl, inr, ◌<◌, ℕ, List, Some, Result, Ok, Err}
+use Rattle.std.proofs.Common.{All, IsOkAnd, slice_get, length, option_map}
+use Rattle.std.proofs.lemmas.Option.{get_or_from_slice_get, slice_get_within}
+use Rattle.shader_ir.specs.declared.expression.Expression.{Expression}
+use Rattle.shader_ir.specs.declared.proc.type_resolution.TypeResolution.{TypeResolution}
+use Rattle.shader_ir.specs.Key.{FitsTypes, HoldsNoMembers}
+use Rattle.shader_resolve.proofs.GivenLemmas.{GivesNoMembers, KeepsNoMembers, answer-in_range, fits-no_members, no_members_kept}
+use Rattle.shader_resolve.proofs.QueriedLemmas.{queried, each-queried}
+use Rattle.shader_resolve.proofs.MemoryLemmas.{for_type}
+use Rattle.shader_resolve.specs.declared.error.ResolveError.{ResolveError}
+use Rattle.shader_resolve.specs.Context.{Context, IsInRange}
+use Rattle.shader_resolve.specs.DerivesByRule.{OperandAnswer, DerivesByRule, EachQueried, AnswerFits, AnswerInRange, memory_of}
+use Rattle.shader_resolve.specs.Outcome.{Given, Meets, Memory, Outcome, Refused}
+use Rattle.shader_resolve.specs.Stored.{IsOutcomeOf, outcome_at}
+use Rattle.shader_resolve.specs.TypingRules.{TypingRule, Plain, One, Two, typing_rule}
+use Rattle.shader_resolve.specs.WellFormed.{OperandsBelow}
+
+module _ (stored : List TypeResolution) (memory : Memory) where
+  concluded : (queries : TypingRule) (result : Result TypeResolution ResolveError) (outcome : Outcome) → GivesNoMembers outcome →
+      outcome_at stored queries ≡ Some outcome → Meets memory result outcome → IsOutcomeOf stored memory queries result
+  concluded queries (Ok resolution) (Given given) none at meets = at ∙ ap (λ r. Some (Given r)) (sym meets)
+  concluded queries (Ok resolution) (Refused refusal) none at meets = absurd meets
+  concluded queries (Err failure) (Given given) none at (inl for_rule) = inr (for_type memory failure for_rule)
+  concluded queries (Err failure) (Given given) none at (inr for_copy) = absurd (for_copy.0 none)
+  concluded queries (Err failure) (Refused refusal) none at (inl same) = inl (at ∙ ap (λ r. Some (Refused r)) (sym same))
+  concluded queries (Err failure) (Refused refusal) none at (inr out_of_memory) = inr out_of_memory
+
+  module _ (Post : ℕ → OperandAnswer → Type 0) (result : Result TypeResolution ResolveError)
+      (no_members : (operand : ℕ) (t : TypeResolution) → slice_get stored operand ≡ Some t → HoldsNoMembers t)
+      (determines : (operand : ℕ) (reported : OperandAnswer) → Post operand reported →
+      IsOkAnd reported (λ t. slice_get stored operand ≡ Some t.now)) where
+    derivation_gives : (queries : TypingRule) → KeepsNoMembers queries → DerivesByRule memory Post result queries → IsOutcomeOf stored memory queries result
+    derivation_gives (Plain outcome) keeps meets = concluded (Plain outcome) result outcome keeps refl meets
+    derivation_gives (One operand answer) keeps (Ok t, post, meets) =
+        let at = determines operand (Ok t) post in
+        concluded (One operand answer) result (answer t.now) (keeps t.now (no_members operand t.now at)) (ap (λ v. option_map answer v) at)
+        meets
+    derivation_gives (One operand answer) keeps (Err failure, post, rest) = absurd (determines operand (Err failure) post)
+    derivation_gives (Two left right answer) keeps (Ok t, post, (Ok u, last, meets)) =
+        let at = determines left (Ok t) post in
+        let then = determines right (Ok u) last in
+        concluded (Two left right answer) result (answer t.now u.now)
+        (keeps t.now u.now (no_members left t.now at) (no_members right u.now then)) (rw at (rw then refl)) meets
+    derivation_gives (Two left right answer) keeps (Ok t, post, (Err failure, last, rest)) =
+        absurd (determines right (Err failure) last)
+    derivation_gives (Two left right answer) keeps (Err failure, post, rest) = absurd (determines left (Err failure) post)
+
+module _ (context : Context) (x : Expression) (stored : List TypeResolution) (below : OperandsBelow (length stored) x) where
+  -- the queried operands may be queried, and their types fit
+  pub may_query : (Pre : ℕ → Type 0) → ((operand : ℕ) → operand < length stored → Pre operand) → EachQueried Pre (typing_rule context x)
+  may_query Pre may = each-queried (λ operand. operand < length stored) Pre may (typing_rule context x)
+      (queried context x (length stored) below)
+
+  stored_fits : All (FitsTypes context.types) stored → (operand : ℕ) (reported : OperandAnswer) →
+      IsOkAnd reported (λ t. slice_get stored operand ≡ Some t.now) → AnswerFits context.types reported
+  stored_fits fit operand (Ok t) is = subst (FitsTypes context.types) (get_or_from_slice_get stored operand t.now t.now is)
+      (fit operand t.now (slice_get_within stored operand t.now is))
+  stored_fits fit operand (Err failure) is = absurd is
+
+  module _ (fit : All (FitsTypes context.types) stored) (Post : ℕ → OperandAnswer → Type 0)
+      (determines : (operand : ℕ) (reported : OperandAnswer) → Post operand reported →
+      IsOkAnd reported (λ t. slice_get stored operand ≡ Some t.now)) where
+    pub reported_fits : EachQueried (λ operand. (reported : OperandAnswer) → Post operand reported → AnswerFits context.types reported)
+        (typing_rule context x)
+    reported_fits = may_query (λ operand. (reported : OperandAnswer) → Post operand reported → AnswerFits context.types reported)
+        (λ operand lt reported post. stored_fits fit operand reported (determines operand reported post))
+
+    pub reported_in_range : EachQueried (λ operand. (reported : OperandAnswer) → Post operand reported →
+        AnswerInRange context.types reported) (typing_rule context x)
+    reported_in_range = may_query (λ operand. (reported : OperandAnswer) → Post operand reported → AnswerInRange context.types reported)
+        (λ operand lt reported post. answer-in_range context.types reported
+        (stored_fits fit operand reported (determines operand reported post)))
+
+  -- the result is the outcome at the stored types, none of which is a struct outside the arena
+  pub outcome_of : IsInRange context x → All (FitsTypes context.types) stored → (Post : ℕ → OperandAnswer → Type 0)
+      (result : Result TypeResolution ResolveError) →
+      DerivesByRule (memory_of x) Post result (typing_rule context x) →
+      ((operand : ℕ) (reported : OperandAnswer) → Post operand reported →
+      IsOkAnd reported (λ t. slice_get stored operand ≡ Some t.now)) →
+      IsOutcomeOf stored (memory_of x) (typing_rule context x) result
+  outcome_of names fit Post result derives determines =
+      derivation_gives stored (memory_of x) Post result
+      (λ operand t at. fits-no_members context.types t (subst (FitsTypes context.types) (get_or_from_slice_get stored operand t t at)
+      (fit operand t (slice_get_within stored operand t at))))
+      determines (typing_rule context x) (no_members_kept context x names) derives
