@@ -1,10 +1,11 @@
 //! Which entry points let some invocations alone pass what needs all of them.
 ghost use Rattle.std.specs.Prelude.{◌≡◌, ◌↔◌, None, IfOk, IsTrue, slice_get, map};
 ghost use Rattle.shader_uniformity.specs.Fault.{AreAllKnown, AreFaulty, IsFault, IsKnownBy, IsVerdict};
+ghost use Rattle.shader_uniformity.specs.Filters.{severity_table};
 
 use crate::cells::holds;
 use crate::facts::{BodyLocation, Fact, Rule};
-use crate::filters::is_severe;
+use crate::filters::{is_severe_by, severity_table};
 use crate::known::{function_rules, known_of};
 use crate::reach::reach;
 use crate::verdict::verdict_of;
@@ -35,23 +36,34 @@ impl Uniformity {
 fn known_next(
     alloc: Global,
     module: &Module,
+    severities: &[Option<bool>],
     callees: &[Items<Rule>],
     function: &Function,
 ) -> Result<Items<Rule>, AllocError>
+    requires { severities.now ≡ severity_table «module».now.diagnostic_filters }
     ensures { IfOk result (λ known. IsKnownBy «module».now callees.now function.now known) }
 {
-    let severe = is_severe(&module.diagnostic_filters, function.diagnostic_filter_leaf);
+    let severe = is_severe_by(
+        severities,
+        &module.diagnostic_filters,
+        function.diagnostic_filter_leaf,
+    );
     let rules = function_rules(alloc, module, callees, severe, false, function)?;
     known_of(alloc, function.arguments.as_slice(), &rules)
 }
 
 /// Returns what is known of each function.
-fn known_functions(alloc: Global, module: &Module) -> Result<Vec<Items<Rule>>, AllocError>
+fn known_functions(
+    alloc: Global,
+    module: &Module,
+    severities: &[Option<bool>],
+) -> Result<Vec<Items<Rule>>, AllocError>
+    requires { severities.now ≡ severity_table «module».now.diagnostic_filters }
     ensures { IfOk result (λ known. AreAllKnown «module».now known.items) }
 {
     let mut known = Vec::new(alloc);
     for (_, function) in module.functions.iter() {
-        let next = known_next(alloc, module, &known, function)?;
+        let next = known_next(alloc, module, severities, &known, function)?;
         known.push(next)?;
     }
     Ok(known)
@@ -61,12 +73,18 @@ fn known_functions(alloc: Global, module: &Module) -> Result<Vec<Items<Rule>>, A
 fn is_fault(
     alloc: Global,
     module: &Module,
+    severities: &[Option<bool>],
     callees: &[Items<Rule>],
     function: &Function,
 ) -> Result<bool, AllocError>
+    requires { severities.now ≡ severity_table «module».now.diagnostic_filters }
     ensures { IfOk result (λ faulty. IsTrue faulty ↔ IsFault «module».now callees.now function.now) }
 {
-    let severe = is_severe(&module.diagnostic_filters, function.diagnostic_filter_leaf);
+    let severe = is_severe_by(
+        severities,
+        &module.diagnostic_filters,
+        function.diagnostic_filter_leaf,
+    );
     let rules = function_rules(alloc, module, callees, severe, true, function)?;
     let reached = reach(alloc, &rules, &Fact::Always)?;
     Ok(holds(&reached.table, &Fact::Must))
@@ -76,14 +94,16 @@ fn is_fault(
 fn faulty_points(
     alloc: Global,
     module: &Module,
+    severities: &[Option<bool>],
     callees: &[Items<Rule>],
     points: &[EntryPoint],
 ) -> Result<Vec<bool>, AllocError>
+    requires { severities.now ≡ severity_table «module».now.diagnostic_filters }
     ensures { IfOk result (λ faulty. AreFaulty «module».now callees.now points.now faulty.items) }
 {
     let mut faulty = Vec::new(alloc);
     for point in points {
-        faulty.push(is_fault(alloc, module, callees, &point.function)?)?;
+        faulty.push(is_fault(alloc, module, severities, callees, &point.function)?)?;
     }
     Ok(faulty)
 }
@@ -103,8 +123,10 @@ pub fn find_divergence(alloc: Global, module: &Module) -> Result<Uniformity, All
     ensures faulty { IfOk result (λ found. AreFaulty «module».now found.functions «module».now.entry_points found.faulty) }
     ensures fault { IfOk result (λ found. IsVerdict «module».now found.functions found.fault) }
 {
-    let known = known_functions(alloc, module)?;
-    let faulty = faulty_points(alloc, module, &known, module.entry_points.as_slice())?;
+    let severities = severity_table(alloc, &module.diagnostic_filters)?;
+    let known = known_functions(alloc, module, &severities)?;
+    let points = module.entry_points.as_slice();
+    let faulty = faulty_points(alloc, module, &severities, &known, points)?;
     let fault = verdict_of(&known, &faulty);
     Ok(Uniformity {
         functions: Items::from(known),

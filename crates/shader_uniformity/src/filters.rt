@@ -1,10 +1,11 @@
 //! The diagnostic filters around a function.
-ghost use Rattle.std.specs.Prelude.{◌≡◌, slice_get};
+ghost use Rattle.std.specs.Prelude.{◌≡◌, IfOk, Some, slice_get};
 ghost use Rattle.std.specs.Option.{option_copied};
-ghost use Rattle.shader_uniformity.specs.Filters.{filter_at, is_error, is_severe};
+ghost use Rattle.shader_uniformity.specs.Filters.{filter_at, is_error, is_severe, known_severity, next_severity, severity_table};
 
 use shader_arena::{Arena, Handle};
 use shader_ir::{DiagnosticFilterNode, DiagnosticRule, Severity, mark};
+use std::alloc::{AllocError, Global};
 
 /// Returns whether a diagnostic of this severity refuses the module.
 fn is_error(severity: Severity) -> bool
@@ -36,6 +37,8 @@ fn filter_at(
 }
 
 /// Checks whether the filters from `leaf` outwards leave what needs uniform flow an error (WGSL, "Diagnostic Filtering").
+///
+/// It walks them, so ask `is_severe_by` of many functions.
 pub fn is_severe(
     filters: &Arena<DiagnosticFilterNode, mark::DiagnosticFilterNode>,
     leaf: Option<Handle<mark::DiagnosticFilterNode>>,
@@ -53,4 +56,68 @@ pub fn is_severe(
         }
     }
     true
+}
+
+/// Returns what a table tells of the filters from one outwards.
+fn severity_at(
+    severities: &[Option<bool>],
+    handle: Handle<mark::DiagnosticFilterNode>,
+) -> Option<bool>
+    ensures { result ≡ known_severity severities.now (Some handle) }
+{
+    match severities.get(handle.index()) {
+        Some(severe) => *severe,
+        None => None,
+    }
+}
+
+/// Returns what it tells of a filter and those around it, if the parent is one of those before it.
+fn next_severity(earlier: &[Option<bool>], filter: &DiagnosticFilterNode) -> Option<bool>
+    ensures { result ≡ next_severity earlier.now filter.now }
+{
+    match filter.rule {
+        DiagnosticRule::DerivativeUniformity => Some(is_error(filter.severity)),
+        DiagnosticRule::Other => match filter.parent {
+            Some(parent) => severity_at(earlier, parent),
+            None => Some(true),
+        },
+    }
+}
+
+/// Returns of each filter what `is_severe` finds from it outwards, none where a filter on the way isn't after its parent.
+///
+/// # Errors
+///
+/// `AllocError` where memory runs out.
+pub fn severity_table(
+    alloc: Global,
+    filters: &Arena<DiagnosticFilterNode, mark::DiagnosticFilterNode>,
+) -> Result<Vec<Option<bool>>, AllocError>
+    ensures { IfOk result (λ severities. severities.items ≡ severity_table filters.now) }
+{
+    let mut severities = Vec::with_capacity(alloc, filters.len())?;
+    for (_, filter) in filters.iter() {
+        let severe = next_severity(severities.as_slice(), filter);
+        severities.push(severe)?;
+    }
+    Ok(severities)
+}
+
+/// Checks what `is_severe` does, by the table of the filters.
+#[tactic(auto, using(crate::proofs::FilterLemmas::known_is_severe, crate::proofs::FilterLemmas::unfiltered_is_severe))]
+pub fn is_severe_by(
+    severities: &[Option<bool>],
+    filters: &Arena<DiagnosticFilterNode, mark::DiagnosticFilterNode>,
+    leaf: Option<Handle<mark::DiagnosticFilterNode>>,
+) -> bool
+    requires { severities.now ≡ severity_table filters.now }
+    ensures { result ≡ is_severe filters.now filters.now leaf }
+{
+    match leaf {
+        Some(handle) => match severity_at(severities, handle) {
+            Some(severe) => severe,
+            None => is_severe(filters, Some(handle)),
+        },
+        None => true,
+    }
 }
