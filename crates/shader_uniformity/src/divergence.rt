@@ -1,4 +1,4 @@
-//! Which entry points let some invocations alone pass what needs all of them.
+//! The entry points that let some invocations alone pass what needs all of them.
 ghost use Rattle.std.specs.Prelude.{◌≡◌, ◌↔◌, None, IfOk, IsTrue, slice_get, map};
 ghost use Rattle.shader_uniformity.specs.Fault.{AreAllKnown, AreFaulty, IsFault, IsKnownBy, IsVerdict};
 ghost use Rattle.shader_uniformity.specs.Filters.{severity_table};
@@ -12,12 +12,12 @@ use crate::verdict::verdict_of;
 use shader_ir::{EntryPoint, Function, Items, Module};
 use std::alloc::{AllocError, Global};
 
-/// What is found of the uniform control flow of a module.
+/// The uniform control flow of a module, as `find_divergence` finds it.
 #[derive(Drop)]
 pub struct Uniformity {
-    /// Which endings of a call each of its beginnings leads to, for each function.
+    /// The endings of a call that each of its beginnings leads to, for each function.
     pub functions: Items<Items<Rule>>,
-    /// Whether some invocations alone may pass what needs all of them, for each entry point.
+    /// For each entry point, true where some invocations alone may pass what needs all of them.
     pub faulty: Items<bool>,
     /// The first function that lets them by itself, whoever calls it, or else the first entry point that does.
     pub fault: Option<BodyLocation>,

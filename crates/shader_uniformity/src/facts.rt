@@ -1,4 +1,4 @@
-//! What is known of a function, and the rules by which one fact leads to another.
+//! Facts of a call of a function, and the rules by which one leads to another.
 
 use shader_arena::Handle;
 use shader_ir::mark;
@@ -14,12 +14,12 @@ pub enum Jump {
     Return,
 }
 
-/// What a pointer leads back to.
+/// The end of a pointer's chain.
 #[derive(Clone, Copy)]
 pub enum Place {
     /// A local variable, by its number.
     Local(u32),
-    /// What the argument of this number points to.
+    /// The memory that the argument of this number points to.
     Pointee(u32),
     /// Memory that other invocations may write, or that isn't known.
     Shared,
@@ -37,7 +37,7 @@ pub enum Fact {
     Flow,
     /// The argument of this number differs among the invocations.
     Argument(u32),
-    /// What the argument of this number points to differs among them when the call begins.
+    /// The value that the argument of this number points to differs among them when the call begins.
     Behind(u32),
     /// Only some of them come to this position.
     Apart(u32),
@@ -45,13 +45,13 @@ pub enum Fact {
     Leaves(Jump, u32),
     /// The expression differs among them.
     Differs(Handle<mark::Expression>),
-    /// What the place holds differs among them from this moment on.
+    /// The value that the place holds differs among them from this moment on.
     Holds(Place, u32),
-    /// What needs all of them together is passed by some alone.
+    /// Some of them alone pass what needs all of them together.
     Must,
     /// The result differs among them.
     Gives,
-    /// What the argument of this number points to differs among them when the call ends.
+    /// The value that the argument of this number points to differs among them when the call ends.
     Left(u32),
 }
 

@@ -1,4 +1,4 @@
-//! What is known of a function: which endings of a call each of its beginnings leads to.
+//! Knowledge of a function: which endings of a call each of its beginnings leads to.
 ghost use Rattle.std.specs.Prelude.{◌≡◌, ◌+◌, ◌∷◌, ◌++◌, [], IfOk, OnOk, Some, slice_get};
 ghost use Rattle.std.specs.List.{enumerate_from, flat_map};
 ghost use Rattle.shader_uniformity.specs.Cells.{ending};

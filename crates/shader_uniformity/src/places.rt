@@ -1,4 +1,4 @@
-//! What the pointers of a function lead back to.
+//! The places that the pointers of a function lead back to.
 ghost use Rattle.std.specs.Prelude.{◌≡◌, ◌∷◌, ◌++◌, [], IfOk, slice_get};
 ghost use Rattle.shader_uniformity.specs.Places.{class_is_written, element_is_written, global_place, image_is_written};
 ghost use Rattle.shader_uniformity.specs.Places.{inner_is_written, place_at, place_in, place_of, places, space_is_fixed, type_is_written};

@@ -46,13 +46,13 @@ pub fn writes_at(position: u32, around: Option<u32>) -> Result<u32, AllocError>
     }
 }
 
-/// What the rules of a function rest on beside its statements.
+/// The ground of a function's rules beside its statements.
 #[derive(Clone, Copy)]
 pub struct Scope<'a> {
     pub expressions: &'a Arena<Expression, mark::Expression>,
     pub places: &'a [Place],
-    /// What is known of each function that may be called.
+    /// The rules that are known of each function that may be called.
     pub callees: &'a [Items<Rule>],
-    /// Whether the diagnostic filters leave what needs uniform flow an error.
+    /// True where the diagnostic filters leave what needs uniform flow an error.
     pub severe: bool,
 }

@@ -1,4 +1,4 @@
-//! Why a fact follows from a first one: the rules on a way back.
+//! Traces of a fact back to a first one: the rules on the way.
 ghost use Rattle.std.specs.Prelude.{◌≡◌, Contains, IfOk, IfSome, slice_get, take, true};
 ghost use Rattle.std.specs.Option.{option_copied};
 ghost use Rattle.shader_uniformity.specs.Fault.{function_rules, severity};
