@@ -13,8 +13,8 @@ use Rattle.shader_uniformity.specs.Fault.{AreKnown, IsKnown, IsKnownBy, argument
 use Rattle.shader_uniformity.specs.Fault.{lefts_from}
 use Rattle.shader_uniformity.specs.Fault.{severity}
 use Rattle.shader_uniformity.specs.Fault as known_by
-use Rattle.shader_uniformity.specs.Lockstep.{On, State, Meaning, Group, Begins, Content, Passes, PassedTo, Takes, argument_value, begun}
-use Rattle.shader_uniformity.specs.Lockstep.{passed}
+use Rattle.shader_uniformity.specs.Lockstep.{On, State, Meaning, Group, Begins, Content, Passes, PassedTo, Takes, argument_value}
+use Rattle.shader_uniformity.specs.Lockstep.{first_value, passed_value}
 use Rattle.shader_uniformity.specs.Lockstep as run
 use Rattle.shader_uniformity.specs.Marks.{leads, Marked, itself, by_rule, later}
 use Rattle.shader_uniformity.specs.Places.{place_at, places}
@@ -238,12 +238,12 @@ module _ (I V : Type 0) (M : Fact → Type 0) (k : AreMarks M) (t : Meaning I V)
           (here (leads (Argument j) (Differs h)) [])) (passed_argument j a e is given x))
     ]
 
-    begun_same : (h : ℕ) (x : Option Expression) → slice_get d.expressions h ≡ x →
-        ((i y : I) → begun I V t d arguments s i h x ≡ begun I V t d arguments s y h x) ⊎ Inner (Differs h)
-    begun_same h None is = inl (λ i y. refl)
-    begun_same h (Some (form.FunctionArgument j)) is =
+    first_value_same : (h : ℕ) (x : Option Expression) → slice_get d.expressions h ≡ x →
+        ((i y : I) → first_value I V t d arguments s i h x ≡ first_value I V t d arguments s y h x) ⊎ Inner (Differs h)
+    first_value_same h None is = inl (λ i y. refl)
+    first_value_same h (Some (form.FunctionArgument j)) is =
         argument_same h j is (slice_get d.arguments j) refl (slice_get arguments j) refl
-    begun_same h (Some x) is = inl (λ i y. refl)
+    first_value_same h (Some x) is = inl (λ i y. refl)
 
     content_of : (q : Place) (D : Type 0) → (M (Holds q (reads_at n around)) → D) →
         D ⊎ ((i x : I) (v w : V) → Content I V t q (s.memory i q) v → Content I V t q (s.memory x q) w → v ≡ w)
@@ -277,7 +277,7 @@ module _ (I V : Type 0) (M : Fact → Type 0) (k : AreMarks M) (t : Meaning I V)
 
     pub begins_fine : Fine I V Inner inner_marks 1 u
     begins_fine = record {
-      values = λ h. elim (begun_same h (slice_get d.expressions h) refl) [
+      values = λ h. elim (first_value_same h (slice_get d.expressions h) refl) [
         | inl same ↦ inl (λ i x. b.values i h ∙ same i x ∙ sym (b.values x h))
         | inr y ↦ inr y
       ];

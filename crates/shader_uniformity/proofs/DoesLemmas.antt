@@ -5,7 +5,7 @@ use Rattle.std.specs.List.{AllByRecursion}
 use Rattle.shader_ir.specs.declared.statement.RayQueryFunction.TheVariants as query
 use Rattle.shader_uniformity.specs.Apart.{simple_rules, query_rules, value_rules}
 use Rattle.shader_uniformity.specs.Differs.{store_rule, store_rules}
-use Rattle.shader_uniformity.specs.Lockstep.{Status, On, Off, Left, State, Meaning, Group, Trace, Writes, Does, at_in, leave, leaving}
+use Rattle.shader_uniformity.specs.Lockstep.{Status, On, Off, Left, State, Meaning, Group, Trace, Writes, Does, at_in, leave, leave_one}
 use Rattle.shader_uniformity.specs.Lockstep.{anything}
 use Rattle.shader_uniformity.specs.Lockstep as run
 use Rattle.shader_uniformity.specs.Marks.{leads}
@@ -21,7 +21,7 @@ use Rattle.shader_uniformity.specs.declared.facts.Place.{Place}
 use Rattle.shader_uniformity.specs.declared.facts.Rule.{Rule}
 use Rattle.shader_uniformity.proofs.EmitLemmas.{emitted, IsKept}
 use Rattle.shader_uniformity.proofs.FineLemmas.{Cl, head, tail, AreMarks, is_own, Fine, fine_later, assigned, written, given}
-use Rattle.shader_uniformity.proofs.StatusLemmas.{Alike, Together, Moves, alike_together, leaving_moves, leaving_other, same_jump}
+use Rattle.shader_uniformity.proofs.StatusLemmas.{Alike, Together, Moves, alike_together, leave_one_moves, leave_one_other, same_jump}
 
 pub reads_le : (n p : ℕ) (around : Option ℕ) → n ≤ p → reads_at n around ≤ reads_at p around
 reads_le n p None le = le
@@ -70,15 +70,15 @@ module _ (I V : Type 0) (M : Fact → Type 0) (k : AreMarks M) (t : Meaning I V)
     leaves : (j : Jump) (u : State I V) → Fine I V M k (reads_at n around) u → (M (Apart n) → M (Leaves j q)) → CameBy u (leave I V g j) []
     leaves j u fine to = record {
       fine = on u fine;
-      flow = elim flow [ inl same ↦ inl (λ i x. ap (λ (s : Status). leaving s j) (same i x)) | inr x ↦ inr (carry x) ];
+      flow = elim flow [ inl same ↦ inl (λ i x. ap (λ (s : Status). leave_one s j) (same i x)) | inr x ↦ inr (carry x) ];
       lefts = λ i. elim flow [
-        | inl same ↦ inl (alike_together I (leave I V g j) (Left i) (λ y z. ap (λ (s : Status). leaving s j) (same y z)))
+        | inl same ↦ inl (alike_together I (leave I V g j) (Left i) (λ y z. ap (λ (s : Status). leave_one s j) (same y z)))
         | inr x ↦ elim (lefts i) [
           | inr y ↦ inr y
           | inl together ↦ of i together (to x)
         ]
       ];
-      moves = λ i. leaving_moves (g i) j;
+      moves = λ i. leave_one_moves (g i) j;
       needs = tt;
     }
       where
@@ -86,9 +86,9 @@ module _ (I V : Type 0) (M : Fact → Type 0) (k : AreMarks M) (t : Meaning I V)
         of : (i : Jump) → Together I g (Left i) → M (Leaves j q) → Together I (leave I V g j) (Left i) ⊎ M (Leaves i q)
         of i together x = elim (same_jump j i) [
           | inl is ↦ let P : Jump → Type 0 = λ v. M (Leaves v q) in inr (subst P is x)
-          | inr unlike ↦ inl (λ y z e. elim (leaving_other (g y) j i e) [
+          | inr unlike ↦ inl (λ y z e. elim (leave_one_other (g y) j i e) [
             | inl wrong ↦ absurd (unlike wrong)
-            | inr was ↦ ap (λ (s : Status). leaving s j) (together y z was)
+            | inr was ↦ ap (λ (s : Status). leave_one s j) (together y z was)
           ])
         ]
 

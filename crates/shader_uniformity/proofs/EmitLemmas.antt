@@ -4,7 +4,7 @@ use Rattle.std.proofs.Common.{List, [], ◌∷◌, ◌++◌, Option, Some, None,
 use Rattle.std.specs.List.{AllByRecursion, flat_map}
 use Rattle.shader_uniformity.specs.Differs.{emit_rules, emitted_rules, form_rules, operand_rule}
 use Rattle.shader_uniformity.specs.Lockstep.{Status, On, State, Meaning, Group, Trace, Assigns, Content, Read, GivenBy, read_of, is_source}
-use Rattle.shader_uniformity.specs.Lockstep.{needs_all, needed, Emits, at_in}
+use Rattle.shader_uniformity.specs.Lockstep.{needs_all, need_of, Emits, at_in}
 use Rattle.shader_uniformity.specs.Lockstep as run
 use Rattle.shader_uniformity.specs.Marks.{leads}
 use Rattle.shader_uniformity.specs.Places.{place_at, places}
@@ -99,7 +99,7 @@ module _ (I V : Type 0) (M : Fact → Type 0) (k : AreMarks M) (t : Meaning I V)
             ]
 
   kept_need : (n : ℕ) (b : Bool) (g : Group I V) → (b ≡ true → M (Apart n) → M Must) → Alike I g ⊎ M (Apart n) →
-      AllByRecursion IsKept (needed I V b g)
+      AllByRecursion IsKept (need_of I V b g)
   kept_need n true g to flow = (elim flow [ inl same ↦ inl (alike_together I g On same) | inr m ↦ inr (to refl m) ], tt)
   kept_need n false g to flow = tt
 
@@ -129,6 +129,6 @@ module _ (I V : Type 0) (M : Fact → Type 0) (k : AreMarks M) (t : Meaning I V)
         let rest = emitted g hs u w needs e (right M (emit_rules at_all n around (severity f) f.expressions h)
         (flat_map (emit_rules at_all n around (severity f) f.expressions) hs) c) flow next in (
           rest.0,
-          all_append IsKept (needed I V (needs_all x && severity f) g) needs
+          all_append IsKept (need_of I V (needs_all x && severity f) g) needs
               (kept_need n (needs_all x && severity f) g (formed M at_all n around (severity f) h x inner).need flow) rest.1,
         )

@@ -81,7 +81,8 @@ length_after table (filter ∷ rest) =
     omega (arith, length_after (table ++ next_severity table filter ∷ []) rest, length-append table (next_severity table filter ∷ []))
 
 table_is : (filters : List DiagnosticFilterNode) → IsTable filters (severity_table filters)
-table_is filters = all_tables filters [] filters [] refl refl record { tells = λ i severe steps told enough. absurd (none-some severe told) }
+table_is filters =
+    all_tables filters [] filters [] refl refl record { tells = λ i severe steps told enough. absurd (none-some severe told) }
 
 -- what the table tells is so
 pub known_is_severe : (filters : List DiagnosticFilterNode) (severities : List (Option Bool)) (filter : ℕ) (severe : Bool) →

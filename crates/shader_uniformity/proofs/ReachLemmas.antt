@@ -5,8 +5,8 @@ use Rattle.std.proofs.lemmas.List.{get_or-set_same, get_or-set_other, get_or-rep
 use Rattle.std.proofs.lemmas.Bool.{cases_eq, cases_lt, false≢true, lt-ltb, ltb-true}
 use Rattle.std.proofs.lemmas.List.Elements.{All-contains, All-contains_itself, All-from_recursion, recursion_from_All}
 use Rattle.std.specs.List.{All, AllByRecursion, Contains}
-use Rattle.shader_uniformity.specs.Cells.{cell, changes, entered, fired, fires, holds, is_from, kind, moment, number, passed, width}
-use Rattle.shader_uniformity.specs.Cells.{width_from, HasMarks, IsSound, StaysSound}
+use Rattle.shader_uniformity.specs.Cells.{cell, cells_after, cells_with, cells_with_if, changes, fires, holds, is_from, kind, moment}
+use Rattle.shader_uniformity.specs.Cells.{number, width, width_from, HasMarks, IsSound, StaysSound}
 use Rattle.shader_uniformity.specs.Marks.{leads, Marked, itself, by_rule, later}
 use Rattle.shader_uniformity.specs.declared.facts.Fact.{Fact}
 use Rattle.shader_uniformity.specs.declared.facts.Fact.TheVariants.{Always, Flow, Argument, Behind, Apart, Leaves, Differs, Holds, Must}
@@ -127,22 +127,22 @@ vacant n x = elim (cases_lt (cell x) n) [
 
 -- the cells of a table with one more fact
 entered_same : (table : List (Option ℕ)) (y x : Fact) → cell y < length table → cell x ≡ cell y →
-    holds (entered table y) x ≡ is_from (Some (moment y)) (moment x)
+    holds (cells_with table y) x ≡ is_from (Some (moment y)) (moment x)
 entered_same table y x within e =
-    ap (λ (c : ℕ). is_from (slice_index_or (entered table y) c None) (moment x)) e
+    ap (λ (c : ℕ). is_from (slice_index_or (cells_with table y) c None) (moment x)) e
     ∙ ap (λ (o : Option ℕ). is_from o (moment x)) (get_or-set_same table (cell y) (Some (moment y)) None within)
 
-entered_other : (table : List (Option ℕ)) (y x : Fact) → (cell x ≡ cell y → ⊥) → holds (entered table y) x ≡ holds table x
-entered_other table y x ne =
+cells_with_other : (table : List (Option ℕ)) (y x : Fact) → (cell x ≡ cell y → ⊥) → holds (cells_with table y) x ≡ holds table x
+cells_with_other table y x ne =
     ap (λ (o : Option ℕ). is_from o (moment x)) (get_or-set_other table (cell y) (cell x) (Some (moment y)) None ne)
 
 entered_kept : (table : List (Option ℕ)) (y x : Fact) → cell y < length table → holds table y ≡ false → holds table x ≡ true →
-    holds (entered table y) x ≡ true
+    holds (cells_with table y) x ≡ true
 entered_kept table y x within new old = elim (cases_eq (cell x) (cell y)) [
   | inl e ↦ entered_same table y x within e
       ∙ from_earlier (slice_index_or table (cell y) None) (moment y) (moment x)
       (sym (ap (λ (c : ℕ). is_from (slice_index_or table c None) (moment x)) e) ∙ old) new
-  | inr ne ↦ entered_other table y x ne ∙ old
+  | inr ne ↦ cells_with_other table y x ne ∙ old
 ]
 
 abbrev Settles : List (Option ℕ) → Rule → Type 0
@@ -150,18 +150,18 @@ Settles table rule = holds table rule.cause ≡ true → holds table rule.effect
 
 changed_stays : (rules : List Rule) (table : List (Option ℕ)) → changes rules table true ≡ true
 changed_stays [] table = refl
-changed_stays (rule ∷ rules) table = changed_stays rules (fired (fires table rule) table rule.effect)
+changed_stays (rule ∷ rules) table = changed_stays rules (cells_with_if (fires table rule) table rule.effect)
 
 -- a pass that changes nothing leaves the table, which each rule agrees with
 settles : (rules : List Rule) (table : List (Option ℕ)) → changes rules table false ≡ false →
-    (passed rules table ≡ table) × AllByRecursion (Settles table) rules
+    (cells_after rules table ≡ table) × AllByRecursion (Settles table) rules
 settles [] table h = (refl, tt)
 settles (rule ∷ rules) table h = of (λ k. settles rules table k) (fires table rule) refl h
   where
-    of : (changes rules table false ≡ false → (passed rules table ≡ table) × AllByRecursion (Settles table) rules) → (b : Bool) →
-        fires table rule ≡ b → changes rules (fired b table rule.effect) (false || b) ≡ false →
-        (passed rules (fired b table rule.effect) ≡ table) × AllByRecursion (Settles table) (rule ∷ rules)
-    of go true e k = absurd (false≢true (sym k ∙ changed_stays rules (entered table rule.effect)))
+    of : (changes rules table false ≡ false → (cells_after rules table ≡ table) × AllByRecursion (Settles table) rules) → (b : Bool) →
+        fires table rule ≡ b → changes rules (cells_with_if b table rule.effect) (false || b) ≡ false →
+        (cells_after rules (cells_with_if b table rule.effect) ≡ table) × AllByRecursion (Settles table) (rule ∷ rules)
+    of go true e k = absurd (false≢true (sym k ∙ changed_stays rules (cells_with table rule.effect)))
     of go false e k =
         let rest = go k in
         (rest.0, (settled_by (holds table rule.cause) (holds table rule.effect) e, rest.1))
@@ -208,28 +208,28 @@ module _ (rules : List Rule) (start : Fact) where
   pub covers : (x y : Fact) → cell x ≡ cell y → moment y ≤ moment x → Marked rules start y → Marked rules start x
   covers x y e h m = subst (Marked rules start) (sym (in_cell x y e)) (at_later y (moment x) h m)
 
-  sound_entered : (table : List (Option ℕ)) (y : Fact) → cell y < length table → Marked rules start y →
-      ((x : Fact) → holds table x ≡ true → Marked rules start x) → (x : Fact) → holds (entered table y) x ≡ true → Marked rules start x
-  sound_entered table y within m s x h = elim (cases_eq (cell x) (cell y)) [
+  sound_with : (table : List (Option ℕ)) (y : Fact) → cell y < length table → Marked rules start y →
+      ((x : Fact) → holds table x ≡ true → Marked rules start x) → (x : Fact) → holds (cells_with table y) x ≡ true → Marked rules start x
+  sound_with table y within m s x h = elim (cases_eq (cell x) (cell y)) [
     | inl e ↦ covers x y e (from_le (moment y) (moment x) (sym (entered_same table y x within e) ∙ h)) m
-    | inr ne ↦ s x (sym (entered_other table y x ne) ∙ h)
+    | inr ne ↦ s x (sym (cells_with_other table y x ne) ∙ h)
   ]
 
   sound_passed : (part : List Rule) (table : List (Option ℕ)) (n : ℕ) → length table ≡ n → AllByRecursion (Contains rules) part →
-      AllByRecursion (λ rule. cell rule.effect < n) part → IsSound rules start table → IsSound rules start (passed part table)
+      AllByRecursion (λ rule. cell rule.effect < n) part → IsSound rules start table → IsSound rules start (cells_after part table)
   sound_passed [] table n long among within s = s
   sound_passed (rule ∷ part) table n long among within s =
       of (λ t l i. sound_passed part t n l among.1 within.1 i) (fires table rule) refl
     where
-      of : ((t : List (Option ℕ)) → length t ≡ n → IsSound rules start t → IsSound rules start (passed part t)) → (b : Bool) →
-          fires table rule ≡ b → IsSound rules start (passed part (fired b table rule.effect))
+      of : ((t : List (Option ℕ)) → length t ≡ n → IsSound rules start t → IsSound rules start (cells_after part t)) → (b : Bool) →
+          fires table rule ≡ b → IsSound rules start (cells_after part (cells_with_if b table rule.effect))
       of go true e =
           let inside : cell rule.effect < length table = omega (arith, long, within.0) in
           let cause = s.1 rule.cause (and_left (holds table rule.cause) (not (holds table rule.effect)) e) in
           let new = and_right (holds table rule.cause) (holds table rule.effect) e in
-          go (entered table rule.effect) (length-set table (cell rule.effect) (Some (moment rule.effect)) ∙ long) (
+          go (cells_with table rule.effect) (length-set table (cell rule.effect) (Some (moment rule.effect)) ∙ long) (
             entered_kept table rule.effect start inside new s.0,
-            sound_entered table rule.effect inside (by_rule among.0 cause) s.1,
+            sound_with table rule.effect inside (by_rule among.0 cause) s.1,
           )
       of go false e = go table long s
 
@@ -254,22 +254,22 @@ module _ (rules : List Rule) (start : Fact) where
       held_later table p s next le (complete table all begun (Holds p s) m)
 
   -- an empty table with the first fact
-  pub begun : (n : ℕ) → cell start < n → IsSound rules start (entered (empty_table n) start)
+  pub begun : (n : ℕ) → cell start < n → IsSound rules start (cells_with (empty_table n) start)
   begun n within =
       let long : length (empty_table n) ≡ n = table_long (empty_table n) n n refl refl in
       let inside : cell start < length (empty_table n) = omega (arith, long, within) in (
         entered_same (empty_table n) start start inside refl ∙ le_from (moment start) (moment start) (omega arith),
-        sound_entered (empty_table n) start inside itself (λ x h. absurd (false≢true (sym (vacant n x) ∙ h))),
+        sound_with (empty_table n) start inside itself (λ x h. absurd (false≢true (sym (vacant n x) ∙ h))),
       )
 
   pub goes_on : (table : List (Option ℕ)) → All (λ rule. cell rule.effect < length table) rules → IsSound rules start table →
-      IsSound rules start (passed rules table)
+      IsSound rules start (cells_after rules table)
   goes_on table within s =
       sound_passed rules table (length table) refl (recursion_from_All (Contains rules) rules (All-contains_itself rules))
       (recursion_from_All (λ rule. cell rule.effect < length table) rules within) s
 
   pub settled : (table : List (Option ℕ)) → changes rules table false ≡ false → IsSound rules start table →
-      HasMarks rules start (passed rules table)
+      HasMarks rules start (cells_after rules table)
   settled table h s x =
       let end = settles rules table h in
       let P : List (Option ℕ) → Type 0 = λ v. IsTrue (holds v x) ↔ Marked rules start x in
@@ -283,7 +283,7 @@ stays_on rules a b c h k = record { stays = λ start s. k.stays start (h.stays s
 
 -- so does one rule
 pub stays_fired : (rules : List Rule) (table next : List (Option ℕ)) (rule : Rule) →
-    next ≡ fired (fires table rule) table rule.effect → Contains rules rule →
+    next ≡ cells_with_if (fires table rule) table rule.effect → Contains rules rule →
     All (λ rule. cell rule.effect < length table) rules → StaysSound rules table next
 stays_fired rules table next rule e among within = record {
   stays = λ start s.

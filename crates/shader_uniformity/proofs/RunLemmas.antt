@@ -19,8 +19,8 @@ use Rattle.std.proofs.lemmas.Bool.{false≢true}
 use Rattle.std.proofs.lemmas.Bool.Decides.{nat_tests}
 use Rattle.shader_uniformity.specs.Calls.{call_rules}
 use Rattle.shader_uniformity.specs.Fault.{AreKnown, severity}
-use Rattle.shader_uniformity.specs.Lockstep.{Status, On, Off, Left, State, Meaning, Group, Trace, entering, meeting, pick, resumed, stopped}
-use Rattle.shader_uniformity.specs.Lockstep.{behind_loop, behind_case, is_on, tested}
+use Rattle.shader_uniformity.specs.Lockstep.{Status, On, Off, Left, State, Meaning, Group, Trace, enter_one, meet_one, pick, behind_body}
+use Rattle.shader_uniformity.specs.Lockstep.{behind_round, behind_loop, behind_case, is_on, passes_test}
 use Rattle.shader_uniformity.specs.Lockstep as run
 use Rattle.shader_uniformity.specs.Places.{places}
 use Rattle.shader_uniformity.specs.Words.{Function, Module}
@@ -29,10 +29,10 @@ use Rattle.shader_uniformity.proofs.DoesLemmas.{Comes, Lefts, comes, reads_le, w
 use Rattle.shader_uniformity.proofs.EmitLemmas.{IsKept, all_append}
 use Rattle.shader_uniformity.proofs.FineLemmas.{Cl, head, tail, left, right, AreMarks, Fine, fine_later}
 use Rattle.shader_uniformity.proofs.StatusLemmas.{Alike, Together, Moves, in_block, both, joins, alike_both, alike_after}
-use Rattle.shader_uniformity.proofs.StatusLemmas.{entering_left}
-use Rattle.shader_uniformity.proofs.StatusLemmas.{entering_false, each_jump, moves_on, is_off, move_off, resumed_off, stopped_off}
-use Rattle.shader_uniformity.proofs.StatusLemmas.{resumed_return, stopped_return, return_stopped, behind_return, behind_other, case_break}
-use Rattle.shader_uniformity.proofs.StatusLemmas.{case_other, case_move, on_or_off, rounds_move, all_jumps}
+use Rattle.shader_uniformity.proofs.StatusLemmas.{enter_one_left}
+use Rattle.shader_uniformity.proofs.StatusLemmas.{enter_one_false, each_jump, moves_on, is_off, move_off, behind_body_off, behind_round_off}
+use Rattle.shader_uniformity.proofs.StatusLemmas.{behind_body_return, behind_round_return, return_behind_round, behind_return, behind_other}
+use Rattle.shader_uniformity.proofs.StatusLemmas.{case_break, case_other, case_move, on_or_off, rounds_move, all_jumps}
 
 -- positions grow
 mutual
@@ -149,17 +149,17 @@ module _ (I V : Type 0) (first : I) (t : Meaning I V) (m : Module) where
     pub needs : AllByRecursion (IsKept I V M k t) a
 
   entered_lefts : (M : Fact → Type 0) (k : AreMarks M) (q : ℕ) (g : Group I V) (b : I → Bool) → Lefts I V M k t q (run.enter I V g b)
-  entered_lefts M k q g b j = inl (λ i x e. absurd (entering_left (g i) (b i) j e))
+  entered_lefts M k q g b j = inl (λ i x e. absurd (enter_one_left (g i) (b i) j e))
 
   nobody_moves : (g : Group I V) → Moves I (in_block I g (λ i. false)) nobody
-  nobody_moves g i = inl (entering_false (g i))
+  nobody_moves g i = inl (enter_one_false (g i))
 
   nobody_left : (j : Jump) → Together I nobody (Left j)
   nobody_left j i x e = absurd (cc)
 
   all_enter : (g : Group I V) (B : Type 0) (A : Type 0) → Alike I g ⊎ A → (A → B) → Alike I (run.enter I V g (run.everyone I V)) ⊎ B
   all_enter g B A flow to = elim flow [
-    | inl same ↦ inl (λ i x. ap (λ (s : Status). entering s true) (same i x))
+    | inl same ↦ inl (λ i x. ap (λ (s : Status). enter_one s true) (same i x))
     | inr y ↦ inr (to y)
   ]
 
@@ -203,13 +203,14 @@ module _ (I V : Type 0) (first : I) (t : Meaning I V) (m : Module) where
     flow_in : Cl M (enter_case_rules n e fallen p) → Mode M n e choice c fell fallen g →
         Alike I (in_block I g (chooses choice c fell)) ⊎ M (Apart p)
     flow_in r (uniform same same_choice same_fell below) = inl (λ i x.
-        ap (λ (s : Status). entering s (chooses choice c fell i)) (same i x)
-        ∙ ap (λ (v : ℕ). entering (g x) (nat_eq v c || fell i)) (same_choice i x)
-        ∙ ap (λ (v : Bool). entering (g x) (nat_eq (choice x) c || v)) (same_fell i x))
+        ap (λ (s : Status). enter_one s (chooses choice c fell i)) (same i x)
+        ∙ ap (λ (v : ℕ). enter_one (g x) (nat_eq v c || fell i)) (same_choice i x)
+        ∙ ap (λ (v : Bool). enter_one (g x) (nat_eq (choice x) c || v)) (same_fell i x))
     flow_in r (passed_by below unfallen) = inl (λ i x. sym (outside i) ∙ outside x)
       where
         outside : (i : I) → Off ≡ in_block I g (chooses choice c fell) i
-        outside i = entering_false (g i) ∙ ap (λ (v : Bool). entering (g i) v) (sym (unchosen (choice i) c (fell i) (below i) (unfallen i)))
+        outside i = enter_one_false (g i)
+            ∙ ap (λ (v : Bool). enter_one (g i) v) (sym (unchosen (choice i) c (fell i) (below i) (unfallen i)))
     flow_in r (parted below p' is how) =
         let P : Option ℕ → Type 0 = λ v. Cl M (fall_rules v p) in
         inr (falls M p' p (subst P is (right M (branch_rules n e p) (fall_rules fallen p) r)) how)
@@ -221,7 +222,7 @@ module _ (I V : Type 0) (first : I) (t : Meaning I V) (m : Module) where
   module _ (M : Fact → Type 0) (n e c p : ℕ) (choice : I → ℕ) (fell : I → Bool) (fallen : Option ℕ) (g h : Group I V) (fall : Bool)
       (moves : Moves I (in_block I g (chooses choice c fell)) h) (lefts : (j : Jump) → Together I h (Left j) ⊎ M (Leaves j p)) where
     abbrev passing : Group I V
-    passing i = entering (g i) (not (chooses choice c fell i))
+    passing i = enter_one (g i) (not (chooses choice c fell i))
 
     abbrev met : Group I V
     met = both I g (chooses choice c fell) (λ i. behind_case (h i)) passing
@@ -233,16 +234,16 @@ module _ (I V : Type 0) (first : I) (t : Meaning I V) (m : Module) where
     Next = Mode M n e choice (c + 1) falling (falls_from fall p) met
 
     case_moves : Moves I (in_block I g (chooses choice c fell)) (λ i. behind_case (h i))
-    case_moves i = case_move (entering (g i) (chooses choice c fell i)) (h i) (moves i) (on_or_off (g i) (chooses choice c fell i))
+    case_moves i = case_move (enter_one (g i) (chooses choice c fell i)) (h i) (moves i) (on_or_off (g i) (chooses choice c fell i))
 
     passing_left : (j : Jump) → Together I passing (Left j)
-    passing_left j i x w = absurd (entering_left (g i) (not (chooses choice c fell i)) j w)
+    passing_left j i x w = absurd (enter_one_left (g i) (not (chooses choice c fell i)) j w)
 
     stays_out : (i : I) → chooses choice c fell i ≡ false → h i ≡ Off
     stays_out i w = elim (moves i) [
-      | inl same ↦ same ∙ ap (λ (v : Bool). entering (g i) v) w ∙ sym (entering_false (g i))
+      | inl same ↦ same ∙ ap (λ (v : Bool). enter_one (g i) v) w ∙ sym (enter_one_false (g i))
       | inr x ↦
-          let wrong : Off ≡ On = entering_false (g i) ∙ ap (λ (v : Bool). entering (g i) v) (sym w) ∙ x.0 in
+          let wrong : Off ≡ On = enter_one_false (g i) ∙ ap (λ (v : Bool). enter_one (g i) v) (sym w) ∙ x.0 in
           absurd (cc)
     ]
 
@@ -273,8 +274,8 @@ module _ (I V : Type 0) (first : I) (t : Meaning I V) (m : Module) where
         ((i : I) → choice i < c + 1) → ((j : Jump) → Together I h (Left j)) → Next
     all_leave_alike same same_choice same_chooses below together =
         let inside : Alike I (in_block I g (chooses choice c fell)) = λ i x.
-        ap (λ (s : Status). entering s (chooses choice c fell i)) (same i x)
-        ∙ ap (λ (v : Bool). entering (g x) v) (same_chooses i x) in
+        ap (λ (s : Status). enter_one s (chooses choice c fell i)) (same i x)
+        ∙ ap (λ (v : Bool). enter_one (g x) v) (same_chooses i x) in
         let out = alike_after I (in_block I g (chooses choice c fell)) h inside moves (λ i. on_or_off (g i) (chooses choice c fell i))
         together in
         uniform (alike_both I (Unit {0}) (λ j. Unit {0}) g (chooses choice c fell) (λ i. behind_case (h i)) passing same case_moves
@@ -330,10 +331,10 @@ module _ (I V : Type 0) (first : I) (t : Meaning I V) (m : Module) where
   return_or_none W jump.Continue = Unit {0}
   return_or_none W jump.Return = W
 
-  tested_alike : (M : Fact → Type 0) (k : AreMarks M) (moment : ℕ) (w : State I V) → Fine I V M k moment w → (c : Option ℕ) (R : Type 0) →
-      ((e : ℕ) → c ≡ Some e → M (Differs e) → R) → ((i x : I) → tested I V t w c i ≡ tested I V t w c x) ⊎ R
-  tested_alike M k moment w fine None R to = inl (λ i x. refl)
-  tested_alike M k moment w fine (Some e) R to = elim (fine.values e) [
+  tests_alike : (M : Fact → Type 0) (k : AreMarks M) (moment : ℕ) (w : State I V) → Fine I V M k moment w → (c : Option ℕ) (R : Type 0) →
+      ((e : ℕ) → c ≡ Some e → M (Differs e) → R) → ((i x : I) → passes_test I V t w c i ≡ passes_test I V t w c x) ⊎ R
+  tests_alike M k moment w fine None R to = inl (λ i x. refl)
+  tests_alike M k moment w fine (Some e) R to = elim (fine.values e) [
     | inl same ↦ inl (λ i x. ap (λ (v : V). t.is_true v) (same i x))
     | inr y ↦ inr (to e refl y)
   ]
@@ -392,7 +393,7 @@ module _ (I V : Type 0) (first : I) (t : Meaning I V) (m : Module) where
         record { fine = r.fine; flow = j.flow; lefts = j.lefts; moves = j.moves; needs = r.needs }
     step num f _ s g w _ _ (run.branches {c = e} {x = x} {y = y} {u = u} {h = h} {k = z} {a = a} {b = b} one other)
         M k callees ak long q n around c carry fine flow lefts =
-        let test = tested I V t s (Some e) in
+        let test = passes_test I V t s (Some e) in
         let p = block_end (n + 1) x in
         let end = block_end p y in
         let rules : ℕ → Body → List Rule =
@@ -409,7 +410,7 @@ module _ (I V : Type 0) (first : I) (t : Meaning I V) (m : Module) where
         let c2 = left M (l1 ++ l2) l3 c3 in
         let b1 = branches M n e (n + 1) (left M l1 l2 c2) in
         let b2 = branches M n e p (right M (l1 ++ l2) l3 c3) in
-        let inside = tested_alike M k (reads_at n around) s fine (Some e) (M (Differs e)) (λ d is y. let back : d ≡ e = cc in
+        let inside = tests_alike M k (reads_at n around) s fine (Some e) (M (Differs e)) (λ d is y. let back : d ≡ e = cc in
         let P : ℕ → Type 0 = λ v. M (Differs v) in subst P back y) in
         let r1 = block num f x s (run.enter I V g test) u h a one M k callees ak long (n + 1) (n + 1) around (right M l1 l2 c2)
         (fine_later I V M k (reads_at n around) (reads_at (n + 1) around) s (reads_le n (n + 1) around (omega arith)) fine)
@@ -417,8 +418,8 @@ module _ (I V : Type 0) (first : I) (t : Meaning I V) (m : Module) where
           | inr y ↦ inr (b1.0 y)
           | inl same ↦ elim inside [
             | inr y ↦ inr (b1.1 y)
-            | inl tests ↦ inl (λ i y. ap (λ (v : Status). entering v (test i)) (same i y)
-                ∙ ap (λ (v : Bool). entering (g y) v) (tests i y))
+            | inl tests ↦ inl (λ i y. ap (λ (v : Status). enter_one v (test i)) (same i y)
+                ∙ ap (λ (v : Bool). enter_one (g y) v) (tests i y))
           ]
         ])
         (entered_lefts M k (n + 1) g test) in
@@ -428,8 +429,8 @@ module _ (I V : Type 0) (first : I) (t : Meaning I V) (m : Module) where
           | inr y ↦ inr (b2.0 y)
           | inl same ↦ elim inside [
             | inr y ↦ inr (b2.1 y)
-            | inl tests ↦ inl (λ i y. ap (λ (v : Status). entering v (not (test i))) (same i y)
-                ∙ ap (λ (v : Bool). entering (g y) (not v)) (tests i y))
+            | inl tests ↦ inl (λ i y. ap (λ (v : Status). enter_one v (not (test i))) (same i y)
+                ∙ ap (λ (v : Bool). enter_one (g y) (not v)) (tests i y))
           ]
         ])
         (entered_lefts M k p g (λ i. not (test i))) in
@@ -464,7 +465,7 @@ module _ (I V : Type 0) (first : I) (t : Meaning I V) (m : Module) where
           | inr y ↦ apart (inl y)
           | inl same ↦ elim (fine.values e) [
             | inr y ↦ apart (inr y)
-            | inl vs ↦ uniform (λ i x. ap (λ (v : Status). entering v true) (same i x)) (λ i x. ap (λ (v : V). t.chosen v cs) (vs i x))
+            | inl vs ↦ uniform (λ i x. ap (λ (v : Status). enter_one v true) (same i x)) (λ i x. ap (λ (v : V). t.chosen v cs) (vs i x))
                 (λ i x. refl) (λ i w. absurd (false≢true w))
           ]
         ] in
@@ -472,7 +473,7 @@ module _ (I V : Type 0) (first : I) (t : Meaning I V) (m : Module) where
         (λ i. M (fact.Leaves i q))
         (λ y. (out_c.0 y, out_c.1 y)) (λ y. (out_r.0 y, out_r.1 y))
         (fine_later I V M k (reads_at n around) (reads_at p around) s (reads_le n p around (omega arith)) fine)
-        (all_enter g _ _ flow carry) (λ i. inl (λ x y w. absurd (entering_left (g x) true i w))) mode in
+        (all_enter g _ _ flow carry) (λ i. inl (λ x y w. absurd (enter_one_left (g x) true i w))) mode in
         let j = joins I (M (Apart end)) (λ i. M (fact.Leaves i q)) g (run.everyone I V) h nobody
         (elim flow [ inl same ↦ inl same | inr y ↦ inr (carry y) ]) lefts r.moves (nobody_moves g)
         r.lefts (λ i. inl (nobody_left i)) in
@@ -507,7 +508,7 @@ module _ (I V : Type 0) (first : I) (t : Meaning I V) (m : Module) where
         (parts M p (n + 1) (left M m1 m2 d2)) (parts M p' (n + 1) (right M m1 m2 d2)) ends.1
         (head M (leads (Apart (n + 1)) (Apart p')) [] (right M (l1 ++ l2) l3 c3)) ends.2 W
         (λ z. (out1.0 z, out1.1 z)) (λ z. (out2.0 z, out2.1 z)) fine (all_enter g _ _ flow ends.0)
-        (inl (λ i z w. absurd (entering_left (g i) true jump.Return w))) in
+        (inl (λ i z w. absurd (enter_one_left (g i) true jump.Return w))) in
         let behind : Group I V = λ i. behind_loop (h i) in
         let j = joins I (M (Apart end)) (λ i. M (fact.Leaves i q)) g (run.everyone I V) behind nobody
         (elim flow [ inl same ↦ inl same | inr z ↦ inr (carry z) ]) lefts
@@ -596,7 +597,7 @@ module _ (I V : Type 0) (first : I) (t : Meaning I V) (m : Module) where
         (flow_in M n e c p choice fell fallen g c1 mode) (entered_lefts M k p g choosing) in
         let gather = gathers M p (n + 1) (right M (l1 ++ l2) l3 c3) in
         let behind : Group I V = λ i. behind_case (h i) in
-        let outside : Group I V = λ i. entering (g i) (not (choosing i)) in
+        let outside : Group I V = λ i. enter_one (g i) (not (choosing i)) in
         let keeps : (j : Jump) → Together I h (Left j) → behind_case (Left j) ≡ Left j → Together I behind (Left j) =
         λ j together stays i z d. ap behind_case (together i z (case_other (h i) j d)) ∙ stays in
         let joint = joins I A (λ j. L j × A) g choosing behind outside flow lefts
@@ -611,7 +612,7 @@ module _ (I V : Type 0) (first : I) (t : Meaning I V) (m : Module) where
           | inl together ↦ inl (keeps jump.Return together refl)
           | inr y ↦ let o = lr (gather jump.Return y) in inr (o, o.1)
         ]))
-        (λ j. inl (λ i z d. absurd (entering_left (g i) (not (choosing i)) j d))) in
+        (λ j. inl (λ i z d. absurd (enter_one_left (g i) (not (choosing i)) j d))) in
         let r2 = cases num f choice (c + 1) (λ i. fall
         && is_on (h i)) cs u (both I g choosing behind outside) w l b rest M k callees ak long
         n e (falls_from fall p) (block_end p x) around (right M ((l1 ++ l2) ++ l3) l4 cl) A L lc lr r1.fine joint.flow joint.lefts
@@ -656,13 +657,13 @@ module _ (I V : Type 0) (first : I) (t : Meaning I V) (m : Module) where
         (elim (r1.lefts jump.Return) [ inl together ↦ inl together | inr d ↦ inr (rx d, px jump.Return d) ]))
         (λ i. inl (nobody_left i)) in
         let f1 = both I g everyone h nobody in
-        let g1 : Group I V = λ i. resumed (f1 i) in
+        let g1 : Group I V = λ i. behind_body (f1 i) in
         let flow1 : Alike I g1 ⊎ M (Apart R) = elim j1.flow [
-          | inl same ↦ inl (λ i d. ap resumed (same i d))
+          | inl same ↦ inl (λ i d. ap behind_body (same i d))
           | inr d ↦ inr d
         ] in
         let returns1 : Together I g1 (Left jump.Return) ⊎ W = elim (j1.lefts jump.Return) [
-          | inl together ↦ inl (λ i d e. ap resumed (together i d (resumed_return (f1 i) e)))
+          | inl together ↦ inl (λ i d e. ap behind_body (together i d (behind_body_return (f1 i) e)))
           | inr d ↦ inr d
         ] in
         let r2 = block num f y u (run.enter I V g1 everyone) w j a' other M k callees ak long p' p' (Some loop) cy r1.fine
@@ -675,25 +676,26 @@ module _ (I V : Type 0) (first : I) (t : Meaning I V) (m : Module) where
         (elim (r2.lefts jump.Return) [ inl together ↦ inl together | inr d ↦ inr (ry d, py jump.Return d) ]))
         (λ i. inl (nobody_left i)) in
         let f2 = both I g1 everyone j nobody in
-        let test = tested I V t w b in
-        let g2 : Group I V = λ i. stopped (test i) (f2 i) in
+        let test = passes_test I V t w b in
+        let g2 : Group I V = λ i. behind_round (test i) (f2 i) in
         let flow2 : Alike I g2 ⊎ M (Apart R) = elim j2.flow [
           | inr d ↦ inr d
-          | inl same ↦ elim (tested_alike M k loop w r2.fine b (M (Apart R)) tk) [
+          | inl same ↦ elim (tests_alike M k loop w r2.fine b (M (Apart R)) tk) [
             | inr d ↦ inr d
-            | inl tests ↦ inl (λ i d. ap (λ (v : Bool). stopped v (f2 i)) (tests i d) ∙ ap (λ (v : Status). stopped (test d) v) (same i d))
+            | inl tests ↦ inl (λ i d. ap (λ (v : Bool). behind_round v (f2 i)) (tests i d)
+                ∙ ap (λ (v : Status). behind_round (test d) v) (same i d))
           ]
         ] in
         let returns2 : Together I g2 (Left jump.Return) ⊎ W = elim (j2.lefts jump.Return) [
-          | inl together ↦ inl (λ i d e. ap (λ (v : Status). stopped (test d) v) (together i d (stopped_return (test i) (f2 i) e))
-              ∙ return_stopped (test d))
+          | inl together ↦ inl (λ i d e. ap (λ (v : Status). behind_round (test d) v) (together i d (behind_round_return (test i) (f2 i) e))
+              ∙ return_behind_round (test d))
           | inr d ↦ inr d
         ] in
         let r3 = rounds num f x y b w g2 z l a'' rest M k callees ak long R p p' loop cx cy px py tx ty tk W rx ry r2.fine flow2 returns2 in
         record {
           fine = r3.fine;
           returns = r3.returns;
-          off = λ i. r3.off i ∙ stopped_off (test i) (f2 i) ∙ move_off (g1 i) (f2 i) (j2.moves i) ∙ resumed_off (f1 i)
+          off = λ i. r3.off i ∙ behind_round_off (test i) (f2 i) ∙ move_off (g1 i) (f2 i) (j2.moves i) ∙ behind_body_off (f1 i)
               ∙ move_off (g i) (f1 i) (j1.moves i);
           over = r3.over;
           needs = all_append (IsKept I V M k t) a (a' ++ a'') r1.needs (all_append (IsKept I V M k t) a' a'' r2.needs r3.needs);

@@ -1,7 +1,7 @@
 -- What invocations that went into blocks alike do behind them.
 use Rattle.std.proofs.Common.{◌≡◌, refl, sym, ◌∙◌, ap, subst, ◌⊎◌, inl, inr, Bool, true, false, not}
-use Rattle.shader_uniformity.specs.Lockstep.{Status, On, Off, Left, entering, meeting, pick, leaving, resumed, stopped, behind_loop}
-use Rattle.shader_uniformity.specs.Lockstep.{behind_case, is_on}
+use Rattle.shader_uniformity.specs.Lockstep.{Status, On, Off, Left, enter_one, meet_one, pick, leave_one, behind_body, behind_round}
+use Rattle.shader_uniformity.specs.Lockstep.{behind_loop, behind_case, is_on}
 use Rattle.std.proofs.lemmas.Bool.{false≢true}
 use Rattle.shader_uniformity.specs.declared.facts.Jump.{Jump}
 use Rattle.shader_uniformity.specs.declared.facts.Jump.TheVariants as jump
@@ -16,13 +16,13 @@ off_stays h j m e = elim m [
   | inr x ↦ let wrong : Off ≡ On = x.0 in absurd (cc)
 ]
 
-pub entering_left : (s : Status) (b : Bool) (j : Jump) → entering s b ≡ Left j → ⊥
-entering_left On true j e = absurd (cc)
-entering_left On false j e = absurd (cc)
-entering_left Off b j e = absurd (cc)
-entering_left (Left i) b j e = absurd (cc)
+pub enter_one_left : (s : Status) (b : Bool) (j : Jump) → enter_one s b ≡ Left j → ⊥
+enter_one_left On true j e = absurd (cc)
+enter_one_left On false j e = absurd (cc)
+enter_one_left Off b j e = absurd (cc)
+enter_one_left (Left i) b j e = absurd (cc)
 
-pub left_from : (s : Status) (b : Bool) (h : Status) (j : Jump) → Move (entering s b) h → h ≡ Left j → (s ≡ On) × (b ≡ true)
+pub left_from : (s : Status) (b : Bool) (h : Status) (j : Jump) → Move (enter_one s b) h → h ≡ Left j → (s ≡ On) × (b ≡ true)
 left_from On true h j m e = (refl, refl)
 left_from On false h j m e = absurd (off_stays h j m e)
 left_from Off b h j m e = absurd (off_stays h j m e)
@@ -49,9 +49,9 @@ stays_on u v m n f = elim m [ inl a ↦ a | inr x ↦ absurd (off_stays v x.1 n 
 abbrev Follows : Status → Status → Type 0
 Follows u v = (j : Jump) → u ≡ Left j → v ≡ Left j
 
-same_at : (x : Status) (b c : Bool) (h h' k k' : Status) → Move (entering x b) h → Move (entering x c) h' →
-    Move (entering x (not b)) k → Move (entering x (not c)) k' → Follows h h' → Follows h' h → Follows k k' → Follows k' k →
-    meeting x (pick b h k) ≡ meeting x (pick c h' k')
+same_at : (x : Status) (b c : Bool) (h h' k k' : Status) → Move (enter_one x b) h → Move (enter_one x c) h' →
+    Move (enter_one x (not b)) k → Move (enter_one x (not c)) k' → Follows h h' → Follows h' h → Follows k k' → Follows k' k →
+    meet_one x (pick b h k) ≡ meet_one x (pick c h' k')
 same_at Off b c h h' k k' m m' n n' f f' g g' = refl
 same_at (Left i) b c h h' k k' m m' n n' f f' g g' = refl
 same_at On true true h h' k k' m m' n n' f f' g g' = alike h h' m m' f f'
@@ -59,33 +59,33 @@ same_at On false false h h' k k' m m' n n' f f' g g' = alike k k' n n' g g'
 same_at On true false h h' k k' m m' n n' f f' g g' = stays_on h h' m m' f ∙ sym (stays_on k' k n' n g')
 same_at On false true h h' k k' m m' n n' f f' g g' = stays_on k k' n n' g ∙ sym (stays_on h' h m' m f')
 
-pub same_joined : (x y : Status) → y ≡ x → (b c : Bool) (h h' k k' : Status) → Move (entering x b) h → Move (entering y c) h' →
-    Move (entering x (not b)) k → Move (entering y (not c)) k' → Follows h h' → Follows h' h → Follows k k' → Follows k' k →
-    meeting x (pick b h k) ≡ meeting y (pick c h' k')
+pub same_joined : (x y : Status) → y ≡ x → (b c : Bool) (h h' k k' : Status) → Move (enter_one x b) h → Move (enter_one y c) h' →
+    Move (enter_one x (not b)) k → Move (enter_one y (not c)) k' → Follows h h' → Follows h' h → Follows k k' → Follows k' k →
+    meet_one x (pick b h k) ≡ meet_one y (pick c h' k')
 same_joined x y e b c h h' k k' m m' n n' f f' g g' =
-    let P : Status → Type 0 = λ v. Move (entering v c) h' in
-    let Q : Status → Type 0 = λ v. Move (entering v (not c)) k' in
+    let P : Status → Type 0 = λ v. Move (enter_one v c) h' in
+    let Q : Status → Type 0 = λ v. Move (enter_one v (not c)) k' in
     same_at x b c h h' k k' m (subst P e m') n (subst Q e n') f f' g g'
-    ∙ ap (λ (v : Status). meeting v (pick c h' k')) (sym e)
+    ∙ ap (λ (v : Status). meet_one v (pick c h' k')) (sym e)
 
 not_true : (c : Bool) → not c ≡ true → c ≡ false
 not_true true e = sym e
 not_true false e = refl
 
-pub left_joined : (x y : Status) (b c : Bool) (h h' k k' : Status) (j : Jump) → Move (entering y c) h' → Move (entering y (not c)) k' →
+pub left_joined : (x y : Status) (b c : Bool) (h h' k k' : Status) (j : Jump) → Move (enter_one y c) h' → Move (enter_one y (not c)) k' →
     (x ≡ Left j → y ≡ Left j) → (h ≡ Left j → h' ≡ Left j) → (k ≡ Left j → k' ≡ Left j) →
-    meeting x (pick b h k) ≡ Left j → meeting y (pick c h' k') ≡ Left j
+    meet_one x (pick b h k) ≡ Left j → meet_one y (pick c h' k') ≡ Left j
 left_joined Off y b c h h' k k' j m n f g p e = absurd (cc)
-left_joined (Left i) y b c h h' k k' j m n f g p e = ap (λ (v : Status). meeting v (pick c h' k')) (f e)
+left_joined (Left i) y b c h h' k k' j m n f g p e = ap (λ (v : Status). meet_one v (pick c h' k')) (f e)
 left_joined On y true c h h' k k' j m n f g p e =
     let at = left_from y c h' j m (g e) in
-    ap (λ (v : Status). meeting v (pick c h' k')) at.0 ∙ ap (λ (v : Bool). pick v h' k') at.1 ∙ g e
+    ap (λ (v : Status). meet_one v (pick c h' k')) at.0 ∙ ap (λ (v : Bool). pick v h' k') at.1 ∙ g e
 left_joined On y false c h h' k k' j m n f g p e =
     let at = left_from y (not c) k' j n (p e) in
-    ap (λ (v : Status). meeting v (pick c h' k')) at.0 ∙ ap (λ (v : Bool). pick v h' k') (not_true c at.1) ∙ p e
+    ap (λ (v : Status). meet_one v (pick c h' k')) at.0 ∙ ap (λ (v : Bool). pick v h' k') (not_true c at.1) ∙ p e
 
-pub move_joined : (x : Status) (b : Bool) (h k : Status) → Move (entering x b) h → Move (entering x (not b)) k →
-    Move x (meeting x (pick b h k))
+pub move_joined : (x : Status) (b : Bool) (h k : Status) → Move (enter_one x b) h → Move (enter_one x (not b)) k →
+    Move x (meet_one x (pick b h k))
 move_joined On true h k m n = m
 move_joined On false h k m n = n
 move_joined Off b h k m n = inl refl
@@ -117,27 +117,27 @@ each_jump P A f = elim (f jump.Break) [
   | inr a ↦ inr a
 ]
 
-pub entering_move : (s : Status) (b : Bool) → Move (entering s b) (entering s b)
-entering_move s b = inl refl
+pub enter_one_move : (s : Status) (b : Bool) → Move (enter_one s b) (enter_one s b)
+enter_one_move s b = inl refl
 
-pub leaving_moves : (s : Status) (j : Jump) → Move s (leaving s j)
-leaving_moves On j = inr (refl, j, refl)
-leaving_moves Off j = inl refl
-leaving_moves (Left i) j = inl refl
+pub leave_one_moves : (s : Status) (j : Jump) → Move s (leave_one s j)
+leave_one_moves On j = inr (refl, j, refl)
+leave_one_moves Off j = inl refl
+leave_one_moves (Left i) j = inl refl
 
 left_is : (i j : Jump) → Left i ≡ Left j → i ≡ j
 left_is i j e = cc
 
 -- another jump doesn't hide one
-pub leaving_other : (s : Status) (i j : Jump) → leaving s i ≡ Left j → (i ≡ j) ⊎ (s ≡ Left j)
-leaving_other On i j e = inl (left_is i j e)
-leaving_other Off i j e = absurd (cc)
-leaving_other (Left k) i j e = inr e
+pub leave_one_other : (s : Status) (i j : Jump) → leave_one s i ≡ Left j → (i ≡ j) ⊎ (s ≡ Left j)
+leave_one_other On i j e = inl (left_is i j e)
+leave_one_other Off i j e = absurd (cc)
+leave_one_other (Left k) i j e = inr e
 
-pub entering_false : (s : Status) → Off ≡ entering s false
-entering_false On = refl
-entering_false Off = refl
-entering_false (Left j) = refl
+pub enter_one_false : (s : Status) → Off ≡ enter_one s false
+enter_one_false On = refl
+enter_one_false Off = refl
+enter_one_false (Left j) = refl
 
 abbrev pub is_off : Status → Bool
 is_off Off = true
@@ -149,39 +149,39 @@ move_off s h m = elim m [
   | inr x ↦ ap is_off x.2 ∙ sym (ap is_off x.0)
 ]
 
-pub resumed_off : (s : Status) → is_off (resumed s) ≡ is_off s
-resumed_off On = refl
-resumed_off Off = refl
-resumed_off (Left jump.Break) = refl
-resumed_off (Left jump.Continue) = refl
-resumed_off (Left jump.Return) = refl
+pub behind_body_off : (s : Status) → is_off (behind_body s) ≡ is_off s
+behind_body_off On = refl
+behind_body_off Off = refl
+behind_body_off (Left jump.Break) = refl
+behind_body_off (Left jump.Continue) = refl
+behind_body_off (Left jump.Return) = refl
 
-pub stopped_off : (b : Bool) (s : Status) → is_off (stopped b s) ≡ is_off s
-stopped_off true On = refl
-stopped_off true Off = refl
-stopped_off true (Left jump.Break) = refl
-stopped_off true (Left jump.Continue) = refl
-stopped_off true (Left jump.Return) = refl
-stopped_off false s = resumed_off s
+pub behind_round_off : (b : Bool) (s : Status) → is_off (behind_round b s) ≡ is_off s
+behind_round_off true On = refl
+behind_round_off true Off = refl
+behind_round_off true (Left jump.Break) = refl
+behind_round_off true (Left jump.Continue) = refl
+behind_round_off true (Left jump.Return) = refl
+behind_round_off false s = behind_body_off s
 
-pub resumed_return : (s : Status) → resumed s ≡ Left jump.Return → s ≡ Left jump.Return
-resumed_return On e = absurd (cc)
-resumed_return Off e = absurd (cc)
-resumed_return (Left jump.Break) e = absurd (cc)
-resumed_return (Left jump.Continue) e = absurd (cc)
-resumed_return (Left jump.Return) e = refl
+pub behind_body_return : (s : Status) → behind_body s ≡ Left jump.Return → s ≡ Left jump.Return
+behind_body_return On e = absurd (cc)
+behind_body_return Off e = absurd (cc)
+behind_body_return (Left jump.Break) e = absurd (cc)
+behind_body_return (Left jump.Continue) e = absurd (cc)
+behind_body_return (Left jump.Return) e = refl
 
-pub stopped_return : (b : Bool) (s : Status) → stopped b s ≡ Left jump.Return → s ≡ Left jump.Return
-stopped_return true On e = absurd (cc)
-stopped_return true Off e = absurd (cc)
-stopped_return true (Left jump.Break) e = absurd (cc)
-stopped_return true (Left jump.Continue) e = absurd (cc)
-stopped_return true (Left jump.Return) e = refl
-stopped_return false s e = resumed_return s e
+pub behind_round_return : (b : Bool) (s : Status) → behind_round b s ≡ Left jump.Return → s ≡ Left jump.Return
+behind_round_return true On e = absurd (cc)
+behind_round_return true Off e = absurd (cc)
+behind_round_return true (Left jump.Break) e = absurd (cc)
+behind_round_return true (Left jump.Continue) e = absurd (cc)
+behind_round_return true (Left jump.Return) e = refl
+behind_round_return false s e = behind_body_return s e
 
-pub return_stopped : (b : Bool) → stopped b (Left jump.Return) ≡ Left jump.Return
-return_stopped true = refl
-return_stopped false = refl
+pub return_behind_round : (b : Bool) → behind_round b (Left jump.Return) ≡ Left jump.Return
+return_behind_round true = refl
+return_behind_round false = refl
 
 pub behind_return : (s : Status) → behind_loop s ≡ Left jump.Return → s ≡ Left jump.Return
 behind_return On e = absurd (cc)
@@ -243,13 +243,13 @@ case_move s h m is = elim m [
       | inr x ↦ inr (x.0, jump.Return, ap behind_case e)
     ]
 
-pub on_or_off : (s : Status) (b : Bool) → (entering s b ≡ On) ⊎ (entering s b ≡ Off)
+pub on_or_off : (s : Status) (b : Bool) → (enter_one s b ≡ On) ⊎ (enter_one s b ≡ Off)
 on_or_off On true = inl refl
 on_or_off On false = inr refl
 on_or_off Off b = inr refl
 on_or_off (Left j) b = inr refl
 
-pub rounds_move : (x h : Status) → is_off h ≡ is_off (entering x true) → is_on h ≡ false → Move (entering x true) (behind_loop h)
+pub rounds_move : (x h : Status) → is_off h ≡ is_off (enter_one x true) → is_on h ≡ false → Move (enter_one x true) (behind_loop h)
 rounds_move On On o e = absurd (false≢true (sym e))
 rounds_move On Off o e = absurd (false≢true (sym o))
 rounds_move On (Left jump.Break) o e = inl refl
@@ -274,10 +274,10 @@ module _ (I : Type 0) where
   Moves g h = (i : I) → Move (g i) (h i)
 
   abbrev pub in_block : (I → Status) → (I → Bool) → I → Status
-  in_block g b i = entering (g i) (b i)
+  in_block g b i = enter_one (g i) (b i)
 
   abbrev pub both : (I → Status) → (I → Bool) → (I → Status) → (I → Status) → I → Status
-  both g b h k i = meeting (g i) (pick (b i) (h i) (k i))
+  both g b h k i = meet_one (g i) (pick (b i) (h i) (k i))
 
   pub alike_together : (g : I → Status) (s : Status) → Alike g → Together g s
   alike_together g s same i k e = same k i ∙ e

@@ -54,26 +54,28 @@ is_from None t = false
 abbrev pub holds : List (Option ℕ) → Fact → Bool
 holds table fact = is_from (slice_index_or table (cell fact) None) (moment fact)
 
-abbrev pub entered : List (Option ℕ) → Fact → List (Option ℕ)
-entered table fact = slice_set table (cell fact) (Some (moment fact))
+-- the table with one more fact
+abbrev pub cells_with : List (Option ℕ) → Fact → List (Option ℕ)
+cells_with table fact = slice_set table (cell fact) (Some (moment fact))
 
 -- a rule adds its effect
 abbrev pub fires : List (Option ℕ) → Rule → Bool
 fires table rule = holds table rule.cause && not (holds table rule.effect)
 
-abbrev pub fired : Bool → List (Option ℕ) → Fact → List (Option ℕ)
-fired true table effect = entered table effect
-fired false table effect = table
+-- and with it where a rule adds it
+abbrev pub cells_with_if : Bool → List (Option ℕ) → Fact → List (Option ℕ)
+cells_with_if true table effect = cells_with table effect
+cells_with_if false table effect = table
 
 -- the table after the rules, in order
-abbrev pub passed : List Rule → List (Option ℕ) → List (Option ℕ)
-passed [] table = table
-passed (rule ∷ rules) table = passed rules (fired (fires table rule) table rule.effect)
+abbrev pub cells_after : List Rule → List (Option ℕ) → List (Option ℕ)
+cells_after [] table = table
+cells_after (rule ∷ rules) table = cells_after rules (cells_with_if (fires table rule) table rule.effect)
 
 -- whether one of them added its effect
 abbrev pub changes : List Rule → List (Option ℕ) → Bool → Bool
 changes [] table changed = changed
-changes (rule ∷ rules) table changed = changes rules (fired (fires table rule) table rule.effect) (changed || fires table rule)
+changes (rule ∷ rules) table changed = changes rules (cells_with_if (fires table rule) table rule.effect) (changed || fires table rule)
 
 -- a number above the cells of all effects and of one more fact
 abbrev pub width_from : ℕ → List Rule → ℕ

@@ -30,19 +30,19 @@ is_on On = true
 is_on _ = false
 
 -- those that take part and pass a test enter a block
-abbrev pub entering : Status → Bool → Status
-entering On b = cond b On Off
-entering Off b = Off
-entering (Left j) b = Off
+abbrev pub enter_one : Status → Bool → Status
+enter_one On b = cond b On Off
+enter_one Off b = Off
+enter_one (Left j) b = Off
 
 -- and what came of them is what they do behind it
-abbrev pub meeting : (outside inside : Status) → Status
-meeting On inside = inside
-meeting outside inside = outside
+abbrev pub meet_one : (outside inside : Status) → Status
+meet_one On inside = inside
+meet_one outside inside = outside
 
-abbrev pub leaving : Status → Jump → Status
-leaving On j = Left j
-leaving s j = s
+abbrev pub leave_one : Status → Jump → Status
+leave_one On j = Left j
+leave_one s j = s
 
 -- of two that ran one after the other, each went into one block
 abbrev pub pick : Bool → Status → Status → Status
@@ -50,13 +50,13 @@ pick true a b = a
 pick false a b = b
 
 -- at the end of a Loop's body, at the end of a round, behind a Loop, and behind a case of a Switch
-abbrev pub resumed : Status → Status
-resumed (Left jump.Continue) = On
-resumed s = s
+abbrev pub behind_body : Status → Status
+behind_body (Left jump.Continue) = On
+behind_body s = s
 
-abbrev pub stopped : Bool → Status → Status
-stopped true On = Left jump.Break
-stopped b s = resumed s
+abbrev pub behind_round : Bool → Status → Status
+behind_round true On = Left jump.Break
+behind_round b s = behind_body s
 
 abbrev pub behind_loop : Status → Status
 behind_loop (Left jump.Break) = On
@@ -151,49 +151,49 @@ module _ (I V : Type 0) where
   GivenBy t at s false x i v =
       (c : V) × Read t at s i (read_of x) c × (v ≡ t.given x (map (λ o. s.values i o.0) (expression_operands x)) c)
 
-  abbrev pub needed : Bool → Group → Trace
-  needed true g = g ∷ []
-  needed false g = []
+  abbrev pub need_of : Bool → Group → Trace
+  need_of true g = g ∷ []
+  need_of false g = []
 
   abbrev pub enter : Group → (I → Bool) → Group
-  enter g b i = entering (g i) (b i)
+  enter g b i = enter_one (g i) (b i)
 
   abbrev pub meet : Group → Group → Group
-  meet g h i = meeting (g i) (h i)
+  meet g h i = meet_one (g i) (h i)
 
   abbrev pub meet_two : Group → (I → Bool) → Group → Group → Group
-  meet_two g b h k i = meeting (g i) (pick (b i) (h i) (k i))
+  meet_two g b h k i = meet_one (g i) (pick (b i) (h i) (k i))
 
   abbrev pub leave : Group → Jump → Group
-  leave g j i = leaving (g i) j
+  leave g j i = leave_one (g i) j
 
   abbrev pub everyone : I → Bool
   everyone i = true
 
-  abbrev pub tested : Meaning → State → Option ℕ → I → Bool
-  tested t s (Some e) i = t.is_true (s.values i e)
-  tested t s None i = false
+  abbrev pub passes_test : Meaning → State → Option ℕ → I → Bool
+  passes_test t s (Some e) i = t.is_true (s.values i e)
+  passes_test t s None i = false
 
   -- with what a called function begins: an argument that isn't passed is nothing
-  abbrev pub passed : Meaning → State → I → Option ℕ → V
-  passed t s i (Some e) = s.values i e
-  passed t s i None = t.nothing
+  abbrev pub passed_value : Meaning → State → I → Option ℕ → V
+  passed_value t s i (Some e) = s.values i e
+  passed_value t s i None = t.nothing
 
   abbrev pub argument_value : Meaning → State → I → Option FunctionArgument → Option ℕ → V
-  argument_value t s i (Some declared) e = passed t s i e
+  argument_value t s i (Some declared) e = passed_value t s i e
   argument_value t s i None e = t.nothing
 
-  abbrev pub begun : Meaning → Function → List ℕ → State → I → ℕ → Option Expression → V
-  begun t f arguments s i h (Some (form.FunctionArgument k)) =
+  abbrev pub first_value : Meaning → Function → List ℕ → State → I → ℕ → Option Expression → V
+  first_value t f arguments s i h (Some (form.FunctionArgument k)) =
       argument_value t s i (slice_get f.arguments k) (slice_get arguments k)
-  begun t f arguments s i h x = t.constant f h
+  first_value t f arguments s i h x = t.constant f h
 
   abbrev pub PassedTo : Meaning → (ℕ → Place) → State → I → Option FunctionArgument → Option ℕ → V → Type 0
   PassedTo t at s i (Some declared) (Some e) c = Content t (at e) (s.memory i (at e)) c
   PassedTo t at s i _ _ c = c ≡ t.nothing
 
   pub record Begins (t : Meaning) (at : ℕ → Place) (f : Function) (arguments : List ℕ) (s u : State) : Type 0 where
-    pub values : (i : I) (h : ℕ) → u.values i h ≡ begun t f arguments s i h (slice_get f.expressions h)
+    pub values : (i : I) (h : ℕ) → u.values i h ≡ first_value t f arguments s i h (slice_get f.expressions h)
     pub locals : (i : I) (l : ℕ) → u.memory i (Local l) ≡ t.local f l
     pub pointees : (i : I) (k : ℕ) → PassedTo t at s i (slice_get f.arguments k) (slice_get arguments k) (u.memory i (Pointee k))
     pub results : (i : I) → u.results i ≡ t.nothing
@@ -224,7 +224,7 @@ module _ (I V : Type 0) where
       none : {s : State} → Emits f g [] s s []
       one : {h : ℕ} {hs : List ℕ} {s u w : State} {needs : Trace} (x : Expression) → slice_get f.expressions h ≡ Some x →
           Assigns g h (GivenBy t (at_in f) s (is_source x) x) s u → Emits f g hs u w needs →
-          Emits f g (h ∷ hs) s w (needed (needs_all x && severity f) g ++ needs)
+          Emits f g (h ∷ hs) s w (need_of (needs_all x && severity f) g ++ needs)
       missing : {h : ℕ} {hs : List ℕ} {s w : State} {needs : Trace} → slice_get f.expressions h ≡ None → Emits f g hs s w needs →
           Emits f g (h ∷ hs) s w needs
 
@@ -270,9 +270,9 @@ module _ (I V : Type 0) where
         nests : {n : ℕ} {f : Function} {x : Body} {s u : State} {g h : Group} {a : Trace} →
             RunsBlock n f x s (enter g everyone) u h a → RunsStep n f (Nested x) s g u (meet g h) a
         branches : {n c : ℕ} {f : Function} {x y : Body} {s u w : State} {g h k : Group} {a b : Trace} →
-            RunsBlock n f x s (enter g (tested t s (Some c))) u h a →
-            RunsBlock n f y u (enter g (λ i. not (tested t s (Some c) i))) w k b →
-            RunsStep n f (If c x y) s g w (meet_two g (tested t s (Some c)) h k) (a ++ b)
+            RunsBlock n f x s (enter g (passes_test t s (Some c))) u h a →
+            RunsBlock n f y u (enter g (λ i. not (passes_test t s (Some c) i))) w k b →
+            RunsStep n f (If c x y) s g w (meet_two g (passes_test t s (Some c)) h k) (a ++ b)
         selects : {n e : ℕ} {f : Function} {cs : Cases} {s u : State} {g h : Group} {a : Trace} →
             RunsCases n f (λ i. t.chosen (s.values i e) cs) 0 (λ i. false) cs s (enter g everyone) u h a →
             RunsStep n f (Switch e cs) s g u (meet g h) a
@@ -301,6 +301,6 @@ module _ (I V : Type 0) where
             RunsRounds n f x y k s g s g []
         round : {n : ℕ} {f : Function} {x y : Body} {k : Option ℕ} {s u w z : State} {g h j l : Group} {a b c : Trace} →
             RunsBlock n f x s (enter g everyone) u h a →
-            RunsBlock n f y u (enter (λ i. resumed (meeting (g i) (h i))) everyone) w j b →
-            RunsRounds n f x y k w (λ i. stopped (tested t w k i) (meeting (resumed (meeting (g i) (h i))) (j i))) z l c →
+            RunsBlock n f y u (enter (λ i. behind_body (meet_one (g i) (h i))) everyone) w j b →
+            RunsRounds n f x y k w (λ i. behind_round (passes_test t w k i) (meet_one (behind_body (meet_one (g i) (h i))) (j i))) z l c →
             RunsRounds n f x y k s g z l (a ++ (b ++ c))

@@ -1,6 +1,6 @@
 //! Facts in a table: a cell for each fact, with the first moment from which it holds.
 ghost use Rattle.std.specs.Prelude.{◌≡◌, ◌<◌, ◌^◌, None, IfOk, length, replicate, slice_index_or};
-ghost use Rattle.shader_uniformity.specs.Cells.{cell, entered, holds, is_from, kind, moment, number};
+ghost use Rattle.shader_uniformity.specs.Cells.{cell, cells_with, holds, is_from, kind, moment, number};
 
 use crate::facts::{Fact, Jump, Place};
 use std::alloc::{AllocError, Global};
@@ -104,7 +104,7 @@ pub fn holds(table: &[Option<u32>], fact: &Fact) -> bool
 pub fn enter(table: &mut Vec<Option<u32>>, fact: &Fact)
     requires { cell fact.now < length table.old.items }
     ensures length { length table.new.items ≡ length table.old.items }
-    ensures table { table.new.items ≡ entered table.old.items fact.now }
+    ensures table { table.new.items ≡ cells_with table.old.items fact.now }
 {
     table[cell(fact)] = Some(moment(fact));
 }

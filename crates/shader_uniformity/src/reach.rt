@@ -1,6 +1,6 @@
-//! What follows from a fact by rules.
+//! The facts that follow from a fact by rules.
 ghost use Rattle.std.specs.Prelude.{◌≡◌, ◌<◌, false, All, IfOk, OnOk, length};
-ghost use Rattle.shader_uniformity.specs.Cells.{cell, changes, fired, fires, passed, width, HasMarks, StaysSound};
+ghost use Rattle.shader_uniformity.specs.Cells.{cell, cells_after, cells_with_if, changes, fires, width, HasMarks, StaysSound};
 
 use crate::cells::{at, cell, empty, enter, holds};
 use crate::facts::{Fact, Rule};
@@ -11,7 +11,7 @@ use std::alloc::{AllocError, Global};
 fn apply(table: &mut Vec<Option<u32>>, rule: &Rule) -> bool
     requires { cell rule.now.effect < length table.old.items }
     ensures length { length table.new.items ≡ length table.old.items }
-    ensures table { table.new.items ≡ fired (fires table.old.items rule.now) table.old.items rule.now.effect }
+    ensures table { table.new.items ≡ cells_with_if (fires table.old.items rule.now) table.old.items rule.now.effect }
     ensures fires { result ≡ fires table.old.items rule.now }
 {
     let fires = holds(table, &rule.cause) & !holds(table, &rule.effect);
@@ -30,7 +30,7 @@ fn note(
 ) -> Result<bool, AllocError>
     requires { cell rule.now.effect < length table.old.items }
     ensures length { OnOk result (length table.new.items ≡ length table.old.items) }
-    ensures table { OnOk result (table.new.items ≡ fired (fires table.old.items rule.now) table.old.items rule.now.effect) }
+    ensures table { OnOk result (table.new.items ≡ cells_with_if (fires table.old.items rule.now) table.old.items rule.now.effect) }
     ensures fires { IfOk result (λ new. new ≡ fires table.old.items rule.now) }
 {
     let fires = apply(table, rule);
@@ -48,7 +48,7 @@ fn pass(
 ) -> Result<bool, AllocError>
     requires { All (λ rule. cell rule.effect < length table.old.items) rules.now }
     ensures length { OnOk result (length table.new.items ≡ length table.old.items) }
-    ensures table { OnOk result (table.new.items ≡ passed rules.now table.old.items) }
+    ensures table { OnOk result (table.new.items ≡ cells_after rules.now table.old.items) }
     ensures changes { IfOk result (λ changed. changed ≡ changes rules.now table.old.items false) }
 {
     let mut changed = false;
@@ -190,10 +190,10 @@ fn spread(
     Ok(())
 }
 
-/// What a first fact leads to.
+/// The facts that a first one leads to.
 #[derive(Drop)]
 pub struct Reached {
-    /// The facts.
+    /// The table of these.
     pub table: Vec<Option<u32>>,
     /// The numbers of the rules that entered them, in that order.
     pub order: Vec<u32>,

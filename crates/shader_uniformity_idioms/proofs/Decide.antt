@@ -6,7 +6,8 @@ use Rattle.std.proofs.lemmas.Bool.{false≢true}
 use Rattle.std.specs.List.{AllByRecursion, flat_map}
 use Rattle.shader_ir.specs.Body.{Step}
 use Rattle.shader_ir.specs.declared.function.Function.{Function}
-use Rattle.shader_uniformity.specs.Cells.{cell, changes, ending, entered, fired, fires, holds, moment, passed, width, HasMarks, IsSound}
+use Rattle.shader_uniformity.specs.Cells.{cell, cells_after, cells_with, cells_with_if, changes, ending, fires, holds, moment, width}
+use Rattle.shader_uniformity.specs.Cells.{HasMarks, IsSound}
 use Rattle.shader_uniformity.specs.Fault.{beginnings, endings, function_rules, severity, IsFault, IsKnown, IsKnownBy}
 use Rattle.shader_uniformity.specs.declared.facts.Fact.{Fact}
 use Rattle.shader_uniformity.specs.declared.facts.Fact.TheVariants.{Always, Must}
@@ -22,22 +23,23 @@ enough = 3
 
 -- the table after so many passes
 abbrev pub table_after : List Rule → Fact → ℕ → List (Option ℕ)
-table_after rules start zero = entered (empty_table (width start rules)) start
-table_after rules start (suc n) = passed rules (table_after rules start n)
+table_after rules start zero = cells_with (empty_table (width start rules)) start
+table_after rules start (suc n) = cells_after rules (table_after rules start n)
 
-fired_long : (b : Bool) (table : List (Option ℕ)) (x : Fact) → length (fired b table x) ≡ length table
-fired_long true table x = length-set table (cell x) (Some (moment x))
-fired_long false table x = refl
+length_cells_with_if : (b : Bool) (table : List (Option ℕ)) (x : Fact) → length (cells_with_if b table x) ≡ length table
+length_cells_with_if true table x = length-set table (cell x) (Some (moment x))
+length_cells_with_if false table x = refl
 
-passed_long : (rules : List Rule) (table : List (Option ℕ)) → length (passed rules table) ≡ length table
-passed_long [] table = refl
-passed_long (rule ∷ rules) table =
-    passed_long rules (fired (fires table rule) table rule.effect) ∙ fired_long (fires table rule) table rule.effect
+length_cells_after : (rules : List Rule) (table : List (Option ℕ)) → length (cells_after rules table) ≡ length table
+length_cells_after [] table = refl
+length_cells_after (rule ∷ rules) table =
+    length_cells_after rules (cells_with_if (fires table rule) table rule.effect)
+    ∙ length_cells_with_if (fires table rule) table rule.effect
 
 after_long : (rules : List Rule) (start : Fact) (n : ℕ) → length (table_after rules start n) ≡ width start rules
 after_long rules start zero = length-set (empty_table (width start rules)) (cell start) (Some (moment start))
     ∙ table_long (empty_table (width start rules)) (width start rules) (width start rules) refl refl
-after_long rules start (suc n) = passed_long rules (table_after rules start n) ∙ after_long rules start n
+after_long rules start (suc n) = length_cells_after rules (table_after rules start n) ∙ after_long rules start n
 
 sound_after : (rules : List Rule) (start : Fact) (n : ℕ) → IsSound rules start (table_after rules start n)
 sound_after rules start zero = begun rules start (width start rules) (start_within start rules (width start rules) refl)
@@ -53,7 +55,7 @@ unchanged true h = sym h
 unchanged false h = refl
 
 marks_after : (rules : List Rule) (start : Fact) (n : ℕ) → is_settled rules (table_after rules start n) ≡ true →
-    HasMarks rules start (passed rules (table_after rules start n))
+    HasMarks rules start (cells_after rules (table_after rules start n))
 marks_after rules start n h = settled rules start (table_after rules start n)
     (unchanged (changes rules (table_after rules start n) false) h) (sound_after rules start n)
 
@@ -74,23 +76,25 @@ abbrev point_table : Function → List (Option ℕ)
 point_table f = table_after (point_rules f) Always enough
 
 abbrev pub is_faulty : Function → Bool
-is_faulty f = is_settled (point_rules f) (point_table f) && holds (passed (point_rules f) (point_table f)) Must
+is_faulty f = is_settled (point_rules f) (point_table f) && holds (cells_after (point_rules f) (point_table f)) Must
 
 abbrev pub is_fine : Function → Bool
-is_fine f = is_settled (point_rules f) (point_table f) && not (holds (passed (point_rules f) (point_table f)) Must)
+is_fine f = is_settled (point_rules f) (point_table f) && not (holds (cells_after (point_rules f) (point_table f)) Must)
 
 faulty_by : (f : Function) → is_faulty f ≡ true → IsFault shaders known f
 faulty_by f h =
-    let settled = and_first (is_settled (point_rules f) (point_table f)) (holds (passed (point_rules f) (point_table f)) Must) h in
-    let held = and_second (is_settled (point_rules f) (point_table f)) (holds (passed (point_rules f) (point_table f)) Must) h in
+    let settled = and_first (is_settled (point_rules f) (point_table f)) (holds (cells_after (point_rules f) (point_table f)) Must) h in
+    let held = and_second (is_settled (point_rules f) (point_table f)) (holds (cells_after (point_rules f) (point_table f)) Must) h in
     (marks_after (point_rules f) Always enough settled Must).0 held
 
 fine_by : (f : Function) → is_fine f ≡ true → IsFault shaders known f → ⊥
 fine_by f h m =
-    let settled = and_first (is_settled (point_rules f) (point_table f)) (not (holds (passed (point_rules f) (point_table f)) Must)) h in
-    let free = and_second (is_settled (point_rules f) (point_table f)) (not (holds (passed (point_rules f) (point_table f)) Must)) h in
-    let held : holds (passed (point_rules f) (point_table f)) Must ≡ true = (marks_after (point_rules f) Always enough settled Must).1 m in
-    false≢true (sym (unchanged (holds (passed (point_rules f) (point_table f)) Must) free) ∙ held)
+    let settled =
+    and_first (is_settled (point_rules f) (point_table f)) (not (holds (cells_after (point_rules f) (point_table f)) Must)) h in
+    let free = and_second (is_settled (point_rules f) (point_table f)) (not (holds (cells_after (point_rules f) (point_table f)) Must)) h in
+    let held : holds (cells_after (point_rules f) (point_table f)) Must ≡ true =
+    (marks_after (point_rules f) Always enough settled Must).1 m in
+    false≢true (sym (unchanged (holds (cells_after (point_rules f) (point_table f)) Must) free) ∙ held)
 
 abbrev pub are_faulty : List (List Step) → Bool
 are_faulty [] = true
@@ -137,7 +141,7 @@ all_told (p ∷ more) h =
 abbrev known_by : List Rule → List Fact → List Fact → List Rule
 known_by rules [] lasts = []
 known_by rules (start ∷ firsts) lasts =
-    flat_map (ending (passed rules (table_after rules start enough)) start) lasts ++ known_by rules firsts lasts
+    flat_map (ending (cells_after rules (table_after rules start enough)) start) lasts ++ known_by rules firsts lasts
 
 abbrev all_settled : List Rule → List Fact → Bool
 all_settled rules [] = true
@@ -150,7 +154,7 @@ known_goes_on rules lasts done so_far [] h s =
     let Q : List Rule → Type 0 = λ v. IsKnown done lasts rules v in
     subst P (sym (append-nil done)) (subst Q (sym (append-nil so_far)) h)
 known_goes_on rules lasts done so_far (start ∷ firsts) h s =
-    let table = passed rules (table_after rules start enough) in
+    let table = cells_after rules (table_after rules start enough) in
     let new = flat_map (ending table start) lasts in
     let settles = and_first (is_settled rules (table_after rules start enough)) (all_settled rules firsts) s in
     let marks = marks_after rules start enough settles in

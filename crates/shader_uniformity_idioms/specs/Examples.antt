@@ -94,8 +94,8 @@ places =
 -- ---- where flow is apart
 
 -- in a block inside a statement where all of that is
-abbrev pub entered : (List Step → Step) → Pair
-entered inside = pair (when first (inside (barrier ∷ []) ∷ []) ∷ []) (when second (inside (barrier ∷ []) ∷ []) ∷ [])
+abbrev pub enters : (List Step → Step) → Pair
+enters inside = pair (when first (inside (barrier ∷ []) ∷ []) ∷ []) (when second (inside (barrier ∷ []) ∷ []) ∷ [])
 
 -- behind a statement by a jump out of a block inside it: where no Loop is, whatever the jump, in a round, and in the next one
 abbrev pub past : (List Step → Step) → Step → Pair
@@ -161,7 +161,7 @@ flows =
     pair (when first (barrier ∷ []) ∷ []) (when first (store variable second ∷ []) ∷ barrier ∷ [])
     ∷ pair (when first (store variable second ∷ barrier ∷ []) ∷ []) (when first (store variable second ∷ []) ∷ barrier ∷ [])
     ∷ pair (If first End (block (barrier ∷ [])) ∷ []) (If second End (block (barrier ∷ [])) ∷ [])
-    ∷ entered nested ∷ entered (when second) ∷ entered otherwise ∷ entered in_case ∷ entered rounds ∷ entered at_the_end
+    ∷ enters nested ∷ enters (when second) ∷ enters otherwise ∷ enters in_case ∷ enters rounds ∷ enters at_the_end
     -- behind a return, and not behind a discard
     ∷ pair (when first (leave ∷ []) ∷ barrier ∷ []) (when first (discard ∷ []) ∷ barrier ∷ [])
     -- behind a break in its Loop, and not behind the Loop

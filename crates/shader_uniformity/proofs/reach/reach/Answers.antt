@@ -1,5 +1,5 @@
 use Rattle.std.proofs.Common.{◌∙◌, sym, subst, ap, List, Option, ℕ, length}
-use Rattle.shader_uniformity.specs.Cells.{entered, HasMarks, IsSound}
+use Rattle.shader_uniformity.specs.Cells.{cells_with, HasMarks, IsSound}
 use Rattle.shader_uniformity.proofs.ReachLemmas.{begun, effects_within, goes_on, settled, start_within, table_long}
 use Rattle.shader_uniformity.proofs.reach.reach.Goals as goal
 
@@ -20,7 +20,7 @@ loop-init c =
     ∙ table_long c.in_ok-table.table.items c.width-width.result _ c.in_ok-table.ensures c.width-width.ensures in
     let P : List (Option ℕ) → Type 0 = λ v. IsSound rules start v in
     let begins : P table =
-    subst P (sym (c.enter.ensures.table ∙ ap (λ (v : List (Option ℕ)). entered v start) c.in_ok-table.ensures))
+    subst P (sym (c.enter.ensures.table ∙ ap (λ (v : List (Option ℕ)). cells_with v start) c.in_ok-table.ensures))
     (begun rules start c.width-width.result (start_within start rules c.width-width.result c.width-width.ensures)) in
     record {
       long = c.in_ok-pass.ensures.length ∙ long;
