@@ -129,7 +129,7 @@ pub struct DrawingText<'a> {
     pub pieces: &'a [Piece<'a>],
     /// The size of the struct in bytes.
     pub span: u32,
-    /// How many blanks stand before each row.
+    /// The number of blanks before each row.
     pub indentation: usize,
 }
 

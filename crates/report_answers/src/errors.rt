@@ -52,7 +52,7 @@ fn at_byte(alloc: Global, byte: usize, wanted: &str) -> Result<Vec<u8>, AllocErr
     Ok(text)
 }
 
-/// What is wanted of a value, in words.
+/// The kind of value that is wanted, in words.
 #[derive(Clone, Copy)]
 struct WantedText<'a>(&'a Wanted);
 
@@ -125,7 +125,7 @@ impl Display for NotJsonText {
     }
 }
 
-/// What is wanted of a value, and what is found.
+/// The kind of value that is wanted, and the value that is found.
 #[derive(Clone, Copy)]
 struct TellingText<'a> {
     wanted: WantedText<'a>,

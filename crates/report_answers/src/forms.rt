@@ -6,7 +6,7 @@ ghost use Rattle.report_answers.specs.Forms.{is_declaration, is_spirv, is_utf16,
 use std::fmt;
 use std::fmt::{Display, Formatter};
 
-/// What a text that is no JSON seems to be.
+/// The form that a text without JSON seems to have.
 #[derive(Clone, Copy, Debug, PartialEq, Eq)]
 pub enum Form {
     /// A text without a byte that isn't white space.

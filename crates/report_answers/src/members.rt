@@ -125,12 +125,12 @@ fn asked_lines(
     Ok(text)
 }
 
-/// What a report has beside the analysis of the module.
+/// The members of a report beside the analysis of the module.
 #[derive(Drop)]
 pub struct Extras {
     /// As JSON the members that words ask for, and for people the lines at the end.
     pub text: String,
-    /// Where the host binds each global variable, for people.
+    /// The binding that the host gives each global variable, for people.
     pub bindings: Vec<Option<ResourceBinding>>,
 }
 

@@ -165,7 +165,7 @@ fn nearer(word: &[u8], one: Flag, other: Flag) -> Flag
     }
 }
 
-/// Which uniform flow a report decides.
+/// The uniform flow that a report decides.
 #[derive(Clone, Copy, Debug, PartialEq, Eq)]
 pub enum FlowCheck {
     /// That of `shader_uniformity`, after WGSL, of a module that has no other fault.
@@ -181,7 +181,7 @@ pub enum FlowCheck {
 pub struct Options {
     /// True for JSON, false for a text for people.
     pub is_json: bool,
-    /// Which uniform flow is decided.
+    /// The uniform flow that is decided.
     pub flow: FlowCheck,
     /// True if arrays of sampled images and of samplers may be indexed by values that differ among invocations.
     pub indexes_textures: bool,
@@ -193,7 +193,7 @@ pub struct Options {
     pub has_policies: bool,
     /// True if resources are reported.
     pub has_resources: bool,
-    /// Whether the text for people has drawings of structs, if a word says so.
+    /// True if the text for people has drawings of structs, where a word says so.
     pub drawing: Option<bool>,
 }
 

@@ -20,7 +20,7 @@ pub struct ReadModule {
     pub extras: Extras,
 }
 
-/// What was read of an input.
+/// The data that were read of an input.
 #[derive(Drop)]
 pub enum Reading {
     /// A module.

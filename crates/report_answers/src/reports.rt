@@ -13,7 +13,7 @@ use shader_report_text::summarize;
 use shader_resolve::{MOST_LEVELS, nests_within};
 use std::alloc::{AllocError, Global};
 
-/// What an input was found to be.
+/// The kind that an input was found to be of.
 #[derive(Clone, Copy, Debug, PartialEq, Eq)]
 pub enum Outcome {
     /// A module that has no fault, and each type of which has a layout.
@@ -29,7 +29,7 @@ pub enum Outcome {
 pub struct Report {
     /// The report on the module, or why the input is none, in lines of UTF-8: the latter belongs to standard error, unless it is JSON.
     pub text: Vec<u8>,
-    /// What the input was found to be.
+    /// The kind that the input was found to be of.
     pub outcome: Outcome,
 }
 

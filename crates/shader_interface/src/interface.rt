@@ -14,7 +14,7 @@ use json::Value;
 use std::alloc::{AllocError, Global};
 
 /// The JSON of a module, as serde prints naga's. Positions are those of the module's items: of handles, and of entry points in their list.
-/// What the JSON lacks, or has in another form than naga prints, is `None`.
+/// A member that the JSON lacks, or has in another form than naga prints, is `None`.
 #[derive(Clone, Copy)]
 pub struct Interface<'v, 'a>(pub &'v Value<'a>);
 

@@ -30,7 +30,7 @@ pub struct AccessCheck {
     pub index: AccessIndex,
     /// The length with which the index has to be compared.
     pub length: IndexableLength,
-    /// What becomes of an index that isn't below the length.
+    /// The policy for an index that isn't below the length.
     pub policy: BoundsCheckPolicy,
 }
 

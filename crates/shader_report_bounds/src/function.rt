@@ -14,7 +14,7 @@ use shader_ir::{Function, Module, mark};
 use std::alloc::{AllocError, Global};
 use std::collections::BTreeSet;
 
-/// What a back end checks of a function.
+/// The checks that a back end makes for a function.
 #[derive(Drop)]
 pub struct FunctionBounds {
     /// The accesses that need a check, ascending.

@@ -139,7 +139,7 @@ impl fmt::Display for FoundPositionsText<'_> {
     }
 }
 
-/// What is checked of a function.
+/// The checks of a function.
 #[derive(Clone, Copy)]
 struct FunctionText<'a>(&'a FunctionBounds);
 
@@ -154,7 +154,7 @@ impl fmt::Display for FunctionText<'_> {
     }
 }
 
-/// What is checked of some functions, separated by commas.
+/// The checks of some functions, separated by commas.
 #[derive(Clone, Copy)]
 struct FunctionsText<'a>(&'a [FunctionBounds]);
 
@@ -173,7 +173,7 @@ impl fmt::Display for FunctionsText<'_> {
     }
 }
 
-/// What is checked of the functions and of the entry points.
+/// The checks of the functions and of the entry points.
 #[derive(Clone, Copy)]
 struct FoundText<'a>(&'a [FunctionBounds], &'a [FunctionBounds]);
 
@@ -190,7 +190,7 @@ impl fmt::Display for FoundText<'_> {
     }
 }
 
-/// What is checked of a module: the override that is to be given a value first, or what is found for each function and entry point.
+/// The checks of a module: the override that is to be given a value first, or those of each function and entry point.
 #[derive(Clone, Copy)]
 pub struct BoundsJson<'a>(pub &'a ModuleBounds);
 

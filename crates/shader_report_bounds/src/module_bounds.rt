@@ -18,12 +18,12 @@ use shader_ir::{Function, Module, mark};
 use shader_resolve::check_module;
 use std::alloc::{AllocError, Global};
 
-/// What a back end checks of a module.
+/// The checks that a back end makes for a module.
 #[derive(Drop)]
 pub enum ModuleBounds {
     /// Lengths aren't known before this override has a value that is a valid size.
     Unsized(Handle<mark::Override>),
-    /// What is checked of each function, and of each entry point.
+    /// The checks of each function, and of each entry point.
     Found(Vec<FunctionBounds>, Vec<FunctionBounds>),
 }
 

@@ -186,7 +186,7 @@ fn override_name(module: &Module, handle: Handle<mark::Override>) -> NameText<'_
     }
 }
 
-/// What is checked of a module: the functions and entry points of which something is, or the override that is to be given a value first.
+/// The checks of a module: the functions and entry points that have any, or the override that is to be given a value first.
 #[derive(Clone, Copy)]
 pub struct BoundsText<'a> {
     pub module: &'a Module,

@@ -23,7 +23,7 @@ use shader_ir::Module;
 use shader_ir::proc::{Layouter, UpdateError};
 use std::alloc::{AllocError, Global};
 
-/// How resources are told.
+/// The form in which resources are told.
 #[derive(Clone, Copy, Debug, PartialEq, Eq)]
 pub enum Notation {
     /// A JSON object, for programs.

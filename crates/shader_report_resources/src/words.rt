@@ -17,7 +17,7 @@ use shader_ir::{
 use shader_type_text::ScalarText;
 use std::alloc::{AllocError, Global};
 
-/// How many levels of types built over others are told. WGSL nests types at most 15 deep.
+/// The number of levels of types built over others that are told. WGSL nests types at most 15 deep.
 const MOST_LEVELS: usize = 16;
 
 /// Returns the dimension of an image.

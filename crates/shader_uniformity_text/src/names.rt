@@ -37,7 +37,7 @@ fn argument_name(function: Option<&Function>, index: u32) -> &str {
     }
 }
 
-/// What a place of the function at a location holds.
+/// The value in a place of the function at a location.
 #[derive(Clone, Copy)]
 pub struct PlaceText<'a> {
     pub module: &'a Module,

@@ -3,7 +3,7 @@
 use shader_arena::{Arena, Handle, Range};
 use shader_ir::{Block, Expression, SampleLevel, Statement, mark};
 
-/// What a search among statements comes to.
+/// The result of a search among statements.
 #[derive(Clone, Copy)]
 enum Found<'a> {
     /// The statement.

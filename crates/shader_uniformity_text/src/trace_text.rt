@@ -103,7 +103,7 @@ fn jump_word(jump: Jump) -> &'static str {
     }
 }
 
-/// What a rule tells.
+/// The text of a rule.
 #[derive(Clone, Copy)]
 enum Told {
     /// The need at a position.
@@ -140,7 +140,7 @@ fn told_of(rule: &Rule) -> Told {
     }
 }
 
-/// What a rule of the function at a location tells, as lines.
+/// The lines of a rule of the function at a location.
 #[derive(Clone, Copy)]
 struct RuleLines<'a> {
     module: &'a Module,
@@ -193,7 +193,7 @@ impl fmt::Display for RuleLines<'_> {
 /// The number of rules that are told of either end of a long trace.
 const RULES_AT_END: usize = 200;
 
-/// What some rules tell, in their order.
+/// The lines of some rules, in their order.
 #[derive(Clone, Copy)]
 struct RulesText<'a> {
     module: &'a Module,

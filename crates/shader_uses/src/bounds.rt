@@ -19,10 +19,10 @@ use shader_typing::valid::ModuleInfo;
 use std::alloc::{AllocError, Global};
 use std::collections::HashSet;
 
-/// What a back end checks of a function.
+/// The checks that a back end makes for a function.
 #[derive(Drop)]
 pub struct Checks {
-    /// Whether all arrays have a known length.
+    /// True if all arrays have a known length.
     pub sizes_known: bool,
     /// The expressions that index and are checked.
     pub indexes: HandleSet<mark::Expression>,

@@ -13,7 +13,7 @@ use shader_overloads::{AnyOverloadSet, MathOverloads, OverloadSet, SetCall, narr
 use shader_type_text::{ArgumentsText, RulesText};
 use std::alloc::{AllocError, Global};
 
-/// What a line asks about the rules that remain.
+/// The question of a line about the rules that remain.
 #[derive(Clone, Copy)]
 pub enum Question {
     /// The rules, and the types of their arguments.

@@ -4,7 +4,7 @@ use crate::lines::Lines;
 use crate::reply::Reply;
 use std::alloc::{AllocError, Global};
 
-/// Whether each line made a request.
+/// The end of an answer: at the last line, or at one that made no request.
 #[derive(Clone, Copy, Debug, PartialEq, Eq)]
 pub enum Outcome {
     /// Each line made a request.
