@@ -42,13 +42,14 @@ fn faulty(alloc: Global, module: &Module, found: FaultAt) -> Result<Summary, All
     })
 }
 
-/// Adds the structs, with drawings if they are to be drawn, and the first type without a layout if there is one. Returns whether all types
-/// have a layout.
+/// Adds the structs, with drawings if they are to be drawn, and to `refusal` the first type without a layout if there is one. Returns
+/// whether all types have a layout.
 fn add_layouts(
     alloc: Global,
     module: &Module,
     is_drawn: bool,
     text: &mut String,
+    refusal: &mut String,
 ) -> Result<bool, AllocError>
     requires { IsWellFormed «module».now }
     ensures { IfOk result (IsLayoutVerdict «module».now) }
@@ -64,7 +65,7 @@ fn add_layouts(
         Some(error) => {
             let fault = LayoutFaultText { module, error };
             let more = format!(in alloc; "{fault}")?;
-            text.push_str(more.as_str())?;
+            refusal.push_str(more.as_str())?;
             Ok(false)
         }
         None => Ok(true),
@@ -111,7 +112,7 @@ fn add_analysis(
     }
 }
 
-/// Returns the report on a well-formed module.
+/// Returns the report on a well-formed module, of which the last line is the verdict.
 #[tactic(auto, using(crate::proofs::VerdictLemmas::verdict_both))]
 fn analysed(
     alloc: Global,
@@ -125,8 +126,10 @@ fn analysed(
     ensures { IfOk result (λ summary. IsVerdict «module».now (settings_of flags capabilities) summary.is_accepted) }
 {
     let mut text = String::new(alloc);
-    let laid = add_layouts(alloc, module, is_drawn, &mut text)?;
+    let mut refusal = String::new(alloc);
+    let laid = add_layouts(alloc, module, is_drawn, &mut text, &mut refusal)?;
     let found = add_analysis(alloc, module, bindings, flags, capabilities, &mut text)?;
+    text.push_str(refusal.as_str())?;
     text.push_str(if laid && found { "accepted\n" } else { "" })?;
     Ok(Summary {
         text,
