@@ -73,7 +73,8 @@ fn uses_dominate_those_among_them(rt: HostRuntime) {
 #[test]
 fn a_copy_has_all(rt: HostRuntime) {
     let alloc = rt.alloc();
-    let first = info(&rt, alloc, GlobalUse::QUERY);
+    let mut first = info(&rt, alloc, GlobalUse::QUERY);
+    first.dual_source_blending = true;
     let copy = first.copy(alloc).expect(&rt, OUT_OF_MEMORY);
     let global_handle: Handle<mark::GlobalVariable> = Handle::from_index(0);
     let expression_handle: Handle<mark::Expression> = Handle::from_index(0);
@@ -83,6 +84,33 @@ fn a_copy_has_all(rt: HostRuntime) {
     assert!(rt; copy[expression_handle].ref_count == 3);
     assert!(rt; copy.has_sampling(IMAGE, global(0)) && copy.sampling_set.len() == 1);
     assert!(rt; copy.may_kill && copy.available_stages == first.available_stages);
+    assert!(rt; copy.dual_source_blending);
+    drop(first);
+    drop(copy);
+}
+
+/// Returns an info of a function without expressions, in a module without globals, which takes no memory.
+fn empty_info(alloc: Global) -> FunctionInfo {
+    FunctionInfo {
+        available_stages: ShaderStages::VERTEX,
+        uniformity: uniformity(),
+        may_kill: false,
+        sampling_set: HashSet::new(alloc),
+        global_uses: Items::from(Vec::new(alloc)),
+        expressions: Items::from(Vec::new(alloc)),
+        sampling: HashSet::new(alloc),
+        dual_source_blending: false,
+    }
+}
+
+#[test]
+fn a_copy_of_nothing_is_there(rt: HostRuntime) {
+    let alloc = rt.alloc();
+    let first = empty_info(alloc);
+    let copy = first.copy(alloc).expect(&rt, OUT_OF_MEMORY);
+    assert!(rt; copy.global_variable_count() == 0 && copy.expression_count() == 0);
+    assert!(rt; copy.sampling_set.is_empty() && copy.sampling.is_empty());
+    assert!(rt; !copy.may_kill && !copy.dual_source_blending);
     drop(first);
     drop(copy);
 }
