@@ -62,6 +62,11 @@ class Habits(unittest.TestCase):
         rows = {"[a](crates.txt)": 0, "[a](nowhere.md)": 1, "[a](https://nowhere)": 0, "[a](#b)": 0}
         self.assertEqual({it: said(habits.links, "a.md", it) for it in rows}, rows)
 
+    def test_words(self):
+        """Finds a word that has to be unfolded and that no document names."""
+        words = "unfoldable pub one : \u2115\n  unfoldable pub two : \u2115\npub three : \u2115\n"
+        self.assertEqual(habits.hidden(words, "`Numbers.one`, two"), ["two"])
+
     def test_runs(self):
         """Finds a run of lines in two files, and in one, whatever its indent; not one that is shorter, nor imports."""
         run = "".join(f"line {it};\n" for it in range(habits.RUN))
