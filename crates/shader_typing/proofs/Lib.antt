@@ -4,3 +4,4 @@ pub mod DecidedNeeds
 pub mod DivergenceLemmas
 pub mod Fitting
 pub mod Growing
+pub mod LayingOut

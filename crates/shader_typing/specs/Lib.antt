@@ -2,6 +2,7 @@ pub mod Contexts
 pub mod Divergence
 pub mod ExactRecord
 pub mod InfoAnswers
+pub mod LaidOut
 pub use Rattle.shader_analysis.specs.AddedTypes
 pub use Rattle.shader_analysis.specs.Analyzable
 pub use Rattle.shader_analysis.specs.Fitting

@@ -4,6 +4,7 @@ ghost use Rattle.shader_typing.specs.Contexts.{ExpressionsFit, FunctionsFit, Pos
 ghost use Rattle.shader_typing.specs.Divergence.{AcceptedWalksAgree, AlikeWalksPassAlike, OriginsAreDecided};
 ghost use Rattle.shader_analysis.specs.Growth.{EntryCanBeProcessed, InfosGrow, NextCanBeProcessed, NoneAreStored};
 ghost use Rattle.shader_typing.specs.InfoAnswers.{ExactRecordsAnswer};
+ghost use Rattle.shader_typing.specs.LaidOut.{FaultlessTypesAreLaidOut};
 
 pub use shader_analysis_spec::laws as analysis_spec;
 pub use shader_bounds::laws as bounds;
@@ -56,6 +57,12 @@ pub fn expression_fits()
 /// so is that of the entry point at one.
 pub fn positions_are_of_functions()
     ensures { PositionsAreOfFunctions }
+{}
+
+/// States that a `Layouter` refuses no type of an arena whose types have no layout error when they are gone through in order: where the
+/// types are written out, that none has one is computed.
+pub fn faultless_types_are_laid_out()
+    ensures { FaultlessTypesAreLaidOut }
 {}
 
 /// States that the next function may be given to `ModuleInfo::process_function` once the infos of those before it are stored.
