@@ -95,3 +95,10 @@ fn a_report_names_capabilities(rt: HostRuntime) {
     let why = "STORAGE_TEXTURE_BINDING_ARRAY_NON_UNIFORM_INDEXING";
     reports(&rt, rt.alloc(), cause, what, why);
 }
+
+#[test]
+fn a_report_names_a_full_count(rt: HostRuntime) {
+    let cause = FunctionError::CountFull(Handle::from_index(2));
+    let what = "expression [2] has more references";
+    reports(&rt, rt.alloc(), cause, what, "than can be counted");
+}
