@@ -29,7 +29,8 @@ module _ (context : Context) (expressions : List Expression) where
   -- the type is the rule's outcome at the types before it, and that of the next expression if those before it have theirs; it names only
   -- types that exist if those of the context do
   pub record IsNextType (types : List TypeResolution) (ty : TypeResolution) : Type 0 where
-    pub by_rule : (x : Expression) → slice_get expressions (length types) ≡ Some x → outcome_at types (typing_rule context x) ≡ Some (Given ty)
+    pub by_rule : (x : Expression) → slice_get expressions (length types) ≡ Some x →
+        outcome_at types (typing_rule context x) ≡ Some (Given ty)
     pub derived : AreOfTheFirst context expressions types → Derives context expressions (length types) ty
     pub fits : TypesInRange context → FitsTypes context.types ty
 

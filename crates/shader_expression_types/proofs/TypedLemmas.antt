@@ -64,7 +64,8 @@ module _ (context : Context) (expressions : List Expression) (types : List TypeR
           (at_position (FitsTypes context.types) types operand t.now fit at))
       answered operand Rest (Err failure, post, rest) = absurd (determines operand (Err failure) post)
 
-      by_rule : (queried : TypingRule) → typing_rule context x ≡ queried → KeepsNoMembers queried → DerivesByRule memory Post result queried →
+      by_rule : (queried : TypingRule) → typing_rule context x ≡ queried → KeepsNoMembers queried →
+          DerivesByRule memory Post result queried →
           IsResultOf context expressions e memory result
       by_rule (Plain outcome) same keeps follows = concluded result outcome keeps (plain is same) follows
       by_rule (One operand answer) same keeps follows =

@@ -166,7 +166,8 @@ rules-plain fun = regular-plain _ _ _ _
 
 -- a property of resolutions that those of plain types have, and those that a module registers
 module _ (Fits : TypeResolution → Type 0) (plain-fits : (inner : TypeInner) → is_plain_inner inner ≡ true → Fits (resolutions.Value inner))
-    (special : SpecialTypes) (stored : All (λ (entry : PredeclaredType × ℕ). Fits (resolutions.Handle entry.1)) special.predeclared_types) where
+    (special : SpecialTypes)
+    (stored : All (λ (entry : PredeclaredType × ℕ). Fits (resolutions.Handle entry.1)) special.predeclared_types) where
   abbrev AnswerFits : Outcome → Type 0
   AnswerFits (Given resolution) = Fits resolution
   AnswerFits (Refused refusal) = Unit {0}

@@ -107,7 +107,8 @@ module _ (Named : ℕ → Type 0) (Outside : TypeInner → Type 0) where
   RuleKeeps (Two left right answer) = (first second : TypeResolution) → Has first → Has second → OutcomeHas (answer first second)
 
 -- a property of handles, which all that a module names have, and one of types outside the arena, which all have that rules build
-module _ (context : Context) (Named : ℕ → Type 0) (Outside : TypeInner → Type 0) (built : (inner : TypeInner) → IsBuilt inner → Outside inner)
+module _ (context : Context) (Named : ℕ → Type 0) (Outside : TypeInner → Type 0)
+    (built : (inner : TypeInner) → IsBuilt inner → Outside inner)
     (in_range : (ty : ℕ) → ty < length context.types → Named ty)
     (reached : (position : ℕ) (type : «Type») → slice_get context.types position ≡ Some type → All Named (type_handles type.inner))
     (stored : NamesFit context Named) where
@@ -152,7 +153,8 @@ module _ (context : Context) (Named : ℕ → Type 0) (Outside : TypeInner → T
 
   -- an outcome that reads a shape whose handles are in range
   shape-fits : (operand : ℕ) (answer : TypeInner → Outcome) →
-      ((inner : TypeInner) → All Named (type_handles inner) → OutcomeFits (answer inner)) → NumberFits (on_shape context.types operand answer)
+      ((inner : TypeInner) → All Named (type_handles inner) → OutcomeFits (answer inner)) →
+      NumberFits (on_shape context.types operand answer)
   shape-fits operand answer fits reported reported_fits = by (inner_of context.types reported) refl
     where
       by : (found : Option TypeInner) → inner_of context.types reported ≡ found → OutcomeFits (at_inner found answer)
@@ -475,7 +477,8 @@ module _ (Named : ℕ → Type 0) (Outside : TypeInner → Type 0) where
   module _ (memory : Memory) (Post : ℕ → OperandAnswer → Type 0) (result : Result TypeResolution ResolveError) where
     -- each type that is lent for an operand has both
     abbrev LentHave : TypingRule → Type 0
-    LentHave = EachQueried (λ operand. (reported : OperandAnswer) → Post operand reported → IfOk reported (λ lent. Has Named Outside lent.now))
+    LentHave = EachQueried (λ operand. (reported : OperandAnswer) → Post operand reported →
+        IfOk reported (λ lent. Has Named Outside lent.now))
 
     pub derived-has : (rule : TypingRule) → LentHave rule → RuleKeeps Named Outside rule → DerivesByRule memory Post result rule →
         IfOk result (Has Named Outside)

@@ -30,7 +30,8 @@ module _ (stored : List TypeResolution) (memory : Memory) where
       (no_members : (operand : ℕ) (t : TypeResolution) → slice_get stored operand ≡ Some t → HoldsNoMembers t)
       (determines : (operand : ℕ) (reported : OperandAnswer) → Post operand reported →
       IsOkAnd reported (λ t. slice_get stored operand ≡ Some t.now)) where
-    derivation_gives : (queries : TypingRule) → KeepsNoMembers queries → DerivesByRule memory Post result queries → IsOutcomeOf stored memory queries result
+    derivation_gives : (queries : TypingRule) → KeepsNoMembers queries → DerivesByRule memory Post result queries →
+        IsOutcomeOf stored memory queries result
     derivation_gives (Plain outcome) keeps meets = concluded (Plain outcome) result outcome keeps refl meets
     derivation_gives (One operand answer) keeps (Ok t, post, meets) =
         let at = determines operand (Ok t) post in
