@@ -4,7 +4,7 @@ ghost use Rattle.std.specs.List.{Contains, zip};
 ghost use Rattle.std.specs.Option.{option_copied};
 ghost use Rattle.shader_ir.specs.BodyOf.{step_of};
 ghost use Rattle.shader_ir.specs.Occurs.{statements};
-ghost use Rattle.shader_passes.specs.StatementLists.{listed};
+ghost use Rattle.shader_passes.specs.StatementLists.{steps_of};
 ghost use Rattle.shader_resolve.specs.WellFormed.{AtEach, IsWellFormed, OperandsBelow};
 ghost use Rattle.shader_bounds.specs.Adds.{Adds};
 ghost use Rattle.shader_bounds.specs.Locals.{AllPass, CallPasses, IsOutOfBoundsType, NeedsLocal, PairsPass};
@@ -167,7 +167,7 @@ fn add_statements(
 ) -> Result<(), AllocError>
     requires { AtEach OperandsBelow function.now.expressions }
     ensures { OnOk result (Adds (Contains locals.old.keys) (Contains locals.new.keys)
-        (AllPass «module».now function.now (Records info.now) (listed all.now))) }
+        (AllPass «module».now function.now (Records info.now) (steps_of all.now))) }
 {
     for statement in all {
         add_statement(module, function, info, statement, locals)?;
@@ -177,7 +177,7 @@ fn add_statements(
 
 /// Returns the statements of a function, at any depth.
 fn all_statements(alloc: Global, function: &Function) -> Result<Vec<&Statement>, AllocError>
-    ensures { IfOk result (λ all. listed all.items ≡ statements function.now.body) }
+    ensures { IfOk result (λ all. steps_of all.items ≡ statements function.now.body) }
 {
     statements_of(alloc, &function.body)
 }

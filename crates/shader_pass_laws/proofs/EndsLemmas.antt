@@ -14,8 +14,8 @@ use Rattle.shader_info.specs.declared.error.UniformityDisruptor.{UniformityDisru
 use Rattle.shader_info.specs.declared.error.UniformityDisruptor.TheVariants as cause
 use Rattle.shader_passes.specs.declared.flow.Exits.{Exits}
 use Rattle.shader_pass_laws.proofs.FlowWords.{any_requires, calls_kill, emits_requiring, is_kill}
-use Rattle.shader_passes.specs.Ends.{either, exit_of, disruptor_after, entered, requires_uniform_flow, is_killing, leaf_ends, leaf_fault}
-use Rattle.shader_passes.specs.Ends.{on_branch, step_ends}
+use Rattle.shader_passes.specs.Ends.{either, exit_of, disruptor_after, case_disruptor, requires_uniform_flow, is_killing, leaf_ends}
+use Rattle.shader_passes.specs.Ends.{leaf_fault, on_branch, step_ends}
 use Rattle.shader_passes.specs.Ends.{block_ends, cases_end, requiring_or, first_requiring, flow_violation, step_fault, block_fault}
 use Rattle.shader_passes.specs.Ends.{cases_fault}
 
@@ -93,11 +93,12 @@ abbrev pub Covers : Option UniformityDisruptor → Option UniformityDisruptor �
 Covers o here = (is_some o || is_some here) ≡ is_some here
 
 entered_some : (o here : Option UniformityDisruptor) (fall : Bool) (e : Exits) → Covers o here →
-    is_some (entered o here fall e) ≡ (is_some o || (fall && (is_some here || leaves e)))
+    is_some (case_disruptor o here fall e) ≡ (is_some o || (fall && (is_some here || leaves e)))
 entered_some o here true e le = behind_some here e ∙ (ap (λ v. v || leaves e) (sym le) ∙ or_assoc (is_some o) (is_some here) (leaves e))
 entered_some o here false e le = sym (or_none (is_some o))
 
-pub entered_covers : (o here : Option UniformityDisruptor) (fall : Bool) (e : Exits) → Covers o here → Covers o (entered o here fall e)
+pub entered_covers : (o here : Option UniformityDisruptor) (fall : Bool) (e : Exits) → Covers o here →
+    Covers o (case_disruptor o here fall e)
 entered_covers o here true e le =
     ap (λ v. is_some o || v) (behind_some here e)
     ∙ (sym (or_assoc (is_some o) (is_some here) (leaves e)) ∙ (ap (λ v. v || leaves e) le ∙ sym (behind_some here e)))
@@ -117,7 +118,7 @@ module _ (origin : ℕ → Option ℕ) (V : ℕ → Bool) (same : (e : ℕ) → 
 
   entered_is : (x : Body) (fall : Bool) (o here : Option UniformityDisruptor) → Covers o here →
       leaves (block_ends origin K here x) ≡ block_exits V K (is_some here) x →
-      is_some (entered o here fall (block_ends origin K here x))
+      is_some (case_disruptor o here fall (block_ends origin K here x))
       ≡ (is_some o || (fall && (is_some here || block_exits V K (is_some here) x)))
   entered_is x fall o here le is =
       entered_some o here fall (block_ends origin K here x) le ∙ ap (λ v. is_some o || (fall && (is_some here || v))) is
@@ -158,8 +159,8 @@ module _ (origin : ℕ → Option ℕ) (V : ℕ → Bool) (same : (e : ℕ) → 
     cases_are NoCase o here le = refl
     cases_are (Case v x fall cs) o here le =
         let one = block_ends origin K here x in
-        leaves_either one (cases_end origin K o (entered o here fall one) cs)
-        ∙ or_two (block_is x here) (cases_are cs o (entered o here fall one) (entered_covers o here fall one le)
+        leaves_either one (cases_end origin K o (case_disruptor o here fall one) cs)
+        ∙ or_two (block_is x here) (cases_are cs o (case_disruptor o here fall one) (entered_covers o here fall one le)
         ∙ ap (λ v. cases_exit V K (is_some o) v cs) (entered_is x fall o here le (block_is x here)))
 
   pub flag_behind : (s : Step) (o : Option UniformityDisruptor) →
@@ -171,7 +172,7 @@ module _ (origin : ℕ → Option ℕ) (V : ℕ → Bool) (same : (e : ℕ) → 
   flag_continuing x o = behind_some o (block_ends origin K o x) ∙ ap (λ v. is_some o || v) (block_is x o)
 
   pub flag_entered : (x : Body) (fall : Bool) (o here : Option UniformityDisruptor) → Covers o here →
-      is_some (entered o here fall (block_ends origin K here x))
+      is_some (case_disruptor o here fall (block_ends origin K here x))
       ≡ (is_some o || (fall && (is_some here || block_exits V K (is_some here) x)))
   flag_entered x fall o here le = entered_is x fall o here le (block_is x here)
 
@@ -232,7 +233,7 @@ module _ (origin : ℕ → Option ℕ) (V : ℕ → Bool) (same : (e : ℕ) → 
     cases_kill (Case v x fall cs) o here le =
         let one = block_ends origin K here x in
         let d' = is_some o || (fall && (is_some here || block_exits V K (is_some here) x)) in
-        or_two (block_kills x here) (cases_kill cs o (entered o here fall one) (entered_covers o here fall one le)
+        or_two (block_kills x here) (cases_kill cs o (case_disruptor o here fall one) (entered_covers o here fall one le)
         ∙ ap (λ v. found_in_cases V K is_kill (is_some o) v cs || C (case_statements cs)) (flag_entered x fall o here le))
         ∙ (four (F (is_some here) x) (C (statements x)) (found_in_cases V K is_kill (is_some o) d' cs) (C (case_statements cs))
         ∙ ap (λ v. (F (is_some here) x || found_in_cases V K is_kill (is_some o) d' cs) || v)
@@ -299,6 +300,6 @@ module _ (origin : ℕ → Option ℕ) (V : ℕ → Bool) (same : (e : ℕ) → 
       cases_first NoCase o here le = refl
       cases_first (Case v x fall cs) o here le =
           let one = block_ends origin K here x in
-          first_some_of (block_fault origin K E here x) (cases_fault origin K E o (entered o here fall one) cs)
-          ∙ or_two (block_first x here) (cases_first cs o (entered o here fall one) (entered_covers o here fall one le)
+          first_some_of (block_fault origin K E here x) (cases_fault origin K E o (case_disruptor o here fall one) cs)
+          ∙ or_two (block_first x here) (cases_first cs o (case_disruptor o here fall one) (entered_covers o here fall one le)
           ∙ ap (λ v. found_in_cases V K (emits_requiring E) (is_some o) v cs) (flag_entered x fall o here le))

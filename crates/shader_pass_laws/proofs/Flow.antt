@@ -27,8 +27,8 @@ use Rattle.shader_pass_laws.proofs.FlowWords.{varies}
 use Rattle.shader_pass_laws.proofs.StepKills.{killing_to}
 use Rattle.shader_passes.specs.declared.facts.Fact.{Fact}
 use Rattle.shader_passes.specs.declared.flow.Exits.{Exits}
-use Rattle.shader_passes.specs.Ends.{either, exit_of, disruptor_after, entered, is_killing, leaf_ends, on_branch, step_ends, block_ends}
-use Rattle.shader_passes.specs.Ends.{cases_end}
+use Rattle.shader_passes.specs.Ends.{either, exit_of, disruptor_after, case_disruptor, is_killing, leaf_ends, on_branch, step_ends}
+use Rattle.shader_passes.specs.Ends.{block_ends, cases_end}
 use Rattle.shader_passes.specs.Facts.{origin_at}
 use Rattle.shader_passes.specs.InfoOf.{PointsBackwards, infos_of}
 use Rattle.shader_pass_laws.proofs.Varied.{origin_is, to_origin}
@@ -179,7 +179,7 @@ module _ (m : Module) (infos : List FunctionInfo) (f : Function) (settings : Set
   pub flag_next : (v : SwitchValue) (x : Body) (fall : Bool) (e : ℕ) (all cs : Cases) (b : Body) (p : At f.body (Then (Switch e all) b))
       (k : CasesIn all (Case v x fall cs)) (o now : Option UniformityDisruptor) → is_some o ≡ (F p || VB e) →
       is_some now ≡ case_flag VB KB (F p || VB e) k →
-      Covers o now → is_some (entered o now fall (block_ends origin KB now x)) ≡ case_flag VB KB (F p || VB e) (after k)
+      Covers o now → is_some (case_disruptor o now fall (block_ends origin KB now x)) ≡ case_flag VB KB (F p || VB e) (after k)
   flag_next v x fall e all cs b p k o now is is_now le =
       flag_entered origin VB (varies_is facts) infos x fall o now le
       ∙ (ap (λ w. w || (fall && (is_some now || block_exits VB KB (is_some now) x))) is
@@ -223,6 +223,6 @@ module _ (m : Module) (infos : List FunctionInfo) (f : Function) (settings : Set
     left_cases NoCase e all b p k o now is is_now le = left_none
     left_cases (Case v x fall cs) e all b p k o now is is_now le =
         let one = block_ends origin KB now x in
-        left_either one (cases_end origin KB o (entered o now fall one) cs) (left_block x (inside p (case_of k)) now is_now)
-        (left_cases cs e all b p (after k) o (entered o now fall one) is (flag_next v x fall e all cs b p k o now is is_now le)
+        left_either one (cases_end origin KB o (case_disruptor o now fall one) cs) (left_block x (inside p (case_of k)) now is_now)
+        (left_cases cs e all b p (after k) o (case_disruptor o now fall one) is (flag_next v x fall e all cs b p k o now is is_now le)
         (entered_covers o now fall one le))

@@ -26,7 +26,7 @@ use Rattle.shader_pass_laws.proofs.StepKills.{of_any, of_killing}
 use Rattle.shader_passes.specs.declared.facts.Fact.{Fact}
 use Rattle.shader_passes.specs.declared.flow.Exits.{Exits}
 use Rattle.shader_passes.specs.declared.flow.FlowViolation.{FlowViolation}
-use Rattle.shader_passes.specs.Ends.{disruptor_after, entered, requires_uniform_flow, leaf_fault, on_branch, step_ends, block_ends}
+use Rattle.shader_passes.specs.Ends.{disruptor_after, case_disruptor, requires_uniform_flow, leaf_fault, on_branch, step_ends, block_ends}
 use Rattle.shader_passes.specs.Ends.{requiring_or, first_requiring, flow_violation, step_fault, block_fault, cases_fault}
 use Rattle.shader_passes.specs.Facts.{needs_at}
 use Rattle.shader_passes.specs.InfoOf.{PointsBackwards, infos_of}
@@ -125,7 +125,7 @@ module _ (m : Module) (infos : List FunctionInfo) (f : Function) (settings : Set
   reported_next : (e : ℕ) (all : Cases) (b : Body) (p : At f.body (Then (Switch e all) b)) (o now : Option UniformityDisruptor) (fall :
       Bool)
       (one : Exits) →
-      ReportedCases e all b p o → ReportedCases e all b p now → Left one → ReportedCases e all b p (entered o now fall one)
+      ReportedCases e all b p o → ReportedCases e all b p now → Left one → ReportedCases e all b p (case_disruptor o now fall one)
   reported_next e all b p o now true one w w_now l v y fall cs k =
       flow.reported_behind m infos f settings below y (inside p (case_of k)) now one (w_now v y fall cs k) l
   reported_next e all b p o now false one w w_now l v y fall cs k = w v y fall cs k
@@ -192,9 +192,9 @@ module _ (m : Module) (infos : List FunctionInfo) (f : Function) (settings : Set
     bad_cases NoCase e all b p k o now is is_now le w w_now x h = absurd (cc)
     bad_cases (Case v y fall cs) e all b p k o now is is_now le w w_now x h =
         let one = block_ends origin KB now y in
-        elim (either_fault (block_fault origin KB facts now y) (cases_fault origin KB facts o (entered o now fall one) cs) x h) [
+        elim (either_fault (block_fault origin KB facts now y) (cases_fault origin KB facts o (case_disruptor o now fall one) cs) x h) [
           | inl at_once ↦ bad_block y (inside p (case_of k)) now is_now (w_now v y fall cs k) x at_once
-          | inr more ↦ bad_cases cs e all b p (after k) o (entered o now fall one) is
+          | inr more ↦ bad_cases cs e all b p (after k) o (case_disruptor o now fall one) is
               (flow.flag_next m infos f settings below v y fall e all cs b p k o now is is_now le)
               (entered_covers o now fall one le) w
               (reported_next e all b p o now fall one w w_now (flow.left_block m infos f settings below y (inside p (case_of k)) now

@@ -28,7 +28,7 @@ use Rattle.shader_passes.specs.Conditions.{GlobalsWithin, EachFits}
 use Rattle.shader_pass_laws.specs.OfTheStep.{HasUses}
 use Rattle.shader_passes.specs.Facts.{root_at, facts_after}
 use Rattle.shader_passes.specs.CalleeUses.{bits_at, called_uses, uses_with_call, uses_with_calls, named_by}
-use Rattle.shader_passes.specs.CountsAndUses.{CountsAndUses, bits, occurred}
+use Rattle.shader_passes.specs.CountsAndUses.{CountsAndUses, bits, ref_counts_after}
 use Rattle.shader_passes.proofs.StoredInfoLemmas.{stored_of, of_stored}
 use Rattle.shader_pass_laws.proofs.RootLemmas.{root_to, root_from}
 use Rattle.shader_passes.proofs.CountLemmas.{if_true, if_false}
@@ -354,7 +354,7 @@ module _ (m : Module) (infos : List FunctionInfo) (f : Function) (all : List Fac
 
 -- the uses of the function's own operands
 module _ (f : Function) (all : List Fact) (n : ℕ) (ref_counts : CountsAndUses)
-    (is : ref_counts ≡ fold (occurred all) (replicate (length f.expressions) 0, replicate n 0, None) (occurrences f)) where
+    (is : ref_counts ≡ fold (ref_counts_after all) (replicate (length f.expressions) 0, replicate n 0, None) (occurrences f)) where
   abbrev unused_globals : List ℕ
   unused_globals = replicate n 0
 
@@ -429,7 +429,7 @@ module _ (m : Module) (infos : List FunctionInfo) (f : Function) (all : List Fac
     (below : PointsBackwards f)
     (within : GlobalsWithin m f) (fit : EachFits m infos)
     (ss : List Step) (same : ss ≡ statements f.body) (ref_counts : CountsAndUses)
-    (ref_counts_are : ref_counts ≡ fold (occurred all) (
+    (ref_counts_are : ref_counts ≡ fold (ref_counts_after all) (
       replicate (length f.expressions) 0,
       replicate (length m.global_variables) 0,
       None,

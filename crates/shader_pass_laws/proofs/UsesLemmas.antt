@@ -10,7 +10,7 @@ use Rattle.shader_analysis_spec.specs.Program.{Label}
 use Rattle.shader_passes.specs.declared.facts.Fact.{Fact}
 use Rattle.shader_passes.specs.Facts.{root_at}
 use Rattle.shader_passes.specs.CalleeUses.{named_once, named_by}
-use Rattle.shader_passes.specs.CountsAndUses.{CountsAndUses, occurred, put_on, bits}
+use Rattle.shader_passes.specs.CountsAndUses.{CountsAndUses, ref_counts_after, uses_after, bits}
 use Rattle.shader_analysis_spec.proofs.ListLemmas.{nowhere, here, there, cases}
 use Rattle.shader_passes.proofs.CountLemmas.{if_true, if_false}
 
@@ -28,11 +28,12 @@ put_one None g n l = n
 abbrev pub put_at : List Fact → ℕ → ℕ → (ℕ × Label) → ℕ
 put_at infos g n o = put_one (root_at infos o.0) g n (bits o.1)
 
-put_long : (r : Option ℕ) (uses : List ℕ) (l : ℕ) → length (put_on r uses l) ≡ length uses
+put_long : (r : Option ℕ) (uses : List ℕ) (l : ℕ) → length (uses_after r uses l) ≡ length uses
 put_long None uses l = refl
 put_long (Some h) uses l = length-set uses h (bit_or (slice_index uses h) l)
 
-put_is : (r : Option ℕ) (uses : List ℕ) (g l : ℕ) → g < length uses → slice_index (put_on r uses l) g ≡ put_one r g (slice_index uses g) l
+put_is : (r : Option ℕ) (uses : List ℕ) (g l : ℕ) → g < length uses →
+    slice_index (uses_after r uses l) g ≡ put_one r g (slice_index uses g) l
 put_is None uses g l lt = refl
 put_is (Some h) uses g l lt = elim (cases_eq h g) [
   | inl same ↦
@@ -46,15 +47,15 @@ put_is (Some h) uses g l lt = elim (cases_eq h g) [
 ]
 
 module _ (infos : List Fact) where
-  pub puts_long : (t : CountsAndUses) (os : List (ℕ × Label)) → length (fold (occurred infos) t os).1 ≡ length t.1
+  pub puts_long : (t : CountsAndUses) (os : List (ℕ × Label)) → length (fold (ref_counts_after infos) t os).1 ≡ length t.1
   puts_long t [] = refl
-  puts_long t (o ∷ os) = puts_long (occurred infos t o) os ∙ put_long (root_at infos o.0) t.1 (bits o.1)
+  puts_long t (o ∷ os) = puts_long (ref_counts_after infos t o) os ∙ put_long (root_at infos o.0) t.1 (bits o.1)
 
   pub puts_are : (t : CountsAndUses) (os : List (ℕ × Label)) (g : ℕ) → g < length t.1 →
-      slice_index (fold (occurred infos) t os).1 g ≡ fold (put_at infos g) (slice_index t.1 g) os
+      slice_index (fold (ref_counts_after infos) t os).1 g ≡ fold (put_at infos g) (slice_index t.1 g) os
   puts_are t [] g lt = refl
   puts_are t (o ∷ os) g lt =
-      puts_are (occurred infos t o) os g (omega (arith, put_long (root_at infos o.0) t.1 (bits o.1)))
+      puts_are (ref_counts_after infos t o) os g (omega (arith, put_long (root_at infos o.0) t.1 (bits o.1)))
       ∙ ap (λ v. fold (put_at infos g) v os) (put_is (root_at infos o.0) t.1 g (bits o.1) lt)
 
 -- the uses of g after one expression is named

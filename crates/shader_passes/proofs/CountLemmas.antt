@@ -15,7 +15,7 @@ use Rattle.shader_ir.specs.Occurs.{local_operands}
 use Rattle.shader_analysis_spec.specs.Counts.{one_of, times, count_of}
 use Rattle.shader_analysis_spec.specs.Program.{Function, Label, Step, expression_operands, statement_operands, statements, occurrences}
 use Rattle.shader_passes.specs.declared.facts.Fact.{Fact}
-use Rattle.shader_passes.specs.CountsAndUses.{CountsAndUses, occurred, raised, is_full}
+use Rattle.shader_passes.specs.CountsAndUses.{CountsAndUses, ref_counts_after, counts_after, is_full}
 
 one_same : (i e : ℕ) → i ≡ e → one_of e i ≡ 1
 one_same i e h = grind (arith, nat_tests)
@@ -56,28 +56,28 @@ bumped_le xs i e = at (nat_lt e (length xs)) refl where
 full_is : (counts : List ℕ) (i : ℕ) → is_full counts i ≡ true → slice_index counts i ≡ 2 ^ 64 - 1
 full_is counts i h = grind (arith, nat_tests)
 
-raised_long : (counts : List ℕ) (i : ℕ) → length (raised counts i) ≡ length counts
+raised_long : (counts : List ℕ) (i : ℕ) → length (counts_after counts i) ≡ length counts
 raised_long counts i = at (is_full counts i) refl where
-  at : (b : Bool) → is_full counts i ≡ b → length (raised counts i) ≡ length counts
+  at : (b : Bool) → is_full counts i ≡ b → length (counts_after counts i) ≡ length counts
   at true h = ap length (if_true (is_full counts i) counts (slice_set counts i (slice_index counts i + 1)) h)
   at false h = ap length (if_false (is_full counts i) counts (slice_set counts i (slice_index counts i + 1)) h)
       ∙ length-set counts i (slice_index counts i + 1)
 
 module _ (facts : List Fact) where
   -- no step changes the number of counts
-  pub counts_long : (t : CountsAndUses) (os : List (ℕ × Label)) → length (fold (occurred facts) t os).0 ≡ length t.0
+  pub counts_long : (t : CountsAndUses) (os : List (ℕ × Label)) → length (fold (ref_counts_after facts) t os).0 ≡ length t.0
   counts_long t [] = refl
-  counts_long t (o ∷ os) = counts_long (occurred facts t o) os ∙ raised_long t.0 o.0
+  counts_long t (o ∷ os) = counts_long (ref_counts_after facts t o) os ∙ raised_long t.0 o.0
 
-  counted : (t : CountsAndUses) (os : List (ℕ × Label)) (e : ℕ) → e < length t.0 → (fold (occurred facts) t os).2 ≡ None →
-      (t.2 ≡ None) × (slice_index (fold (occurred facts) t os).0 e ≡ slice_index t.0 e + times e os)
+  counted : (t : CountsAndUses) (os : List (ℕ × Label)) (e : ℕ) → e < length t.0 → (fold (ref_counts_after facts) t os).2 ≡ None →
+      (t.2 ≡ None) × (slice_index (fold (ref_counts_after facts) t os).0 e ≡ slice_index t.0 e + times e os)
   counted t [] e lt h = (h, omega arith)
   counted t (o ∷ os) e lt h =
-      at (is_full t.0 o.0) refl (counted (occurred facts t o) os e (omega (arith, raised_long t.0 o.0)) h) where
+      at (is_full t.0 o.0) refl (counted (ref_counts_after facts t o) os e (omega (arith, raised_long t.0 o.0)) h) where
         at : (b : Bool) → is_full t.0 o.0 ≡ b →
-            ((occurred facts t o).2 ≡ None) × (slice_index (fold (occurred facts) t (o ∷ os)).0 e ≡ slice_index (occurred facts t o).0 e
-            + times e os) →
-            (t.2 ≡ None) × (slice_index (fold (occurred facts) t (o ∷ os)).0 e ≡ slice_index t.0 e + times e (o ∷ os))
+            ((ref_counts_after facts t o).2 ≡ None)
+            × (slice_index (fold (ref_counts_after facts) t (o ∷ os)).0 e ≡ slice_index (ref_counts_after facts t o).0 e + times e os) →
+            (t.2 ≡ None) × (slice_index (fold (ref_counts_after facts) t (o ∷ os)).0 e ≡ slice_index t.0 e + times e (o ∷ os))
         at true f r =
             let s : (if is_full t.0 o.0 then Some o.0 else t.2) ≡ Some o.0 = if_true (is_full t.0 o.0) (Some o.0) t.2 f in
             let n = r.0 in absurd (cc)
@@ -87,12 +87,12 @@ module _ (facts : List Fact) where
             let k = ap (λ v. slice_index v e) c in
             (sym s ∙ r.0, omega (arith, r.1, k, bumped t.0 o.0 e lt))
 
-  full_at : (t : CountsAndUses) (os : List (ℕ × Label)) (e : ℕ) → (fold (occurred facts) t os).2 ≡ Some e →
+  full_at : (t : CountsAndUses) (os : List (ℕ × Label)) (e : ℕ) → (fold (ref_counts_after facts) t os).2 ≡ Some e →
       (t.2 ≡ Some e) ⊎ (2 ^ 64 ≤ slice_index t.0 e + times e os)
   full_at t [] e h = inl h
-  full_at t (o ∷ os) e h = at (is_full t.0 o.0) refl (full_at (occurred facts t o) os e h) where
+  full_at t (o ∷ os) e h = at (is_full t.0 o.0) refl (full_at (ref_counts_after facts t o) os e h) where
     at : (b : Bool) → is_full t.0 o.0 ≡ b →
-        ((occurred facts t o).2 ≡ Some e) ⊎ (2 ^ 64 ≤ slice_index (occurred facts t o).0 e + times e os) →
+        ((ref_counts_after facts t o).2 ≡ Some e) ⊎ (2 ^ 64 ≤ slice_index (ref_counts_after facts t o).0 e + times e os) →
         (t.2 ≡ Some e) ⊎ (2 ^ 64 ≤ slice_index t.0 e + times e (o ∷ os))
     at true f (inl r) =
         let s : (if is_full t.0 o.0 then Some o.0 else t.2) ≡ Some o.0 = if_true (is_full t.0 o.0) (Some o.0) t.2 f in
@@ -110,17 +110,17 @@ module _ (facts : List Fact) where
         let k = ap (λ v. slice_index v e) c in inr (omega (arith, r, k, bumped_le t.0 o.0 e))
 
 module _ (facts : List Fact) (f : Function) (n : ℕ) (all : List Step) (same : all ≡ statements f.body) (ref_counts : CountsAndUses)
-    (is : ref_counts ≡ fold (occurred facts) (fold (occurred facts)
-    (fold (occurred facts) (replicate (length f.expressions) 0, replicate n 0, None) (flat_map expression_operands f.expressions))
+    (is : ref_counts ≡ fold (ref_counts_after facts) (fold (ref_counts_after facts)
+    (fold (ref_counts_after facts) (replicate (length f.expressions) 0, replicate n 0, None) (flat_map expression_operands f.expressions))
     (flat_map local_operands f.local_variables)) (flat_map statement_operands all)) where
   abbrev zeros : CountsAndUses
   zeros = (replicate (length f.expressions) 0, replicate n 0, None)
 
-  pub whole : ref_counts ≡ fold (occurred facts) zeros (occurrences f)
+  pub whole : ref_counts ≡ fold (ref_counts_after facts) zeros (occurrences f)
   whole =
       let own = flat_map expression_operands f.expressions in
       let locals = flat_map local_operands f.local_variables in
-      let step = occurred facts in
+      let step = ref_counts_after facts in
       let P : List Step → Type 0 = λ v. ref_counts ≡ fold step (fold step (fold step zeros own) locals) (flat_map statement_operands v) in
       subst P same is ∙ (ap (λ v. fold step v (flat_map statement_operands (statements f.body))) (sym (fold-append step zeros own locals))
       ∙ sym (fold-append step zeros (own ++ locals) (flat_map statement_operands (statements f.body))))

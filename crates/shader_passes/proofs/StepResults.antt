@@ -19,7 +19,7 @@ use Rattle.shader_info.specs.declared.info.FunctionInfo.{FunctionInfo}
 use Rattle.shader_passes.specs.declared.facts.Fact.{Fact}
 use Rattle.shader_passes.specs.Facts.{origin_at, result_origin_at, facts_after}
 use Rattle.shader_passes.specs.InfoOf.{infos_of, PointsBackwards}
-use Rattle.shader_passes.specs.CalleeUses.{given_by}
+use Rattle.shader_passes.specs.CalleeUses.{result_origin_after}
 use Rattle.shader_passes.proofs.StoredInfoLemmas.{result_to, of_result}
 use Rattle.shader_analysis_spec.proofs.ListLemmas.{nowhere, here, cases}
 use Rattle.shader_passes.proofs.StepOrigins.{nu, OfOperand, first_is, origins_long, step_origins}
@@ -72,13 +72,13 @@ module _ (m : Module) (infos : List FunctionInfo) (f : Function) (all : List Fac
   Given (Leaf (Call c arguments result)) h = result_origin_at infos c ≡ Some h
   Given s h = ⊥
 
-  given_picks : (s : Step) → Picks (Given s) (given_by infos all None s)
+  given_picks : (s : Step) → Picks (Given s) (result_origin_after infos all None s)
   given_picks (Leaf (Return value)) = first_is all (statement_operands (Leaf (Return value)))
   given_picks (Leaf (CooperativeStore target tile)) = first_is all (statement_operands (Leaf (CooperativeStore target tile)))
   given_picks (Leaf (Call c arguments result)) = picks_itself (result_origin_at infos c)
   given_picks s = λ h t. t
 
-  given_preserves : (s : Step) (h : ℕ) → given_by infos all (Some h) s ≡ Some h
+  given_preserves : (s : Step) (h : ℕ) → result_origin_after infos all (Some h) s ≡ Some h
   given_preserves s h = refl
 
   returned : (value : Option ℕ) (o : ℕ × Label) → Contains (statement_operands (Leaf (Return value))) o → value ≡ Some o.0
@@ -111,10 +111,11 @@ module _ (m : Module) (infos : List FunctionInfo) (f : Function) (all : List Fac
   of_given h (step.StepResult.callee {arguments = arguments} {info = i} call r) =
       (h, (Leaf (Call call.callee arguments call.result), call.holds, of_result infos call.callee h i call.stored r))
 
-  pub step_result : (ss : List Step) (o : Option ℕ) → ss ≡ statements f.body → o ≡ fold (given_by infos all) None ss →
+  pub step_result : (ss : List Step) (o : Option ℕ) → ss ≡ statements f.body → o ≡ fold (result_origin_after infos all) None ss →
       Picks (StepResult m (infos_of infos) f) o
   step_result ss o same e =
-      let whole : o ≡ fold (given_by infos all) None (statements f.body) = e ∙ ap (λ v. fold (given_by infos all) None v) same in
+      let whole : o ≡ fold (result_origin_after infos all) None (statements f.body) =
+      e ∙ ap (λ v. fold (result_origin_after infos all) None v) same in
       let Q : Option ℕ → Type 0 = λ v. Picks (StepResult m (infos_of infos) f) v in
       subst Q (sym whole) (Picks-same SomeGiven (StepResult m (infos_of infos) f) _ (λ h t. given_to h t.0 t.1 t.2) of_given
-      (retained (given_by infos all) Given given_preserves given_picks (statements f.body)))
+      (retained (result_origin_after infos all) Given given_preserves given_picks (statements f.body)))

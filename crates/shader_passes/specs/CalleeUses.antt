@@ -45,8 +45,8 @@ statement_origin infos facts (Leaf (CooperativeStore target tile)) =
 statement_origin infos facts (Leaf (Call function arguments result)) = result_origin_at infos function
 statement_origin infos facts _ = None
 
-abbrev pub given_by : List FunctionInfo → List Fact → Option ℕ → Step → Option ℕ
-given_by infos facts origin step = option_or origin (statement_origin infos facts step)
+abbrev pub result_origin_after : List FunctionInfo → List Fact → Option ℕ → Step → Option ℕ
+result_origin_after infos facts origin step = option_or origin (statement_origin infos facts step)
 
 -- the needs of expressions, added to earlier needs
 abbrev pub with_needs_in : List Fact → ℕ → List ℕ → ℕ

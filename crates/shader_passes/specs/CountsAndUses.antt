@@ -23,15 +23,19 @@ CountsAndUses = List ℕ × List ℕ × Option ℕ
 abbrev pub is_full : List ℕ → ℕ → Bool
 is_full counts e = nat_lt e (length counts) && nat_eq (slice_index counts e) (2 ^ 64 - 1)
 
-abbrev pub raised : List ℕ → ℕ → List ℕ
-raised counts e = if is_full counts e then counts else slice_set counts e (slice_index counts e + 1)
+-- the counts after one more occurrence of the expression; a full count stays
+abbrev pub counts_after : List ℕ → ℕ → List ℕ
+counts_after counts e = if is_full counts e then counts else slice_set counts e (slice_index counts e + 1)
 
-abbrev pub put_on : Option ℕ → List ℕ → ℕ → List ℕ
-put_on (Some g) uses labels = slice_set uses g (bit_or (slice_index uses g) labels)
-put_on None uses labels = uses
+-- the uses of the globals after an operand with this root and these labels
+abbrev pub uses_after : Option ℕ → List ℕ → ℕ → List ℕ
+uses_after (Some g) uses labels = slice_set uses g (bit_or (slice_index uses g) labels)
+uses_after None uses labels = uses
 
-abbrev pub recorded : List Fact → CountsAndUses → ℕ → ℕ → CountsAndUses
-recorded facts t e labels = (raised t.0 e, put_on (root_at facts e) t.1 labels, if is_full t.0 e then Some e else t.2)
-
-abbrev pub occurred : List Fact → CountsAndUses → ℕ × Label → CountsAndUses
-occurred facts t operand = recorded facts t operand.0 (bits operand.1)
+-- all three after one more occurrence of an operand
+abbrev pub ref_counts_after : List Fact → CountsAndUses → ℕ × Label → CountsAndUses
+ref_counts_after facts t operand = (
+  counts_after t.0 operand.0,
+  uses_after (root_at facts operand.0) t.1 (bits operand.1),
+  if is_full t.0 operand.0 then Some operand.0 else t.2,
+)

@@ -39,9 +39,9 @@ abbrev pub disruptor_after : Option UniformityDisruptor → Exits → Option Uni
 disruptor_after o exits = option_or o (exit_cause exits)
 
 -- the disruptor in the next case of a switch
-abbrev pub entered : Option UniformityDisruptor → Option UniformityDisruptor → Bool → Exits → Option UniformityDisruptor
-entered branch here true exits = disruptor_after here exits
-entered branch here false exits = branch
+abbrev pub case_disruptor : Option UniformityDisruptor → Option UniformityDisruptor → Bool → Exits → Option UniformityDisruptor
+case_disruptor branch here true exits = disruptor_after here exits
+case_disruptor branch here false exits = branch
 
 -- the disruptor in a branch on an expression
 abbrev pub on_branch : (ℕ → Option ℕ) → Option UniformityDisruptor → ℕ → Option UniformityDisruptor
@@ -100,7 +100,7 @@ module _ (origin : ℕ → Option ℕ) (is_killing : ℕ → Bool) where
     -- the second disruptor is that of the first case
     pub cases_end : Option UniformityDisruptor → Option UniformityDisruptor → Cases → Exits
     cases_end o here NoCase = no_exit
-    cases_end o here (Case v x fall cs) = either (block_ends here x) (cases_end o (entered o here fall (block_ends here x)) cs)
+    cases_end o here (Case v x fall cs) = either (block_ends here x) (cases_end o (case_disruptor o here fall (block_ends here x)) cs)
 
 -- the first violation: an expression that needs undisrupted flow and is emitted in disrupted flow
 module _ (origin : ℕ → Option ℕ) (is_killing : ℕ → Bool) (facts : List Fact) where
@@ -119,4 +119,4 @@ module _ (origin : ℕ → Option ℕ) (is_killing : ℕ → Bool) (facts : List
     pub cases_fault : Option UniformityDisruptor → Option UniformityDisruptor → Cases → Option FlowViolation
     cases_fault o here NoCase = None
     cases_fault o here (Case v x fall cs) =
-        option_or (block_fault here x) (cases_fault o (entered o here fall (block_ends origin is_killing here x)) cs)
+        option_or (block_fault here x) (cases_fault o (case_disruptor o here fall (block_ends origin is_killing here x)) cs)

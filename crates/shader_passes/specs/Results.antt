@@ -8,9 +8,9 @@ use Rattle.shader_info.specs.declared.info.FunctionInfo.{FunctionInfo}
 use Rattle.shader_passes.specs.declared.facts.Fact.{Fact}
 use Rattle.shader_passes.specs.Ends.{block_ends, is_killing}
 use Rattle.shader_passes.specs.Facts.{origin_at, facts_after}
-use Rattle.shader_passes.specs.CalleeUses.{with_needs_of, given_by, named_by}
+use Rattle.shader_passes.specs.CalleeUses.{with_needs_of, result_origin_after, named_by}
 use Rattle.shader_passes.specs.RecordedPairs.{callee_pairs, sampled_resources}
-use Rattle.shader_passes.specs.CountsAndUses.{CountsAndUses, occurred}
+use Rattle.shader_passes.specs.CountsAndUses.{CountsAndUses, ref_counts_after}
 
 module _ (m : Module) (infos : List FunctionInfo) (f : Function) where
   -- the facts of its expressions
@@ -25,7 +25,7 @@ module _ (m : Module) (infos : List FunctionInfo) (f : Function) where
 
   -- the origin of its result; then its needs, and whether it kills
   abbrev pub computed_result : Option ℕ
-  computed_result = fold (given_by infos computed_facts) None (statements f.body)
+  computed_result = fold (result_origin_after infos computed_facts) None (statements f.body)
 
   abbrev pub computed_needs : ℕ
   computed_needs = fold (with_needs_of infos computed_facts) 0 (statements f.body)
@@ -35,7 +35,7 @@ module _ (m : Module) (infos : List FunctionInfo) (f : Function) where
 
   -- the reference counts and the uses by its own operands
   abbrev pub own_counts : CountsAndUses
-  own_counts = fold (occurred computed_facts) (replicate (length f.expressions) 0, replicate (length m.global_variables) 0, None)
+  own_counts = fold (ref_counts_after computed_facts) (replicate (length f.expressions) 0, replicate (length m.global_variables) 0, None)
       (occurrences f)
 
   abbrev pub own_uses : List ℕ

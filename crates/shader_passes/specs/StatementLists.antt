@@ -5,5 +5,5 @@ use Rattle.shader_ir.specs.Body.{Step}
 use Rattle.shader_ir.specs.BodyOf.{step_of}
 use Rattle.shader_ir.specs.declared.statement.Statement.{Statement}
 
-abbrev pub listed : List (Bor Statement) → List Step
-listed all = map (λ statement. step_of statement.now) all
+abbrev pub steps_of : List (Bor Statement) → List Step
+steps_of all = map (λ statement. step_of statement.now) all

@@ -2,8 +2,9 @@
 ghost use Rattle.std.specs.Prelude.{◌≡◌, ℕ, ◌<◌, IfOk, None, length, slice_index, bit_or, fold, map};
 ghost use Rattle.shader_arena.specs.Positions.{positions_between};
 ghost use Rattle.shader_ir.specs.BodyOf.{step_of};
-ghost use Rattle.shader_passes.specs.StatementLists.{listed};
-ghost use Rattle.shader_passes.specs.CalleeUses.{with_needs_of, with_needs_in, bits_at, statement_origin, given_by, uses_with_calls};
+ghost use Rattle.shader_passes.specs.StatementLists.{steps_of};
+ghost use Rattle.shader_passes.specs.CalleeUses.{with_needs_of, with_needs_in, bits_at, statement_origin, result_origin_after};
+ghost use Rattle.shader_passes.specs.CalleeUses.{uses_with_calls};
 ghost use Rattle.shader_passes.specs.CalleeUses.{named_by, named_once, recorded_uses, statement_needs};
 
 use crate::facts::{Fact, first_origin, function_requirements, requirements_of, root_of};
@@ -47,7 +48,7 @@ fn add_uses(uses: &mut [u8], other: &[GlobalUse])
 /// Adds the uses of all functions that the statements call.
 pub fn add_callee_uses(infos: &[FunctionInfo], uses: &mut [u8], all: &[&Statement])
     ensures { (g : ℕ) → g < length uses.new →
-        slice_index uses.new g ≡ uses_with_calls infos.now g (slice_index uses.old g) (listed all.now) }
+        slice_index uses.new g ≡ uses_with_calls infos.now g (slice_index uses.old g) (steps_of all.now) }
 {
     for statement in all {
         if let Statement::Call { function, .. } = statement {
@@ -96,7 +97,7 @@ fn statement_origin(
 
 /// Returns the first origin that the statements contribute to the function's result.
 pub fn result_origin(infos: &[FunctionInfo], facts: &[Fact], all: &[&Statement]) -> NonUniformResult
-    ensures { result ≡ fold (given_by infos.now facts.now) None (listed all.now) }
+    ensures { result ≡ fold (result_origin_after infos.now facts.now) None (steps_of all.now) }
 {
     let mut origin = None;
     for statement in all {
@@ -141,7 +142,7 @@ pub fn requirements(
     facts: &[Fact],
     all: &[&Statement],
 ) -> UniformityRequirements
-    ensures { result.0 ≡ fold (with_needs_of infos.now facts.now) 0 (listed all.now) }
+    ensures { result.0 ≡ fold (with_needs_of infos.now facts.now) 0 (steps_of all.now) }
 {
     let mut requirements = UniformityRequirements::empty();
     for statement in all {

@@ -2,7 +2,7 @@
 ghost use Rattle.std.specs.Prelude.{◌≡◌, ◌++◌, OnOk, IfOk};
 ghost use Rattle.shader_ir.specs.Occurs.{statements, statements_within};
 ghost use Rattle.shader_ir.specs.BodyOf.{step_of};
-ghost use Rattle.shader_passes.specs.StatementLists.{listed};
+ghost use Rattle.shader_passes.specs.StatementLists.{steps_of};
 
 use shader_ir::{Block, Statement};
 use std::alloc::{AllocError, Global};
@@ -13,7 +13,7 @@ use std::alloc::{AllocError, Global};
 ///
 /// `AllocError` if the memory for one reference per statement can't be allocated.
 pub fn statements_of<'a>(alloc: Global, block: &'a Block) -> Result<Vec<&'a Statement>, AllocError>
-    ensures { IfOk result (λ all. listed all.items ≡ statements block.now) }
+    ensures { IfOk result (λ all. steps_of all.items ≡ statements block.now) }
 {
     let mut all = Vec::new(alloc);
     flatten_block(block, &mut all)?;
@@ -22,7 +22,7 @@ pub fn statements_of<'a>(alloc: Global, block: &'a Block) -> Result<Vec<&'a Stat
 
 #[cycle(flatten)]
 fn flatten_block<'a>(block: &'a Block, all: &mut Vec<&'a Statement>) -> Result<(), AllocError>
-    ensures { OnOk result (listed all.new.items ≡ listed all.old.items ++ statements block.now) }
+    ensures { OnOk result (steps_of all.new.items ≡ steps_of all.old.items ++ statements block.now) }
 {
     for statement in &block.statements {
         all.push(statement)?;
@@ -36,7 +36,7 @@ fn flatten_within<'a>(
     statement: &'a Statement,
     all: &mut Vec<&'a Statement>,
 ) -> Result<(), AllocError>
-    ensures { OnOk result (listed all.new.items ≡ listed all.old.items ++ statements_within (step_of statement.now)) }
+    ensures { OnOk result (steps_of all.new.items ≡ steps_of all.old.items ++ statements_within (step_of statement.now)) }
 {
     match statement {
         Statement::Block(block) => flatten_block(block, all)?,

@@ -6,7 +6,7 @@ ghost use Rattle.std.specs.Prelude.{map};
 ghost use Rattle.shader_analysis_spec.specs.Infos.{InGlobal};
 ghost use Rattle.shader_analysis_spec.specs.Pairs.{global_resource, resource, in_caller};
 ghost use Rattle.shader_ir.specs.BodyOf.{step_of};
-ghost use Rattle.shader_passes.specs.StatementLists.{listed};
+ghost use Rattle.shader_passes.specs.StatementLists.{steps_of};
 ghost use Rattle.shader_passes.specs.MissingResource.{missed_of, passed_for, sample_missed, pair_missed, call_missed};
 ghost use Rattle.shader_passes.specs.RecordedPairs.{resource_view};
 
@@ -290,9 +290,9 @@ impl Pairs {
         all: &[&Statement],
     ) -> Result<(), AllocError>
         ensures members { OnOk result (SameMembers (pairs_of self.new)
-            (flat_map (callee_pairs infos.now function.now) (listed all.now) ++ pairs_of self.old)) }
+            (flat_map (callee_pairs infos.now function.now) (steps_of all.now) ++ pairs_of self.old)) }
         ensures missing_resource { OnOk result (self.new.missing_resource
-            ≡ fold (call_missed infos.now function.now) self.old.missing_resource (listed all.now)) }
+            ≡ fold (call_missed infos.now function.now) self.old.missing_resource (steps_of all.now)) }
         ensures with_arguments { OnOk result (HaveArguments self.old.sampling.keys → HaveArguments self.new.sampling.keys) }
     {
         for statement in all {
@@ -362,11 +362,11 @@ impl Pairs {
         all: &[&Statement],
     ) -> Result<Pairs, AllocError>
         ensures members { IfOk result (λ pairs. SameMembers (pairs_of pairs)
-            (flat_map (callee_pairs infos.now function.now) (listed all.now)
+            (flat_map (callee_pairs infos.now function.now) (steps_of all.now)
             ++ (flat_map (sampled_resources function.now) function.now.expressions ++ []))) }
         ensures missing_resource { IfOk result (λ pairs. pairs.missing_resource
             ≡ fold (call_missed infos.now function.now) (fold (sample_missed function.now) None (enumerate_from 0 function.now.expressions))
-            (listed all.now)) }
+            (steps_of all.now)) }
         ensures with_arguments { IfOk result (λ pairs. HaveArguments pairs.sampling.keys) }
     {
         let mut pairs = Pairs::empty(alloc);

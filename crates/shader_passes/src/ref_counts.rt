@@ -6,8 +6,8 @@ ghost use Rattle.shader_analysis_spec.specs.Counts.{count_of};
 ghost use Rattle.shader_ir.specs.Occurs.{local_operands, occurrences, statements};
 ghost use Rattle.shader_ir.specs.Operands.{expression_operands, statement_operands};
 ghost use Rattle.shader_ir.specs.Slots.{retained, read_optional};
-ghost use Rattle.shader_passes.specs.StatementLists.{listed};
-ghost use Rattle.shader_passes.specs.CountsAndUses.{bits, occurred};
+ghost use Rattle.shader_passes.specs.StatementLists.{steps_of};
+ghost use Rattle.shader_passes.specs.CountsAndUses.{bits, ref_counts_after};
 
 use crate::facts::{Fact, root_of};
 use bitflags::Flags;
@@ -53,7 +53,7 @@ impl Model for RefCounts {
 impl RefCounts {
     /// Counts an operand, and records the use of the global that it points into.
     fn record(&mut self, facts: &[Fact], operand: Handle<mark::Expression>, label: Label)
-        ensures { self.new ≡ occurred facts.now self.old (operand, label) }
+        ensures { self.new ≡ ref_counts_after facts.now self.old (operand, label) }
     {
         if let Some(count) = self.counts.get_mut(operand.index()) {
             match count.checked_add(1) {
@@ -70,7 +70,7 @@ impl RefCounts {
 
     /// Counts the remaining operands.
     fn operands(&mut self, facts: &[Fact], operands: Operands<'_>)
-        ensures { self.new ≡ fold (occurred facts.now) self.old operands.entry }
+        ensures { self.new ≡ fold (ref_counts_after facts.now) self.old operands.entry }
     {
         for (operand, label) in operands {
             self.record(facts, operand, label);
@@ -80,7 +80,7 @@ impl RefCounts {
     /// Counts the operands of all expressions.
     #[tactic(auto, using(crate::proofs::RefCountLemmas::folds))]
     fn expressions(&mut self, facts: &[Fact], expressions: &Arena<Expression, mark::Expression>)
-        ensures { self.new ≡ fold (occurred facts.now) self.old (flat_map expression_operands expressions.now) }
+        ensures { self.new ≡ fold (ref_counts_after facts.now) self.old (flat_map expression_operands expressions.now) }
     {
         for (_, expression) in expressions.iter() {
             self.operands(facts, expression_operands(expression));
@@ -89,7 +89,7 @@ impl RefCounts {
 
     /// Counts an initial value.
     fn initial_value(&mut self, facts: &[Fact], init: Option<Handle<mark::Expression>>)
-        ensures { self.new ≡ fold (occurred facts.now) self.old (retained (read_optional init ∷ [])) }
+        ensures { self.new ≡ fold (ref_counts_after facts.now) self.old (retained (read_optional init ∷ [])) }
     {
         if let Some(init) = init {
             self.record(facts, init, Label::Read);
@@ -99,7 +99,7 @@ impl RefCounts {
     /// Counts the initial values of all local variables.
     #[tactic(auto, using(crate::proofs::RefCountLemmas::folds))]
     fn locals(&mut self, facts: &[Fact], locals: &Arena<LocalVariable, mark::LocalVariable>)
-        ensures { self.new ≡ fold (occurred facts.now) self.old (flat_map local_operands locals.now) }
+        ensures { self.new ≡ fold (ref_counts_after facts.now) self.old (flat_map local_operands locals.now) }
     {
         for (_, local) in locals.iter() {
             self.initial_value(facts, local.init);
@@ -109,7 +109,7 @@ impl RefCounts {
     /// Counts the operands of all statements.
     #[tactic(auto, using(crate::proofs::RefCountLemmas::folds))]
     fn statements(&mut self, facts: &[Fact], all: &[&Statement])
-        ensures { self.new ≡ fold (occurred facts.now) self.old (flat_map statement_operands (listed all.now)) }
+        ensures { self.new ≡ fold (ref_counts_after facts.now) self.old (flat_map statement_operands (steps_of all.now)) }
     {
         for statement in all {
             self.operands(facts, statement_operands(statement));
@@ -124,13 +124,13 @@ impl RefCounts {
         facts: &[Fact],
         all: &[&Statement],
     ) -> Result<RefCounts, AllocError>
-        ensures { IfOk result (λ ref_counts. ref_counts ≡ fold (occurred facts.now)
-            (fold (occurred facts.now) (fold (occurred facts.now) (
+        ensures { IfOk result (λ ref_counts. ref_counts ≡ fold (ref_counts_after facts.now)
+            (fold (ref_counts_after facts.now) (fold (ref_counts_after facts.now) (
               replicate (length function.now.expressions) 0,
               replicate (length «module».now.global_variables) 0,
               None,
             ) (flat_map expression_operands function.now.expressions))
-            (flat_map local_operands function.now.local_variables)) (flat_map statement_operands (listed all.now))) }
+            (flat_map local_operands function.now.local_variables)) (flat_map statement_operands (steps_of all.now))) }
     {
         let mut ref_counts = RefCounts {
             counts: vec![in alloc; 0; function.expressions.len()]?,
@@ -155,11 +155,11 @@ impl RefCounts {
         facts: &[Fact],
         all: &[&Statement],
     ) -> Result<RefCounts, AllocError>
-        requires { listed all.now ≡ statements function.now.body }
+        requires { steps_of all.now ≡ statements function.now.body }
         ensures counts { IfOk result (λ ref_counts. ref_counts.2 ≡ None → (e : ℕ) → e < length function.now.expressions →
             slice_get ref_counts.0 e ≡ Some (count_of function.now e)) }
         ensures full { IfOk result (λ ref_counts. IfSome ref_counts.2 (λ e. 2 ^ 64 ≤ count_of function.now e)) }
-        ensures uses { IfOk result (λ ref_counts. ref_counts ≡ fold (occurred facts.now) (
+        ensures uses { IfOk result (λ ref_counts. ref_counts ≡ fold (ref_counts_after facts.now) (
           replicate (length function.now.expressions) 0,
           replicate (length «module».now.global_variables) 0,
           None,

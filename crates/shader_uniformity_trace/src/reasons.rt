@@ -2,7 +2,7 @@
 ghost use Rattle.std.specs.Prelude.{◌≡◌, [], IfOk};
 ghost use Rattle.std.specs.List.{enumerate_from};
 ghost use Rattle.shader_ir.specs.BodyOf.{step_of};
-ghost use Rattle.shader_passes.specs.StatementLists.{listed};
+ghost use Rattle.shader_passes.specs.StatementLists.{steps_of};
 ghost use Rattle.shader_uniformity_trace.specs.Reasons.{by_callee, first_given, first_reason, statement_reason, led_to, operand_reason};
 ghost use Rattle.shader_uniformity_trace.specs.Reasons.{own_reason};
 ghost use Rattle.shader_uniformity_trace.specs.Reasons.{reason_at, result_reason_at, reasons_after};
@@ -175,7 +175,7 @@ pub fn first_given(
     reasons: &[Option<Reason>],
     all: &[&Statement],
 ) -> Option<Reason>
-    ensures { result ≡ first_given location.now traces.now reasons.now (listed all.now) }
+    ensures { result ≡ first_given location.now traces.now reasons.now (steps_of all.now) }
 {
     for statement in all {
         if let Some(reason) = statement_reason(location, traces, reasons, statement) {

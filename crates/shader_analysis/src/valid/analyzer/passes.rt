@@ -13,7 +13,7 @@ ghost use Rattle.shader_info.specs.declared.flags.Capabilities.{Capabilities};
 ghost use Rattle.shader_passes.specs.Conditions.{EachFits, GlobalsWithin};
 ghost use Rattle.shader_passes.specs.Results.{computed_facts, computed_kill, own_uses, computed_pairs, own_counts};
 ghost use Rattle.shader_pass_laws.specs.OfTheStep.{HasUses};
-ghost use Rattle.shader_passes.specs.StatementLists.{listed};
+ghost use Rattle.shader_passes.specs.StatementLists.{steps_of};
 ghost use Rattle.shader_passes.specs.InfoOf.{PointsBackwards, infos_of};
 ghost use Rattle.shader_passes.specs.RecordedPairs.{HaveArguments, SameMembers, pairs_of};
 ghost use Rattle.shader_analysis.specs.Analyzable.{ChecksFlow};
@@ -52,7 +52,7 @@ pub fn sampling_pairs(
     function: &Function,
     all: &[&Statement],
 ) -> Result<Pairs, FunctionError>
-    requires { listed all.now ≡ statements function.now.body }
+    requires { steps_of all.now ≡ statements function.now.body }
     ensures members { IfOk result (λ pairs. SameMembers (pairs_of pairs) (computed_pairs infos.now function.now)) }
     ensures with_arguments { IfOk result (λ pairs. HaveArguments pairs.sampling.keys) }
     ensures resources { IfOk result (λ _. (m : Module) (settings : Settings) (e : ℕ) →
@@ -84,7 +84,7 @@ pub fn counted(
     facts: &[Fact],
     all: &[&Statement],
 ) -> Result<RefCounts, FunctionError>
-    requires { listed all.now ≡ statements function.now.body }
+    requires { steps_of all.now ≡ statements function.now.body }
     ensures counts { IfOk result (λ ref_counts. (e : ℕ) → e < length function.now.expressions →
         slice_get ref_counts.0 e ≡ Some (count_of function.now e)) }
     ensures own_counts { IfOk result (λ ref_counts. (infos : _) → facts.now ≡ computed_facts «module».now infos function.now →
@@ -165,7 +165,7 @@ pub fn uses_of(
     own: Vec<u8>,
     all: &[&Statement],
 ) -> Result<Items<GlobalUse>, AllocError>
-    requires { listed all.now ≡ statements function.now.body }
+    requires { steps_of all.now ≡ statements function.now.body }
     ensures { IfOk result (λ uses. (m : Module) → PointsBackwards function.now → GlobalsWithin m function.now → EachFits m infos.now →
         facts.now ≡ computed_facts m infos.now function.now → own.items ≡ own_uses m infos.now function.now →
         HasUses m infos.now function.now (map (λ at. at.0) uses)) }

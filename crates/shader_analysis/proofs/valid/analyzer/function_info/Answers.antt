@@ -4,7 +4,7 @@ use Rattle.shader_analysis_spec.specs.Derivable.{AreTypes, function_context}
 use Rattle.shader_pass_laws.proofs.Counts.{full_counts_are_faults}
 use Rattle.shader_ir.specs.Key.{FitsTypes}
 use Rattle.shader_passes.proofs.CountLemmas.{counts_long}
-use Rattle.shader_passes.specs.CalleeUses.{with_needs_of, given_by}
+use Rattle.shader_passes.specs.CalleeUses.{with_needs_of, result_origin_after}
 use Rattle.shader_passes.specs.CountsAndUses.{CountsAndUses}
 use Rattle.shader_passes.specs.declared.facts.Fact.{Fact}
 use Rattle.shader_analysis_spec.specs.Counts.{count_of}
@@ -14,7 +14,7 @@ use Rattle.shader_info.specs.declared.info.FunctionInfo.{FunctionInfo}
 use Rattle.shader_passes.specs.Causes.{settings_of}
 use Rattle.shader_passes.specs.Results.{computed_facts, own_counts}
 use Rattle.shader_passes.proofs.StepOrigins.{facts_long}
-use Rattle.shader_passes.specs.StatementLists.{listed}
+use Rattle.shader_passes.specs.StatementLists.{steps_of}
 use Rattle.shader_passes.specs.InfoOf.{infos_of}
 use Rattle.shader_analysis.proofs.InfoLemmas.{IsComputed, counts_fit, each_fits, fits_function, globals_within, meets_steps, no_fault}
 use Rattle.shader_analysis.proofs.PositionLemmas.{passed_on}
@@ -46,8 +46,8 @@ facts_are : (c : goal.After-drop-statements-2) → c.as_slice-facts.result.now
     ≡ computed_facts c.args.«module».now c.args.infos.now c.args.function.now
 facts_are c = c.as_slice-facts.ensures.value ∙ c.in_ok-found.ensures
 
-all_are : (c : goal.After-drop-statements-2) → listed c.as_slice-all.result.now ≡ statements c.args.function.now.body
-all_are c = ap listed c.as_slice-all.ensures.value ∙ c.in_ok-statements.ensures
+all_are : (c : goal.After-drop-statements-2) → steps_of c.as_slice-all.result.now ≡ statements c.args.function.now.body
+all_are c = ap steps_of c.as_slice-all.ensures.value ∙ c.in_ok-statements.ensures
 
 ref_counts_are : (c : goal.After-drop-statements-2) →
     (c.ref_counts.inside.counts.items, c.ref_counts.inside.uses.items, c.ref_counts.inside.full)
@@ -106,10 +106,10 @@ found c =
       origins = built.origins ∙ ap (map (λ (fact : Fact). fact.origin)) (facts_are c);
       expression_needs = built.needs ∙ ap (map (λ (fact : Fact). fact.requirements.0)) (facts_are c);
       result = c.function_uniformity-uniformity.ensures.origin
-          ∙ (ap (λ v. fold (given_by infos v) None (listed c.as_slice-all.result.now)) (facts_are c)
-          ∙ ap (λ v. fold (given_by infos (computed_facts m infos f)) None v) (all_are c));
+          ∙ (ap (λ v. fold (result_origin_after infos v) None (steps_of c.as_slice-all.result.now)) (facts_are c)
+          ∙ ap (λ v. fold (result_origin_after infos (computed_facts m infos f)) None v) (all_are c));
       needs = c.function_uniformity-uniformity.ensures.needs
-          ∙ (ap (λ v. fold (with_needs_of infos v) 0 (listed c.as_slice-all.result.now)) (facts_are c)
+          ∙ (ap (λ v. fold (with_needs_of infos v) 0 (steps_of c.as_slice-all.result.now)) (facts_are c)
           ∙ ap (λ v. fold (with_needs_of infos (computed_facts m infos f)) 0 v) (all_are c));
       kills = c.in_ok-may_kill.ensures.kills;
       uses = c.in_ok-global_uses.ensures m c.requires.operands (globals_within m f c.requires.handles)

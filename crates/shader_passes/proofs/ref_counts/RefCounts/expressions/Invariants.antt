@@ -2,12 +2,12 @@ use Rattle.std.proofs.Common.{◌≡◌, fold}
 use Rattle.std.specs.List.{flat_map}
 use Rattle.shader_arena.specs.Positions.{items_of}
 use Rattle.shader_ir.specs.Operands.{expression_operands}
-use Rattle.shader_passes.specs.CountsAndUses.{occurred}
+use Rattle.shader_passes.specs.CountsAndUses.{ref_counts_after}
 use Rattle.shader_passes.proofs.ref_counts.RefCounts.expressions.Given as goal
 
 abbrev pub invariant-loop-expression : goal.invariant-loop-expression
 invariant-loop-expression l =
     (goal.iterator-loop-expression).can_next l.expression-iterator
     × (goal.iterator-loop-expression).is_finite l.expression-iterator
-    × (fold (occurred l.facts) l.self (flat_map expression_operands (items_of l.expression-iterator))
-    ≡ fold (occurred l.facts) l.fn.self (flat_map expression_operands l.expressions))
+    × (fold (ref_counts_after l.facts) l.self (flat_map expression_operands (items_of l.expression-iterator))
+    ≡ fold (ref_counts_after l.facts) l.fn.self (flat_map expression_operands l.expressions))

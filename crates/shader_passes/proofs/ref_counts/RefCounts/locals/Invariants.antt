@@ -2,12 +2,12 @@ use Rattle.std.proofs.Common.{◌≡◌, fold}
 use Rattle.std.specs.List.{flat_map}
 use Rattle.shader_arena.specs.Positions.{items_of}
 use Rattle.shader_ir.specs.Occurs.{local_operands}
-use Rattle.shader_passes.specs.CountsAndUses.{occurred}
+use Rattle.shader_passes.specs.CountsAndUses.{ref_counts_after}
 use Rattle.shader_passes.proofs.ref_counts.RefCounts.locals.Given as goal
 
 abbrev pub invariant-loop-local : goal.invariant-loop-local
 invariant-loop-local l =
     (goal.iterator-loop-local).can_next l.local-iterator
     × (goal.iterator-loop-local).is_finite l.local-iterator
-    × (fold (occurred l.facts) l.self (flat_map local_operands (items_of l.local-iterator))
-    ≡ fold (occurred l.facts) l.fn.self (flat_map local_operands l.locals))
+    × (fold (ref_counts_after l.facts) l.self (flat_map local_operands (items_of l.local-iterator))
+    ≡ fold (ref_counts_after l.facts) l.fn.self (flat_map local_operands l.locals))

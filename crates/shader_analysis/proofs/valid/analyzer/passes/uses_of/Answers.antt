@@ -5,8 +5,8 @@ use Rattle.shader_ir.specs.declared.name.Name.{Name}
 use Rattle.shader_pass_laws.proofs.StepUses.{finished}
 use Rattle.shader_passes.specs.Results.{own_counts}
 use Rattle.shader_pass_laws.specs.OfTheStep.{HasUses}
-use Rattle.shader_passes.specs.StatementLists.{listed}
-use Rattle.shader_passes.specs.CountsAndUses.{occurred}
+use Rattle.shader_passes.specs.StatementLists.{steps_of}
+use Rattle.shader_passes.specs.CountsAndUses.{ref_counts_after}
 use Rattle.shader_analysis.proofs.valid.analyzer.passes.uses_of.Goals as goal
 
 pub returns : goal.returns
@@ -15,8 +15,8 @@ returns c =
     let f = c.args.function.now in
     IfOk-weaker c.uses_of_bits.result _ _ (λ uses is m below within fit facts own.
     subst (HasUses m infos f) (sym (is ∙ c.deref.ensures.value))
-    (finished m infos f c.args.facts.now facts below within fit (listed c.args.all.now) c.requires (own_counts m infos f)
-    (ap (λ v. fold (occurred v) (
+    (finished m infos f c.args.facts.now facts below within fit (steps_of c.args.all.now) c.requires (own_counts m infos f)
+    (ap (λ v. fold (ref_counts_after v) (
       replicate (length f.expressions) 0,
       replicate (length m.global_variables) 0,
       None,
