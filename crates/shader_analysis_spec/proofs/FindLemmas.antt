@@ -4,9 +4,9 @@ use Rattle.std.proofs.lemmas.Bool.{or_cases, or_left, or_right}
 use Rattle.shader_analysis_spec.specs.Program.{Step, Leaf, Nested, If, Switch, Loop, Body, End, Then, Cases, NoCase, Case}
 use Rattle.shader_analysis_spec.specs.Flow.{At, start, rest, inside, Child, inner, accept, reject}
 use Rattle.shader_analysis_spec.specs.Flow.{body, continuing, case_of, CasesIn, from_first, after}
-use Rattle.shader_analysis_spec.specs.FlowPass.{step_exits, block_exits, case_flag, child_flag, flag, found, found_within, found_in_cases}
-use Rattle.shader_analysis_spec.specs.FlowPass.{PassFindsViolations}
-use Rattle.shader_analysis_spec.proofs.PassLemmas.{pass_is_least}
+use Rattle.shader_analysis_spec.proofs.Flags.{step_exits, block_exits, case_flag, child_flag, flag, found, found_within, found_in_cases}
+use Rattle.shader_analysis_spec.proofs.Flags.{FlagsFindStatements}
+use Rattle.shader_analysis_spec.proofs.PassLemmas.{flags_are_least}
 
 and_both : (a b : Bool) → IsTrue (a && b) → IsTrue a × IsTrue b
 and_both true b h = (refl, h)
@@ -87,10 +87,10 @@ module _ (varies is_killing : ℕ → Bool) (bad : Step → Bool) (root : Body) 
   up _ (inside {s = s} {b = b} {x = x} p child) h = up (Then s b) p
       (or_right (F p && bad s) _ (or_left (fw (F p) s) _ (up_child (F p) s x child h)))
 
-pub pass_finds_violations : PassFindsViolations
-pass_finds_violations varies is_killing bad root = (
+pub flags_find_statements : FlagsFindStatements
+flags_find_statements varies is_killing bad root = (
   λ h. let (s, b, p, is, f) = down varies is_killing bad root root start h in
-      (s, b, p, is, ((pass_is_least varies is_killing root).0 _ p).0 f),
+      (s, b, p, is, ((flags_are_least varies is_killing root).0 _ p).0 f),
   λ (s, b, p, is, d). up varies is_killing bad root (Then s b) p
-      (or_left _ _ (and_join _ _ (((pass_is_least varies is_killing root).0 _ p).1 d) is)),
+      (or_left _ _ (and_join _ _ (((flags_are_least varies is_killing root).0 _ p).1 d) is)),
 )

@@ -4,6 +4,7 @@ pub mod FaultLemmas
 pub mod FilterLemmas
 pub mod FindLemmas
 pub mod FlowLemmas
+pub mod Flags
 pub mod StoredLemmas
 pub mod JoinLemmas
 pub mod RetainedLemmas

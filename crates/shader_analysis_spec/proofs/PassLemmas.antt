@@ -12,7 +12,7 @@ use Rattle.shader_analysis_spec.specs.Flow.{after, BranchOn, accepts, rejects, s
 use Rattle.shader_analysis_spec.specs.Flow.{in_branch}
 use Rattle.shader_analysis_spec.specs.Flow.{in_continuing, fallen_into, fallen_out, later, behind, returns, kills, calls, contains, first}
 use Rattle.shader_analysis_spec.specs.Flow.{further}
-use Rattle.shader_analysis_spec.specs.FlowPass.{simple_exits, step_exits, block_exits, cases_exit, case_flag, child_flag, flag, PassIsLeast}
+use Rattle.shader_analysis_spec.proofs.Flags.{simple_exits, step_exits, block_exits, cases_exit, case_flag, child_flag, flag, FlagsAreLeast}
 
 or_left : (a b : Bool) → IsTrue a → IsTrue (a || b)
 or_left true b h = refl
@@ -242,8 +242,8 @@ module _ (varies is_killing : ℕ → Bool) (root : Body) where
   ]
   to_disrupted _ (inside {s = s} {b = b} {x = x} p child) h = child_holds s b x p child (λ f. to_disrupted _ p f) h
 
-pub pass_is_least : PassIsLeast
-pass_is_least varies is_killing root = (
+pub flags_are_least : FlagsAreLeast
+flags_are_least varies is_killing root = (
   λ b p. (to_disrupted varies is_killing root b p, of_disrupted varies is_killing root b p),
   λ s b p. (to_exits varies is_killing root s b p (to_disrupted varies is_killing root _ p), of_exits varies is_killing root s b p),
 )

@@ -21,10 +21,10 @@ use Rattle.shader_analysis_spec.specs.Samples.{named, stored, NamedIsQueried, ta
 use Rattle.shader_analysis_spec.specs.Samples.{BranchesKill, differentiating, EmittedIsNeeded, sampling, PairsAreLedBack}
 use Rattle.shader_analysis_spec.specs.Samples.{returning, point_of_emit, FallThroughDisrupts}
 use Rattle.shader_analysis_spec.specs.Uses.{Uses, directly, by_name, UsesDirectly, puts}
-use Rattle.shader_analysis_spec.proofs.FindLemmas.{pass_finds_violations}
+use Rattle.shader_analysis_spec.proofs.FindLemmas.{flags_find_statements}
 use Rattle.shader_analysis_spec.proofs.FlowLemmas.{more_disrupted}
 use Rattle.shader_analysis_spec.proofs.ListLemmas.{nowhere, here as first_of, cases}
-use Rattle.shader_analysis_spec.proofs.PassLemmas.{pass_is_least}
+use Rattle.shader_analysis_spec.proofs.PassLemmas.{flags_are_least}
 
 -- the body has no Call statement
 abbrev CallsNothing : Function → Type 0
@@ -118,7 +118,7 @@ never_disrupted V known b p d =
     let wide = more_disrupted V (λ e. IsTrue true) (λ c. IsTrue (known c)) (λ c. IsTrue (known c)) (Then (Leaf Kill) End) (λ e v. refl)
     (λ c arguments found b q k. k) _ p d in
     let reported : false ≡ true =
-    (pass_finds_violations (λ e. true) known is_kill (Then (Leaf Kill) End)).1 (Leaf Kill, b, p, refl, wide) in absurd (cc)
+    (flags_find_statements (λ e. true) known is_kill (Then (Leaf Kill) End)).1 (Leaf Kill, b, p, refl, wide) in absurd (cc)
 
 kill_calls_nothing : CallsNothing (taking None (Then (Leaf Kill) End))
 kill_calls_nothing callee arguments found h = let same = only (Leaf Kill) (Leaf (Call callee arguments found)) h in absurd (cc)
@@ -209,7 +209,7 @@ pairs_are_led_back = (
 -- ---- flow
 pub fall_through_disrupts : FallThroughDisrupts
 fall_through_disrupts = (
-  ((pass_is_least (λ e. nat_eq e 0) (λ c. nat_lt c 0) (returning true)).0 _ (point_of_emit true)).0 refl,
-  λ d. let reported : false ≡ true = ((pass_is_least (λ e. nat_eq e 0) (λ c. nat_lt c 0) (returning false)).0 _ (point_of_emit false)).1 d
+  ((flags_are_least (λ e. nat_eq e 0) (λ c. nat_lt c 0) (returning true)).0 _ (point_of_emit true)).0 refl,
+  λ d. let reported : false ≡ true = ((flags_are_least (λ e. nat_eq e 0) (λ c. nat_lt c 0) (returning false)).0 _ (point_of_emit false)).1 d
       in absurd (cc),
 )

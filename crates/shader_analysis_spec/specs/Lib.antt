@@ -19,6 +19,5 @@ pub mod Program
 pub mod Samples
 pub mod StepFaults
 pub mod Steps
-pub mod FlowPass
 pub mod Uses
 pub mod Walks

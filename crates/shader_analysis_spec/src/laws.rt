@@ -12,7 +12,6 @@ ghost use Rattle.shader_analysis_spec.specs.Stored.{EntryIsExact, NextIsExact, O
 ghost use Rattle.shader_analysis_spec.specs.Pairs.{LeadingBackComposes};
 ghost use Rattle.shader_analysis_spec.specs.Samples.{ArgumentsVary, BranchesKill, EmittedIsNeeded, FallThroughDisrupts};
 ghost use Rattle.shader_analysis_spec.specs.Samples.{NamedIsQueried, PairsAreLedBack, WalksPart};
-ghost use Rattle.shader_analysis_spec.specs.FlowPass.{PassFindsViolations, PassIsLeast};
 
 /// States that one step of the analysis is sound and complete for the interprocedural definitions.
 pub fn step_is_exact()
@@ -68,16 +67,6 @@ pub fn leading_back_composes()
 /// States that origins recorded operand by operand are those that the operands lead to.
 pub fn operands_give_origins()
     ensures { OperandsGiveOrigins }
-{}
-
-/// States that one recursion decides disruption and exits.
-pub fn pass_is_least()
-    ensures { PassIsLeast }
-{}
-
-/// States that one recursion detects the disrupted statements of a kind.
-pub fn pass_finds_violations()
-    ensures { PassFindsViolations }
 {}
 
 /// States noninterference of control flow: two walks that choose alike wherever the choice has no origin pass the same undisrupted path

@@ -6,15 +6,14 @@ use Rattle.std.proofs.Math.Bool.{or_assoc}
 use Rattle.std.proofs.lemmas.List.Folds.{list_any-append}
 use Rattle.shader_analysis_spec.specs.Program.{Simple, Emit, Return, Kill, Call, Step, Leaf, Nested, If, Switch, Loop, Body}
 use Rattle.shader_analysis_spec.specs.Program.{End, Then, Cases, NoCase, Case, statements, statements_within, case_statements}
-use Rattle.shader_analysis_spec.specs.FlowPass.{simple_exits, step_exits, block_exits, cases_exit, found, found_within, found_in_cases}
+use Rattle.shader_analysis_spec.proofs.Flags.{simple_exits, step_exits, block_exits, cases_exit, found, found_within, found_in_cases}
 use Rattle.shader_arena.specs.Positions.{positions_between}
 use Rattle.shader_passes.specs.declared.facts.Fact.{Fact}
-use Rattle.shader_info.specs.declared.info.FunctionInfo.{FunctionInfo}
 use Rattle.shader_info.specs.declared.error.UniformityDisruptor.{UniformityDisruptor}
 use Rattle.shader_info.specs.declared.error.UniformityDisruptor.TheVariants as cause
 use Rattle.shader_passes.specs.declared.flow.Exits.{Exits}
 use Rattle.shader_pass_laws.proofs.FlowWords.{any_requires, calls_kill, emits_requiring, is_kill}
-use Rattle.shader_passes.specs.Ends.{either, exit_of, disruptor_after, case_disruptor, requires_uniform_flow, is_killing, leaf_ends}
+use Rattle.shader_passes.specs.Ends.{either, exit_of, disruptor_after, case_disruptor, requires_uniform_flow, leaf_ends}
 use Rattle.shader_passes.specs.Ends.{leaf_fault, on_branch, step_ends}
 use Rattle.shader_passes.specs.Ends.{block_ends, cases_end, requiring_or, first_requiring, flow_violation, step_fault, block_fault}
 use Rattle.shader_passes.specs.Ends.{cases_fault}
@@ -23,7 +22,7 @@ or_none : (a : Bool) → (a || false) ≡ a
 or_none true = refl
 or_none false = refl
 
-or_same : (a : Bool) → (a || a) ≡ a
+pub or_same : (a : Bool) → (a || a) ≡ a
 or_same true = refl
 or_same false = refl
 
@@ -80,7 +79,7 @@ leaves e = e.returns || e.kills
 leaves_either : (a b : Exits) → leaves (either a b) ≡ (leaves a || leaves b)
 leaves_either a b = four a.returns b.returns a.kills b.kills
 
-exit_some : (returns kills : Bool) → is_some (exit_of returns kills) ≡ (returns || kills)
+pub exit_some : (returns kills : Bool) → is_some (exit_of returns kills) ≡ (returns || kills)
 exit_some true kills = refl
 exit_some false true = refl
 exit_some false false = refl
@@ -104,10 +103,7 @@ entered_covers o here true e le =
     ∙ (sym (or_assoc (is_some o) (is_some here) (leaves e)) ∙ (ap (λ v. v || leaves e) le ∙ sym (behind_some here e)))
 entered_covers o here false e le = or_same (is_some o)
 
-module _ (origin : ℕ → Option ℕ) (V : ℕ → Bool) (same : (e : ℕ) → is_some (origin e) ≡ V e) (infos : List FunctionInfo) where
-  abbrev K : ℕ → Bool
-  K = is_killing infos
-
+module _ (origin : ℕ → Option ℕ) (V : ℕ → Bool) (same : (e : ℕ) → is_some (origin e) ≡ V e) (K : ℕ → Bool) where
   map_some : (o : Option ℕ) → is_some (option_map (λ h. cause.Expression h) o) ≡ is_some o
   map_some (Some h) = refl
   map_some None = refl
@@ -181,10 +177,10 @@ module _ (origin : ℕ → Option ℕ) (V : ℕ → Bool) (same : (e : ℕ) → 
   F = found V K is_kill
 
   abbrev C : List Step → Bool
-  C = list_any (calls_kill infos)
+  C = list_any (calls_kill K)
 
   leaf_kills : (simple : Simple) (o : Option UniformityDisruptor) →
-      (leaf_ends K o simple).kills ≡ (((is_some o && is_kill (Leaf simple)) || false) || (calls_kill infos (Leaf simple) || false))
+      (leaf_ends K o simple).kills ≡ (((is_some o && is_kill (Leaf simple)) || false) || (calls_kill K (Leaf simple) || false))
   leaf_kills Kill o = kill_flag (is_some o)
   leaf_kills (Call c arguments result) o = call_flag (is_some o) (K c)
   leaf_kills s o = leaf_flag (is_some o)
@@ -196,14 +192,14 @@ module _ (origin : ℕ → Option ℕ) (V : ℕ → Bool) (same : (e : ℕ) → 
         let d = is_some o in
         or_two (step_kills s o) (block_kills b (disruptor_after o (step_ends origin K o s))
         ∙ ap (λ v. F v b || C (statements b)) (flag_behind s o))
-        ∙ (six (d && is_kill s) (found_within V K is_kill d s) (calls_kill infos s) (C (statements_within s))
+        ∙ (six (d && is_kill s) (found_within V K is_kill d s) (calls_kill K s) (C (statements_within s))
         (F (d || step_exits V K d s) b) (C (statements b))
-        ∙ ap (λ v. ((d && is_kill s) || (found_within V K is_kill d s || F (d || step_exits V K d s) b)) || (calls_kill infos s || v))
-        (sym (list_any-append (calls_kill infos) (statements_within s) (statements b))))
+        ∙ ap (λ v. ((d && is_kill s) || (found_within V K is_kill d s || F (d || step_exits V K d s) b)) || (calls_kill K s || v))
+        (sym (list_any-append (calls_kill K) (statements_within s) (statements b))))
 
     step_kills : (s : Step) (o : Option UniformityDisruptor) →
         (step_ends origin K o s).kills ≡ (((is_some o && is_kill s) || found_within V K is_kill (is_some o) s)
-        || (calls_kill infos s || C (statements_within s)))
+        || (calls_kill K s || C (statements_within s)))
     step_kills (Leaf simple) o = leaf_kills simple o
     step_kills (Nested x) o = block_kills x o ∙ child_flag (is_some o) (F (is_some o) x) (C (statements x))
     step_kills (If c x y) o =
@@ -211,7 +207,7 @@ module _ (origin : ℕ → Option ℕ) (V : ℕ → Bool) (same : (e : ℕ) → 
         or_two (block_kills x (on_branch origin o c) ∙ ap (λ v. F v x || C (statements x)) (branch_some o c))
         (block_kills y (on_branch origin o c) ∙ ap (λ v. F v y || C (statements y)) (branch_some o c))
         ∙ (four (F d x) (C (statements x)) (F d y) (C (statements y))
-        ∙ (ap (λ v. (F d x || F d y) || v) (sym (list_any-append (calls_kill infos) (statements x) (statements y)))
+        ∙ (ap (λ v. (F d x || F d y) || v) (sym (list_any-append (calls_kill K) (statements x) (statements y)))
         ∙ child_flag (is_some o) (F d x || F d y) (C (statements x ++ statements y))))
     step_kills (Loop x y k) o =
         let d = is_some o in
@@ -219,7 +215,7 @@ module _ (origin : ℕ → Option ℕ) (V : ℕ → Bool) (same : (e : ℕ) → 
         or_two (block_kills x o) (block_kills y (disruptor_after o (block_ends origin K o x))
         ∙ ap (λ v. F v y || C (statements y)) (flag_continuing x o))
         ∙ (four (F d x) (C (statements x)) (F e y) (C (statements y))
-        ∙ (ap (λ v. (F d x || F e y) || v) (sym (list_any-append (calls_kill infos) (statements x) (statements y)))
+        ∙ (ap (λ v. (F d x || F e y) || v) (sym (list_any-append (calls_kill K) (statements x) (statements y)))
         ∙ child_flag d (F d x || F e y) (C (statements x ++ statements y))))
     step_kills (Switch e cs) o =
         let d = is_some o || V e in
@@ -237,7 +233,7 @@ module _ (origin : ℕ → Option ℕ) (V : ℕ → Bool) (same : (e : ℕ) → 
         ∙ ap (λ v. found_in_cases V K is_kill (is_some o) v cs || C (case_statements cs)) (flag_entered x fall o here le))
         ∙ (four (F (is_some here) x) (C (statements x)) (found_in_cases V K is_kill (is_some o) d' cs) (C (case_statements cs))
         ∙ ap (λ v. (F (is_some here) x || found_in_cases V K is_kill (is_some o) d' cs) || v)
-        (sym (list_any-append (calls_kill infos) (statements x) (case_statements cs))))
+        (sym (list_any-append (calls_kill K) (statements x) (case_statements cs))))
 
   -- a violation is detected exactly if the recursion decides so
   module _ (E : List Fact) where

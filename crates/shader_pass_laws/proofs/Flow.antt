@@ -14,9 +14,9 @@ use Rattle.shader_analysis_spec.specs.Flow.{case_of, CasesIn, from_first, after,
 use Rattle.shader_analysis_spec.specs.Program.{Function, Module, Simple, Return, Kill, Call, Step, Leaf, Nested}
 use Rattle.shader_analysis_spec.specs.Program.{If, Switch, Loop, Body, End, Then, Cases, NoCase, Case, statements}
 use Rattle.shader_analysis_spec.specs.Steps.{RecordsKills, StepExpressionNeed, StepOrigin}
-use Rattle.shader_analysis_spec.specs.FlowPass.{flag, case_flag, step_exits, block_exits}
+use Rattle.shader_analysis_spec.proofs.Flags.{flag, case_flag, step_exits, block_exits}
 use Rattle.shader_analysis_spec.proofs.FlowLemmas.{more_disrupted, occurs_within}
-use Rattle.shader_analysis_spec.proofs.PassLemmas.{pass_is_least}
+use Rattle.shader_analysis_spec.proofs.PassLemmas.{flags_are_least}
 use Rattle.shader_info.specs.declared.error.UniformityDisruptor.{UniformityDisruptor}
 use Rattle.shader_info.specs.declared.error.UniformityDisruptor.TheVariants as cause
 use Rattle.shader_info.specs.declared.info.FunctionInfo.{FunctionInfo}
@@ -158,7 +158,7 @@ module _ (m : Module) (infos : List FunctionInfo) (f : Function) (settings : Set
   pub disrupted_at : (b : Body) (p : At f.body b) → IsTrue (F p) → D b p
   disrupted_at b p h = more_disrupted (λ e. IsTrue (VB e)) V (λ c. IsTrue (KB c)) K f.body (to_origin m infos f below)
       (λ c _ _ _ _ k. killing_to infos c k) b p
-      (((pass_is_least VB KB f.body).0 b p).0 h)
+      (((flags_are_least VB KB f.body).0 b p).0 h)
 
   -- the disruptor determines the flag
   abbrev pub Flags : {b : Body} → At f.body b → Option UniformityDisruptor → Type 0
@@ -166,22 +166,22 @@ module _ (m : Module) (infos : List FunctionInfo) (f : Function) (settings : Set
 
   pub flag_rest : (s : Step) (b : Body) (p : At f.body (Then s b)) (o : Option UniformityDisruptor) → Flags p o →
       Flags (rest p) (disruptor_after o (step_ends origin KB o s))
-  flag_rest s b p o is = flag_behind origin VB (varies_is facts) infos s o ∙ ap (λ v. v || step_exits VB KB v s) is
+  flag_rest s b p o is = flag_behind origin VB (varies_is facts) KB s o ∙ ap (λ v. v || step_exits VB KB v s) is
 
   pub flag_branch : (b : Body) (s : Step) (p : At f.body (Then s b)) (o : Option UniformityDisruptor) (e : ℕ) → Flags p o →
       is_some (on_branch origin o e) ≡ (F p || VB e)
-  flag_branch b s p o e is = branch_some origin VB (varies_is facts) infos o e ∙ ap (λ v. v || VB e) is
+  flag_branch b s p o e is = branch_some origin VB (varies_is facts) KB o e ∙ ap (λ v. v || VB e) is
 
   pub flag_again : (x : Body) (b : Body) (s : Step) (p : At f.body (Then s b)) (o : Option UniformityDisruptor) → Flags p o →
       is_some (disruptor_after o (block_ends origin KB o x)) ≡ (F p || block_exits VB KB (F p) x)
-  flag_again x b s p o is = flag_continuing origin VB (varies_is facts) infos x o ∙ ap (λ v. v || block_exits VB KB v x) is
+  flag_again x b s p o is = flag_continuing origin VB (varies_is facts) KB x o ∙ ap (λ v. v || block_exits VB KB v x) is
 
   pub flag_next : (v : SwitchValue) (x : Body) (fall : Bool) (e : ℕ) (all cs : Cases) (b : Body) (p : At f.body (Then (Switch e all) b))
       (k : CasesIn all (Case v x fall cs)) (o now : Option UniformityDisruptor) → is_some o ≡ (F p || VB e) →
       is_some now ≡ case_flag VB KB (F p || VB e) k →
       Covers o now → is_some (case_disruptor o now fall (block_ends origin KB now x)) ≡ case_flag VB KB (F p || VB e) (after k)
   flag_next v x fall e all cs b p k o now is is_now le =
-      flag_entered origin VB (varies_is facts) infos x fall o now le
+      flag_entered origin VB (varies_is facts) KB x fall o now le
       ∙ (ap (λ w. w || (fall && (is_some now || block_exits VB KB (is_some now) x))) is
       ∙ ap (λ w. (F p || VB e) || (fall && (w || block_exits VB KB w x))) is_now)
 

@@ -12,8 +12,8 @@ use Rattle.shader_analysis_spec.specs.Needs.{Need, bit_of_need, has_need}
 use Rattle.shader_analysis_spec.specs.Program.{Function, Module, Simple, Emit, Step, Leaf, Nested, If}
 use Rattle.shader_analysis_spec.specs.Program.{Switch, Loop, Body, End, Then, Cases, NoCase, Case}
 use Rattle.shader_analysis_spec.specs.Steps.{StepExpressionNeed}
-use Rattle.shader_analysis_spec.specs.FlowPass.{case_flag, found}
-use Rattle.shader_analysis_spec.proofs.FindLemmas.{pass_finds_violations}
+use Rattle.shader_analysis_spec.proofs.Flags.{case_flag, found}
+use Rattle.shader_analysis_spec.proofs.FindLemmas.{flags_find_statements}
 use Rattle.shader_analysis_spec.proofs.FlowLemmas.{more_disrupted}
 use Rattle.shader_analysis_spec.proofs.JoinLemmas.{of_range, range_to}
 use Rattle.shader_analysis_spec.proofs.ListLemmas.{here, there}
@@ -212,7 +212,7 @@ module _ (m : Module) (infos : List FunctionInfo) (f : Function) (settings : Set
   found_where : (needs : Need → Bool) (e : ℕ) (d : Disruptor) → IsComputedViolation m infos f settings needs e d →
       IsTrue (found VB KB (emits_requiring facts) false f.body)
   found_where needs e d x =
-      (pass_finds_violations VB KB (emits_requiring facts) f.body).1 (
+      (flags_find_statements VB KB (emits_requiring facts) f.body).1 (
         Leaf (Emit x.start x.finish),
         x.left,
         x.at,
@@ -224,7 +224,7 @@ module _ (m : Module) (infos : List FunctionInfo) (f : Function) (settings : Set
   none_found : computed_violation m infos f ≡ None → IsTrue (found VB KB (emits_requiring facts) false f.body) → ⊥
   none_found none some =
       let is : is_some (computed_violation m infos f) ≡ found VB KB (emits_requiring facts) false f.body =
-      block_first origin VB (flow.varies_is facts) infos facts f.body None in
+      block_first origin VB (flow.varies_is facts) KB facts f.body None in
       let never : false ≡ found VB KB (emits_requiring facts) false f.body = sym (ap is_some none) ∙ is in
       absurd (cc)
 

@@ -4,9 +4,8 @@ use Rattle.std.specs.Option.{option_map}
 use Rattle.std.specs.List.{list_any}
 use Rattle.shader_arena.specs.Positions.{positions_between}
 use Rattle.shader_analysis_spec.specs.Program.{Step, Leaf, Emit, Kill, Call}
-use Rattle.shader_info.specs.declared.info.FunctionInfo.{FunctionInfo}
 use Rattle.shader_passes.specs.declared.facts.Fact.{Fact}
-use Rattle.shader_passes.specs.Ends.{requires_uniform_flow, is_killing}
+use Rattle.shader_passes.specs.Ends.{requires_uniform_flow}
 
 abbrev pub any_requires : List Fact → List ℕ → Bool
 any_requires facts es = list_any (requires_uniform_flow facts) es
@@ -21,9 +20,9 @@ emits_requiring facts (Leaf (Emit start finish)) = any_requires facts (positions
 emits_requiring facts _ = false
 
 -- the statement calls a function that kills
-abbrev pub calls_kill : List FunctionInfo → Step → Bool
-calls_kill infos (Leaf (Call c arguments result)) = is_killing infos c
-calls_kill infos _ = false
+abbrev pub calls_kill : (ℕ → Bool) → Step → Bool
+calls_kill is_killing (Leaf (Call c arguments result)) = is_killing c
+calls_kill is_killing _ = false
 
 -- the expression has an origin
 abbrev pub varies : List Fact → ℕ → Bool

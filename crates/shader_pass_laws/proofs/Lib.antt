@@ -1,5 +1,6 @@
 pub mod Arguments
 pub mod Counts
+pub mod DisruptorLemmas
 pub mod EndsLemmas
 mod Flow
 pub mod ResultLemmas

@@ -5,7 +5,7 @@ use Rattle.std.specs.List.{list_any}
 use Rattle.std.specs.Option.{option_and_then, option_map}
 use Rattle.shader_analysis_spec.specs.Program.{statements}
 use Rattle.shader_analysis_spec.specs.Steps.{StepKill}
-use Rattle.shader_analysis_spec.specs.FlowPass.{found}
+use Rattle.shader_analysis_spec.proofs.Flags.{found}
 use Rattle.shader_passes.specs.Results.{computed_facts, computed_kill, computed_needs, own_uses, computed_result, own_counts, computed_uses}
 use Rattle.shader_pass_laws.specs.OfTheStep.{ExpressionNeedsAreOfTheStep, KillsAreOfTheStep, NeedsAreOfTheStep}
 use Rattle.shader_pass_laws.specs.OfTheStep.{PairsAreOfTheStep, ResultsAreOfTheStep, UsesAreOfTheStep}
@@ -45,9 +45,9 @@ pub kills_of_the_step : KillsAreOfTheStep
 kills_of_the_step m infos f info same =
     let facts = computed_facts m infos f in
     let own : Bool = found (varies facts) (is_killing infos) is_kill false f.body in
-    let by_call : Bool = list_any (calls_kill infos) (statements f.body) in
+    let by_call : Bool = list_any (calls_kill (is_killing infos)) (statements f.body) in
     let is : computed_kill m infos f ≡ (own || by_call) =
-    block_kills (origin_at facts) (varies facts) (varies_is facts) infos f.body None in
+    block_kills (origin_at facts) (varies facts) (varies_is facts) (is_killing infos) f.body None in
     let P : Bool → Type 0 = λ v. IsTrue v ↔ StepKill (infos_of infos) f info in
     subst P (sym is) (step_kills infos f facts info same (statements f.body) own by_call refl refl refl)
 

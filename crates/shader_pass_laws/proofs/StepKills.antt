@@ -7,11 +7,11 @@ use Rattle.std.proofs.lemmas.Bool.{or_cases}
 use Rattle.std.proofs.lemmas.Option.{slice_get-map}
 use Rattle.shader_analysis_spec.specs.Program.{Function, Step, Leaf, Kill, Call, Body, Then, statements}
 use Rattle.shader_analysis_spec.specs.Flow.{At, Disrupted}
-use Rattle.shader_analysis_spec.specs.FlowPass.{found}
+use Rattle.shader_analysis_spec.proofs.Flags.{found}
 use Rattle.shader_analysis_spec.specs.Infos.{Info}
 use Rattle.shader_analysis_spec.specs.Steps.{Calls, StepKill, RecordsVaried, RecordsKills}
 use Rattle.shader_analysis_spec.specs.Steps as step
-use Rattle.shader_analysis_spec.proofs.FindLemmas.{pass_finds_violations}
+use Rattle.shader_analysis_spec.proofs.FindLemmas.{flags_find_statements}
 use Rattle.shader_analysis_spec.proofs.FlowLemmas.{more_disrupted}
 use Rattle.shader_passes.specs.declared.facts.Fact.{Fact}
 use Rattle.shader_info.specs.declared.info.FunctionInfo.{FunctionInfo}
@@ -100,23 +100,23 @@ module _ (infos : List FunctionInfo) (f : Function) (infos_here : List Fact) (in
       (r.0, subst P same r.1)) (λ c _ _ _ _ t. killing_to infos c t) _ p d)
   own_to s b p e d = absurd (cc)
 
-  call_to : (s : Step) → Contains (statements f.body) s → IsTrue (calls_kill infos s) → StepKill (infos_of infos) f info
+  call_to : (s : Step) → Contains (statements f.body) s → IsTrue (calls_kill K s) → StepKill (infos_of infos) f info
   call_to (Leaf (Call c arguments result)) h t =
       let k = killing_to infos c t in
       step.StepKill.callee (record { callee = c; result = result; holds = h; stored = k.1 }) k.2
   call_to s h t = absurd (cc)
 
-  kill_to : IsTrue (found V K is_kill false f.body || list_any (calls_kill infos) (statements f.body)) → StepKill (infos_of infos) f info
-  kill_to h = elim (or_cases (found V K is_kill false f.body) (list_any (calls_kill infos) (statements f.body)) h) [
-    | inl own ↦ let at = (pass_finds_violations V K is_kill f.body).0 own in own_to at.0 at.1 at.2 (is_kill_to at.0 at.3) at.4
-    | inr call ↦ let at = any_to (calls_kill infos) (statements f.body) call in call_to at.0 at.1 at.2
+  kill_to : IsTrue (found V K is_kill false f.body || list_any (calls_kill K) (statements f.body)) → StepKill (infos_of infos) f info
+  kill_to h = elim (or_cases (found V K is_kill false f.body) (list_any (calls_kill K) (statements f.body)) h) [
+    | inl own ↦ let at = (flags_find_statements V K is_kill f.body).0 own in own_to at.0 at.1 at.2 (is_kill_to at.0 at.3) at.4
+    | inr call ↦ let at = any_to (calls_kill K) (statements f.body) call in call_to at.0 at.1 at.2
   ]
 
   kill_from : StepKill (infos_of infos) f info → IsTrue (found V K is_kill false f.body
-      || list_any (calls_kill infos) (statements f.body))
+      || list_any (calls_kill K) (statements f.body))
   kill_from (step.StepKill.own {b = b} p d) =
-      or_left (found V K is_kill false f.body) (list_any (calls_kill infos) (statements f.body))
-      ((pass_finds_violations V K is_kill f.body).1 (
+      or_left (found V K is_kill false f.body) (list_any (calls_kill K) (statements f.body))
+      ((flags_find_statements V K is_kill f.body).1 (
         Leaf Kill,
         b,
         p,
@@ -125,13 +125,13 @@ module _ (infos : List FunctionInfo) (f : Function) (infos_here : List Fact) (in
             of_varied infos_here e t.0 (subst P (sym same) t.1)) (λ c _ _ _ _ t. of_killing infos c t) _ p d,
       ))
   kill_from (step.StepKill.callee {arguments = arguments} {i = i} call t) =
-      or_right (found V K is_kill false f.body) (list_any (calls_kill infos) (statements f.body))
-      (of_any (calls_kill infos) (statements f.body) (Leaf (Call call.callee arguments call.result)) call.holds
+      or_right (found V K is_kill false f.body) (list_any (calls_kill K) (statements f.body))
+      (of_any (calls_kill K) (statements f.body) (Leaf (Call call.callee arguments call.result)) call.holds
       (of_killing infos call.callee (i, call.stored, t)))
 
   pub step_kills : (all : List Step) (own called : Bool) → all ≡ statements f.body → own ≡ (false || found V K is_kill false f.body) →
-      called ≡ list_any (calls_kill infos) all → IsTrue (own || called) ↔ StepKill (infos_of infos) f info
+      called ≡ list_any (calls_kill K) all → IsTrue (own || called) ↔ StepKill (infos_of infos) f info
   step_kills all own called e a b =
-      let here : called ≡ list_any (calls_kill infos) (statements f.body) = b ∙ ap (list_any (calls_kill infos)) e in
-      let whole : (own || called) ≡ (found V K is_kill false f.body || list_any (calls_kill infos) (statements f.body)) = cc in
+      let here : called ≡ list_any (calls_kill K) (statements f.body) = b ∙ ap (list_any (calls_kill K)) e in
+      let whole : (own || called) ≡ (found V K is_kill false f.body || list_any (calls_kill K) (statements f.body)) = cc in
       (λ h. kill_to (sym whole ∙ h), λ h. whole ∙ kill_from h)

@@ -1,3 +1,4 @@
+pub mod FlowLaws
 pub mod OfTheStep
 pub mod PairsFit
 pub mod Refused

@@ -3,4 +3,5 @@
 #![tactic(auto)]
 
 pub mod faults;
+pub mod flow;
 pub mod steps;

@@ -25,7 +25,6 @@ pub use Rattle.shader_analysis_spec.specs.FaultLaws
 pub use Rattle.shader_analysis_spec.specs.Faults
 pub use Rattle.shader_analysis_spec.specs.Filters
 pub use Rattle.shader_analysis_spec.specs.Flow
-pub use Rattle.shader_analysis_spec.specs.FlowPass
 pub use Rattle.shader_analysis_spec.specs.Infos
 pub use Rattle.shader_analysis_spec.specs.Kills
 pub use Rattle.shader_analysis_spec.specs.Needs

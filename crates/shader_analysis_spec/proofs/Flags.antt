@@ -1,4 +1,4 @@
--- Disruption decided by one recursion, as the analysis computes it for one function.
+-- Flags that decide disruption by one recursion. No code computes them: the pass over the blocks has a disruptor in place of each flag.
 use Rattle.std.specs.Prelude.{ℕ, Bool, false, ◌&&◌, ◌||◌, IsTrue, ◌↔◌}
 use Rattle.shader_analysis_spec.specs.Program.{Step, Leaf, Simple, Nested, If, Switch, Loop, Return}
 use Rattle.shader_analysis_spec.specs.Program.{Kill, Call, Body, End, Then, Cases, NoCase, Case}
@@ -50,9 +50,9 @@ module _ (varies is_killing : ℕ → Bool) where
   flag (rest {s = s} p) = flag p || step_exits (flag p) s
   flag (inside p child) = child_flag (flag p) child
 
--- the recursion decides the least relations
-abbrev pub PassIsLeast : Type 0
-PassIsLeast = (varies is_killing : ℕ → Bool) (root : Body) →
+-- the flags decide the least relations
+abbrev pub FlagsAreLeast : Type 0
+FlagsAreLeast = (varies is_killing : ℕ → Bool) (root : Body) →
     ((b : Body) (p : At root b) → IsTrue (flag varies is_killing p)
     ↔ Disrupted (λ e. IsTrue (varies e)) (λ c. IsTrue (is_killing c)) root b p)
     × ((s : Step) (b : Body) (p : At root (Then s b)) →
@@ -78,8 +78,8 @@ module _ (varies is_killing : ℕ → Bool) (bad : Step → Bool) where
     found_in_cases d d' (Case v x fall cs) = found d' x || found_in_cases d (d || (fall && (d' || block_exits varies is_killing d' x))) cs
 
 -- the recursion detects a bad statement exactly if there is a disrupted one
-abbrev pub PassFindsViolations : Type 0
-PassFindsViolations = (varies is_killing : ℕ → Bool) (bad : Step → Bool) (root : Body) →
+abbrev pub FlagsFindStatements : Type 0
+FlagsFindStatements = (varies is_killing : ℕ → Bool) (bad : Step → Bool) (root : Body) →
     IsTrue (found varies is_killing bad false root) ↔
     ((s : Step) × (b : Body) × (p : At root (Then s b)) × IsTrue (bad s) ×
     Disrupted (λ e. IsTrue (varies e)) (λ c. IsTrue (is_killing c)) root _ p)
