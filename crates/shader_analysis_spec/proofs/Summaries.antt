@@ -2,7 +2,8 @@
 use Rattle.std.proofs.Common.{List}
 use Rattle.shader_analysis_spec.specs.Program.{Function, Module}
 use Rattle.shader_analysis_spec.specs.Infos.{Info, EachNamed}
-use Rattle.shader_analysis_spec.specs.Exact.{IsExact, StepIsExact, SummariesEqualCallPaths}
+use Rattle.shader_analysis_spec.specs.Exact.{IsExact}
+use Rattle.shader_analysis_spec.specs.ExactLaws.{StepIsExact, SummariesEqualCallPaths}
 use Rattle.shader_analysis_spec.proofs.Order.{by_order}
 use Rattle.shader_analysis_spec.proofs.UsesLemmas.{HasUses, exact_uses}
 use Rattle.shader_analysis_spec.proofs.PairsLemmas.{HasPairs, exact_pairs}

@@ -1,4 +1,4 @@
--- Soundness and completeness of the recorded infos for the interprocedural definitions.
+-- Infos that record exactly what the interprocedural definitions say.
 use Rattle.std.specs.Prelude.{◌≡◌, ℕ, List, [], Option, Some, slice_get, length, ◌↔◌, ◌<◌, IsTrue, slice_index}
 use Rattle.std.specs.Int.{IsBitSet}
 use Rattle.std.specs.List.{Contains}
@@ -8,12 +8,11 @@ use Rattle.shader_resolve.specs.Context.{context_of}
 use Rattle.shader_analysis_spec.specs.Program.{Function, Module}
 use Rattle.shader_analysis_spec.specs.Counts.{count_of}
 use Rattle.shader_analysis_spec.specs.Derivable.{AreTypes, function_context}
-use Rattle.shader_analysis_spec.specs.Infos.{Info, HasTables, Use, RecordsUse, Resource, Picks, EachNamed, IsOrdered, Pairwise}
+use Rattle.shader_analysis_spec.specs.Infos.{Info, HasTables, Use, RecordsUse, Resource, Picks, Pairwise}
 use Rattle.shader_analysis_spec.specs.Kills.{Kills}
 use Rattle.shader_analysis_spec.specs.Needs.{Need, bit_of_need, Needs, ExpressionNeeds}
 use Rattle.shader_analysis_spec.specs.Origins.{Origin, ResultOrigin}
 use Rattle.shader_analysis_spec.specs.Pairs.{IsPair}
-use Rattle.shader_analysis_spec.specs.Steps.{MeetsSteps}
 use Rattle.shader_analysis_spec.specs.Uses.{Uses}
 
 pub record IsExact (m : Module) (f : Function) (info : Info) : Type 0 where
@@ -29,16 +28,6 @@ pub record IsExact (m : Module) (f : Function) (info : Info) : Type 0 where
   pub expression_needs : (n : Need) (e : ℕ) → e < length f.expressions →
       IsBitSet (slice_index info.expression_needs e) (bit_of_need n) ↔ ExpressionNeeds m n f e
   pub needs : (n : Need) → IsBitSet info.needs (bit_of_need n) ↔ Needs m n f
-
--- one step: if the infos of the functions that f names are exact and f's info meets the step equations, f's info is exact
-abbrev pub StepIsExact : Type 0
-StepIsExact = (m : Module) (infos : List Info) (f : Function) (info : Info) →
-    EachNamed (IsExact m) m infos f → MeetsSteps m infos f info → IsExact m f info
-
--- the whole: infos that meet the step equations of functions that name only earlier ones are exact
-abbrev pub SummariesEqualCallPaths : Type 0
-SummariesEqualCallPaths = (m : Module) (infos : List Info) → length m.functions ≡ length infos →
-    IsOrdered m → Pairwise (MeetsSteps m infos) m infos → Pairwise (IsExact m) m infos
 
 -- the record of a whole module: the types of its global expressions, and exact infos of its functions and entry points, in order
 pub record IsExactModule (m : Module) (global_types : List TypeResolution) (functions entry_points : List Info) : Type 0 where

@@ -5,6 +5,7 @@ pub mod Derivable
 pub mod Disruption
 pub mod Earlier
 pub mod Exact
+pub mod ExactLaws
 pub mod FaultLaws
 pub mod Faults
 pub mod Filters

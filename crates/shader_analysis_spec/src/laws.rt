@@ -5,7 +5,7 @@ ghost use Rattle.shader_analysis_spec.specs.Disruption.{
   DisruptionMeansDivergence,
   InfosDecide,
 };
-ghost use Rattle.shader_analysis_spec.specs.Exact.{StepIsExact, SummariesEqualCallPaths};
+ghost use Rattle.shader_analysis_spec.specs.ExactLaws.{StepIsExact, SummariesEqualCallPaths};
 ghost use Rattle.shader_analysis_spec.specs.Earlier.{WellFormedModulesPointBackwards};
 ghost use Rattle.shader_analysis_spec.specs.FaultLaws.{DerivedTypesHaveKeys, FaultsAgree, SeveritiesAreUnique, TypesAreUnique};
 ghost use Rattle.shader_analysis_spec.specs.Stored.{EntryIsExact, NextIsExact, OperandsGiveOrigins};
@@ -33,8 +33,8 @@ pub fn entry_is_exact()
     ensures { EntryIsExact }
 {}
 
-/// States that the faults computed from exact infos of the callees are the faults by the interprocedural definitions: none is spurious and
-/// none is missed.
+/// States that each fault by exact infos of the callees is a fault by the interprocedural definitions, and that for each of those there is
+/// one by the infos, which differs at most in the source that it names for disrupted flow.
 pub fn faults_agree()
     ensures { FaultsAgree }
 {}

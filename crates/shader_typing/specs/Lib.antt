@@ -21,6 +21,7 @@ pub use Rattle.shader_analysis_spec.specs.Derivable
 pub use Rattle.shader_analysis_spec.specs.Disruption
 pub use Rattle.shader_analysis_spec.specs.Earlier
 pub use Rattle.shader_analysis_spec.specs.Exact
+pub use Rattle.shader_analysis_spec.specs.ExactLaws
 pub use Rattle.shader_analysis_spec.specs.FaultLaws
 pub use Rattle.shader_analysis_spec.specs.Faults
 pub use Rattle.shader_analysis_spec.specs.Filters
