@@ -283,7 +283,7 @@ impl Pairs {
 
     /// Adds the pairs of the functions that the statements call.
     #[tactic(auto, using(crate::proofs::PairLemmas::gains))]
-    pub fn add_all_callee_pairs(
+    fn add_all_callee_pairs(
         &mut self,
         infos: &[FunctionInfo],
         function: &Function,
@@ -324,7 +324,7 @@ impl Pairs {
 
     /// Adds the pairs that the function's expressions sample.
     #[tactic(auto, using(crate::proofs::PairLemmas::gains))]
-    pub fn sample_all(&mut self, function: &Function) -> Result<(), AllocError>
+    fn sample_all(&mut self, function: &Function) -> Result<(), AllocError>
         ensures members { OnOk result (SameMembers (pairs_of self.new)
             (flat_map (sampled_resources function.now) function.now.expressions ++ pairs_of self.old)) }
         ensures missing_resource { OnOk result (self.new.missing_resource ≡ fold (sample_missed function.now) self.old.missing_resource
