@@ -20,7 +20,7 @@ bit_of_need Derivative = 1
 bit_of_need ImplicitLevel = 2
 bit_of_need CooperativeOperation = 3
 
--- whether the number has the bit of the need
+-- true if the number has the bit of the need
 abbrev pub has_need : ℕ → Need → Bool
 has_need number n = bit_at number (bit_of_need n) == 1
 

@@ -94,7 +94,7 @@ pub struct FunctionInfo {
     pub available_stages: ShaderStages,
     /// The uniformity of the function's result, and the requirements of its body.
     pub uniformity: Uniformity,
-    /// Whether the function may end an invocation in control flow that others of its group don't take.
+    /// True if the function may end an invocation in control flow that others of its group don't take.
     pub may_kill: bool,
     /// The pairs of an image and a sampler that are both global variables.
     pub sampling_set: HashSet<SamplingKey>,
