@@ -8,7 +8,7 @@ use Rattle.std.proofs.lemmas.Option.{get_or_from_slice_get, slice_get-map, slice
 use Rattle.shader_analysis_spec.specs.Exact.{IsExact, IsExactModule}
 use Rattle.shader_analysis_spec.specs.Faults.{BindingArrayElement, Cause, CountFull, IsAccepted, IsFirstFault, MissingCapability}
 use Rattle.shader_analysis_spec.specs.Faults.{NoResource, NonUniformControlFlow, Settings, Untyped}
-use Rattle.shader_analysis_spec.specs.Infos.{Picks, bit_of}
+use Rattle.shader_analysis_spec.specs.Infos.{IsWitness, bit_of}
 use Rattle.shader_analysis_spec.specs.Needs.{has_need}
 use Rattle.shader_analysis_spec.specs.Origins.{ResultOrigin}
 use Rattle.shader_analysis_spec.specs.Program.{Function, Module}
@@ -64,7 +64,7 @@ counts_are : (m : Module) (f : Function) (info : FunctionInfo) → IsExact m f (
     AreCounts f (map (λ e. e.ref_count) info.expressions)
 counts_are m f info exact = record { each = exact.tables.counts; exact = exact.counts }
 
-varies_are : (m : Module) (f : Function) (o : Option ℕ) → Picks (λ h. (r : Function) × ResultOrigin m f r h) o →
+varies_are : (m : Module) (f : Function) (o : Option ℕ) → IsWitness (λ h. (r : Function) × ResultOrigin m f r h) o →
     IsTrue (is_some o) ↔ Varies m f
 varies_are m f (Some h) picked = (λ _. (picked.0, h, picked.1), λ _. refl)
 varies_are m f None picked = (λ e. cc, λ v. absurd (picked v.1 (v.0, v.2)))

@@ -11,7 +11,7 @@ use Rattle.shader_analysis_spec.specs.Derivable.{AreTypes, function_context}
 use Rattle.shader_analysis_spec.specs.Faults.{BindingArrayElement, Cause, CountFull, Disruptor, MissingCapability}
 use Rattle.shader_analysis_spec.specs.Faults.{NoResource, NonUniformControlFlow, Settings, Untyped}
 use Rattle.shader_analysis_spec.specs.StepFaults.{StepFault}
-use Rattle.shader_analysis_spec.specs.Infos.{Info, Picks}
+use Rattle.shader_analysis_spec.specs.Infos.{Info, IsWitness}
 use Rattle.shader_analysis_spec.specs.Needs.{Need, bit_of_need}
 use Rattle.shader_analysis_spec.specs.Program.{Expression, Function, Module}
 use Rattle.shader_analysis_spec.specs.Steps.{MeetsSteps, StepExpressionNeed, StepKill, StepNeed, StepResult}
@@ -101,7 +101,7 @@ module _ (m : Module) (infos : List FunctionInfo) (f : Function) (on : IsAnalyza
     uses = is.uses.0;
     pairs = pairs_of_the_step infos f (info_pairs info) is.pairs;
     origins = λ e o is_there. origins_of_the_step m infos f on.operands e o (ap (λ v. slice_get v e) (sym is.origins) ∙ is_there);
-    result = let P : Option ℕ → Type 0 = λ v. Picks (StepResult m (infos_of infos) f) v in
+    result = let P : Option ℕ → Type 0 = λ v. IsWitness (StepResult m (infos_of infos) f) v in
         subst P (sym is.result) (results_of_the_step m infos f on.operands);
     kills =
         let P : Bool → Type 0 = λ v. IsTrue v ↔ StepKill (infos_of infos) f (info_of info) in

@@ -7,7 +7,7 @@ use Rattle.shader_analysis_spec.specs.Exact.{IsExact}
 use Rattle.shader_analysis_spec.specs.FaultLaws.{AreAlikeButForSource, are_same, of_sources, FaultsAgree}
 use Rattle.shader_analysis_spec.specs.Faults.{Settings, Cause, NonUniformControlFlow, Disruptor, Source, EarlierReturn, EarlierDiscard}
 use Rattle.shader_analysis_spec.specs.Faults.{PassesArgument}
-use Rattle.shader_analysis_spec.specs.Faults.{Around, branch, deeper, later, MayDisrupt, a_source, a_return, a_kill, a_call, HasFault}
+use Rattle.shader_analysis_spec.specs.Faults.{IsEnclosedBy, branch, deeper, later, MayDisrupt, a_source, a_return, a_kill, a_call, HasFault}
 use Rattle.shader_analysis_spec.specs.Faults.{untyped}
 use Rattle.shader_analysis_spec.specs.Faults.{no_capability, bad_element, no_image_resource, no_sampler_resource, no_image_passed}
 use Rattle.shader_analysis_spec.specs.Faults.{no_sampler_passed}
@@ -50,7 +50,7 @@ module _ (O O' : ℕ → ℕ → Type 0) (K K' : ℕ → Type 0) (N N' : Need �
   disrupted = more_disrupted V V' K K' f.body to_v (λ c arguments result b p k. to_k c arguments result
       (occurs_within f.body (Leaf (Call c arguments result)) b p) k)
 
-  around : (h : ℕ) (b : Body) (p : At f.body b) → Around O h f.body b p → (k : ℕ) × S h k × Around O' k f.body b p
+  around : (h : ℕ) (b : Body) (p : At f.body b) → IsEnclosedBy O h f.body b p → (k : ℕ) × S h k × IsEnclosedBy O' k f.body b p
   around h _ _ (branch {e = e} p o is) = let (k, s, is') = to_o e h is in (k, s, branch p o is')
   around h _ _ (deeper a) = let (k, s, a') = around h _ _ a in (k, s, deeper a')
   around h _ _ (later a) = let (k, s, a') = around h _ _ a in (k, s, later a')

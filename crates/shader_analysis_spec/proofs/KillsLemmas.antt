@@ -4,8 +4,8 @@ use Rattle.std.specs.List.{slice_get}
 use Rattle.std.proofs.lemmas.Option.{same_Some, slice_get_within, slice_get-get_or}
 use Rattle.shader_analysis_spec.specs.Program.{Function, Module, Leaf, Call}
 use Rattle.shader_analysis_spec.specs.Calls.{here, via, CallsTo}
-use Rattle.shader_analysis_spec.specs.Infos.{Info, EachNamed, Picks, by_call}
-use Rattle.shader_analysis_spec.specs.Origins.{Origin, source, result, Leads, itself, through, IsSource}
+use Rattle.shader_analysis_spec.specs.Infos.{Info, EachNamed, IsWitness, by_call}
+use Rattle.shader_analysis_spec.specs.Origins.{Origin, source, result, DependsOn, itself, through, IsSource}
 use Rattle.shader_analysis_spec.specs.Kills.{Counts, Kills, kills, HasOrigin}
 use Rattle.shader_analysis_spec.specs.Steps.{StepKill, own, callee, RecordsVaried, RecordsKills}
 use Rattle.shader_analysis_spec.proofs.Order.{info_of_call, call_of_info}
@@ -26,7 +26,7 @@ recorded (Some info) = info.may_kill
 source_within : (m : Module) (f : Function) (h : ℕ) → IsSource m f h → h < length f.expressions
 source_within m f h is = slice_get_within f.expressions h is.expression is.is_there
 
-leads_within : (f : Function) (e h : ℕ) → Leads f e h → h < length f.expressions → e < length f.expressions
+leads_within : (f : Function) (e h : ℕ) → DependsOn f e h → h < length f.expressions → e < length f.expressions
 leads_within f e h itself within = within
 leads_within f e h (through s _ _) within = slice_get_within f.expressions e _ s
 
@@ -36,7 +36,7 @@ origin_within m f e r h (result {k = k} leads s _ _) = leads_within f e k leads 
 
 module _ (m : Module) (infos : List Info) (f : Function) (named : EachNamed (HasKills m) m infos f) (info : Info)
     (complete : length info.non_uniform ≡ length f.expressions)
-    (origins : (e : ℕ) (o : Option ℕ) → slice_get info.non_uniform e ≡ Some o → Picks (λ h. (r : Function) × Origin m f e r h) o) where
+    (origins : (e : ℕ) (o : Option ℕ) → slice_get info.non_uniform e ≡ Some o → IsWitness (λ h. (r : Function) × Origin m f e r h) o) where
   to_origin : (e : ℕ) → RecordsVaried info e → HasOrigin m f e
   to_origin e (h, is) = let (r, o) = origins e (Some h) is in (r, h, o)
 

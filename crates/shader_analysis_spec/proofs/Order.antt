@@ -5,7 +5,7 @@ use Rattle.std.proofs.lemmas.Option.{slice_get_within, slice_get-get_or, same_So
 use Rattle.shader_analysis_spec.specs.Program.{Function, Module}
 use Rattle.shader_analysis_spec.specs.Calls.{CallsTo}
 use Rattle.shader_analysis_spec.specs.Infos.{Info, by_call, EachNamed, IsOrdered, Pairwise}
-use Rattle.shader_analysis_spec.specs.Steps.{Calls}
+use Rattle.shader_analysis_spec.specs.Steps.{CalleeInfo}
 
 module _ (P : Function → Info → Type 0) (m : Module) (infos : List Info) (same : length m.functions ≡ length infos) (ordered : IsOrdered m)
     (step : (f : Function) (info : Info) → ((i : ℕ) × (slice_get m.functions i ≡ Some f) × (slice_get infos i ≡ Some info)) →
@@ -27,13 +27,13 @@ module _ (P : Function → Info → Type 0) (m : Module) (infos : List Info) (sa
 
 -- a call of f in the module gives one in the infos, and conversely
 module _ (P : Function → Info → Type 0) (m : Module) (infos : List Info) (f : Function) (named : EachNamed P m infos f) where
-  pub info_of_call : (r : Function) → (call : CallsTo m f r) → (info : Info) × Calls infos f call.arguments info × P r info
+  pub info_of_call : (r : Function) → (call : CallsTo m f r) → (info : Info) × CalleeInfo infos f call.arguments info × P r info
   info_of_call r call =
       let (r', info, is_r, is_info, p) = named call.callee (by_call call.holds) in
       let e : r' ≡ r = same_Some r' r (sym is_r ∙ call.calls) in
       (info, record { callee = call.callee; result = call.result; holds = call.holds; stored = is_info }, subst (λ x. P x info) e p)
 
-  pub call_of_info : {arguments : List ℕ} {info : Info} → Calls infos f arguments info →
+  pub call_of_info : {arguments : List ℕ} {info : Info} → CalleeInfo infos f arguments info →
       (r : Function) × (call : CallsTo m f r) × (call.arguments ≡ arguments) × P r info
   call_of_info {arguments} {info} call =
       let (r, info', is_r, is_info, p) = named call.callee (by_call call.holds) in

@@ -2,7 +2,7 @@
 use Rattle.std.proofs.Common.{ℕ, Bool, true}
 use Rattle.shader_ir.specs.declared.statement.SwitchValue.{SwitchValue}
 use Rattle.shader_analysis_spec.specs.Program.{Function, Module, Step, Leaf, Switch, Call, Body, Then, Cases, Case}
-use Rattle.shader_analysis_spec.specs.Faults.{Settings, Disruptor, Source, EarlierReturn, EarlierDiscard, Around}
+use Rattle.shader_analysis_spec.specs.Faults.{Settings, Disruptor, Source, EarlierReturn, EarlierDiscard, IsEnclosedBy}
 use Rattle.shader_analysis_spec.specs.Faults.{branch, deeper, MayDisrupt, a_source, a_return, a_kill, a_call}
 use Rattle.shader_analysis_spec.specs.Faults as faults
 use Rattle.shader_analysis_spec.specs.Flow.{At, rest, inside, case_of, CasesIn, after, selects, Disrupted, Exits}
@@ -24,7 +24,8 @@ module _ (O : ℕ → ℕ → Type 0) (K : ℕ → Type 0) (N : Need → ℕ →
   Reason b p = (d : Disruptor) × Disrupts b p d
 
   -- a disruptor at one path point is one at another if a source around the first is around the other
-  moved : (b c : Body) (p : At f.body b) (q : At f.body c) → ((h : ℕ) → Around O h f.body b p → Around O h f.body c q) → (d : Disruptor) →
+  moved : (b c : Body) (p : At f.body b) (q : At f.body c) →
+      ((h : ℕ) → IsEnclosedBy O h f.body b p → IsEnclosedBy O h f.body c q) → (d : Disruptor) →
       Disrupts b p d → Disrupts c q d
   moved b c p q around _ (a_source a) = a_source (around _ a)
   moved b c p q around _ (a_return r d) = a_return r d
@@ -32,8 +33,8 @@ module _ (O : ℕ → ℕ → Type 0) (K : ℕ → Type 0) (N : Need → ℕ →
   moved b c p q around _ (a_call holds k) = a_call holds k
 
   next_case : (h e : ℕ) (all cs : Cases) (t u : SwitchValue) (b x y : Body) (fall : Bool) (p : At f.body (Then (Switch e all) b))
-      (k : CasesIn all (Case t x true (Case u y fall cs))) → Around O h f.body x (inside p (case_of k)) →
-      Around O h f.body y (inside p (case_of (after k)))
+      (k : CasesIn all (Case t x true (Case u y fall cs))) → IsEnclosedBy O h f.body x (inside p (case_of k)) →
+      IsEnclosedBy O h f.body y (inside p (case_of (after k)))
   next_case h e all cs t u b x y fall p k (branch _ (selects _) is) = branch p (selects (after k)) is
   next_case h e all cs t u b x y fall p k (deeper a) = deeper a
 

@@ -20,7 +20,7 @@ use Rattle.shader_analysis_spec.specs.Pairs.{resource, samples, back, IsPair}
 use Rattle.shader_analysis_spec.specs.Samples.{named, stored, NamedIsQueried, taking, shared, ArgumentsVary, branching}
 use Rattle.shader_analysis_spec.specs.Samples.{BranchesKill, differentiating, EmittedIsNeeded, sampling, PairsAreLedBack}
 use Rattle.shader_analysis_spec.specs.Samples.{returning, point_of_emit, FallThroughDisrupts}
-use Rattle.shader_analysis_spec.specs.Uses.{Uses, directly, by_name, UsesDirectly, puts}
+use Rattle.shader_analysis_spec.specs.Uses.{Uses, directly, by_name, UsesDirectly, adds_use}
 use Rattle.shader_analysis_spec.proofs.FindLemmas.{flags_find_statements}
 use Rattle.shader_analysis_spec.proofs.FlowLemmas.{more_disrupted}
 use Rattle.shader_analysis_spec.proofs.ListLemmas.{nowhere, here as first_of, cases}
@@ -69,7 +69,7 @@ stored_writes = record {
 }
 
 not_queried : (g : ℕ) → UsesDirectly stored g Queries → ⊥
-not_queried g d = either (λ (o : ℕ × Label). IsTrue (puts o.1 Queries) →
+not_queried g d = either (λ (o : ℕ × Label). IsTrue (adds_use o.1 Queries) →
     ⊥) (0, label.Write) (1, label.Read) d.occurrence d.occurs (λ h. absurd (cc)) (λ h. absurd (cc)) d.label
 
 stored_not_queried : (m : Module) → Uses m stored 0 Queries → ⊥

@@ -4,15 +4,15 @@ use Rattle.std.proofs.Common.{◌++◌, Option, Some, None, length, get_or, ◌�
 use Rattle.std.specs.List.{Contains, slice_get}
 use Rattle.std.proofs.lemmas.Option.{slice_get_within, slice_get-get_or, same_Some}
 use Rattle.shader_analysis_spec.specs.Program.{Function, Module, Expression, Label, expression_operands, IsExpressionAt}
-use Rattle.shader_analysis_spec.specs.Infos.{Info, Picks, Mentions, EachNamed, Pairwise}
-use Rattle.shader_analysis_spec.specs.Origins.{Leads, itself, through}
+use Rattle.shader_analysis_spec.specs.Infos.{Info, IsWitness, HasCallee, EachNamed, Pairwise}
+use Rattle.shader_analysis_spec.specs.Origins.{DependsOn, itself, through}
 use Rattle.shader_analysis_spec.specs.Steps.{StepOrigin}
 use Rattle.shader_analysis_spec.specs.Steps
 use Rattle.shader_analysis_spec.specs.Exact.{IsExact}
 use Rattle.shader_analysis_spec.specs.Stored
 use Rattle.shader_analysis_spec.specs.Stored.{NextIsExact, EntryIsExact, StepOperand, OperandsGiveOrigins}
 use Rattle.shader_analysis_spec.proofs.Summaries.{step_is_exact}
-use Rattle.shader_analysis_spec.proofs.OriginsLemmas.{Picks-same, Picks-some}
+use Rattle.shader_analysis_spec.proofs.OriginsLemmas.{IsWitness-same, IsWitness-some}
 
 -- an element of a list with one more element is one of the list's or the last
 get_last : {A : Type 0} (xs : List A) (y : A) (i : ℕ) (x : A) → slice_get (xs ++ y ∷ []) i ≡ Some x →
@@ -23,7 +23,7 @@ get_last (z ∷ xs) y zero x e = inl e
 get_last (z ∷ xs) y (suc i) x e = elim (get_last xs y i x e) [ inl h ↦ inl h | inr h ↦ inr (ap suc h.0, h.1) ]
 
 pub named_within : (m : Module) (stored : List Info) (f : Function) →
-    ((c : ℕ) → Mentions f c → (c < length stored) × (c < length m.functions)) →
+    ((c : ℕ) → HasCallee f c → (c < length stored) × (c < length m.functions)) →
     Pairwise (IsExact m) m stored → EachNamed (IsExact m) m stored f
 named_within m stored f within exact c mention =
     let (a, b) = within c mention in
@@ -51,15 +51,15 @@ entry_is_exact m stored f info same within exact steps =
 
 module _ (m : Module) (infos : List Info) (f : Function) (recorded : List (Option ℕ)) (complete : length recorded ≡ length f.expressions)
     (earlier : (e : ℕ) (x : Expression) (o : ℕ × Label) → IsExpressionAt f e x → Contains (expression_operands x) o → o.0 < e)
-    (step : (e : ℕ) (r : Option ℕ) → slice_get recorded e ≡ Some r → Picks (StepOperand m infos f recorded e) r) where
+    (step : (e : ℕ) (r : Option ℕ) → slice_get recorded e ≡ Some r → IsWitness (StepOperand m infos f recorded e) r) where
   abbrev Good : ℕ → Type 0
-  Good e = (r : Option ℕ) → slice_get recorded e ≡ Some r → Picks (StepOrigin m infos f e) r
+  Good e = (r : Option ℕ) → slice_get recorded e ≡ Some r → IsWitness (StepOrigin m infos f e) r
 
   longer : (e o h : ℕ) (x : Expression) (c : ℕ × Label) → IsExpressionAt f e x → Contains (expression_operands x) c → c.0 ≡ o →
       StepOrigin m infos f o h → StepOrigin m infos f e h
-  longer e o h x c s k is (Steps.own leads source) = Steps.own (through s k (subst (λ i. Leads f i h) (sym is) leads)) source
+  longer e o h x c s k is (Steps.own leads source) = Steps.own (through s k (subst (λ i. DependsOn f i h) (sym is) leads)) source
   longer e o h x c s k is (Steps.callee {k = u} leads is_there stored res) =
-      Steps.callee (through s k (subst (λ i. Leads f i u) (sym is) leads)) is_there stored res
+      Steps.callee (through s k (subst (λ i. DependsOn f i u) (sym is) leads)) is_there stored res
 
   module _ (e : ℕ) (below : (o : ℕ) → o < e → Good o) where
     to_origin : (h : ℕ) → StepOperand m infos f recorded e h → StepOrigin m infos f e h
@@ -75,7 +75,7 @@ module _ (m : Module) (infos : List Info) (f : Function) (recorded : List (Optio
         let lt = earlier e x o s k in
         let within = slice_get_within f.expressions e x s in
         let is = slice_get-get_or recorded o.0 None (omega arith) in
-        let (j, some) = Picks-some (StepOrigin m infos f o.0) (get_or recorded o.0 None) h origin (below o.0 lt _ is) in
+        let (j, some) = IsWitness-some (StepOrigin m infos f o.0) (get_or recorded o.0 None) h origin (below o.0 lt _ is) in
         (j, Stored.operand s k (is ∙ ap Some some))
 
     of_origin : (h : ℕ) → StepOrigin m infos f e h → (k : ℕ) × StepOperand m infos f recorded e k
@@ -86,7 +86,7 @@ module _ (m : Module) (infos : List Info) (f : Function) (recorded : List (Optio
         operand_has h x o s k (Steps.callee leads is_there stored res)
 
     good : Good e
-    good r is = Picks-same (StepOperand m infos f recorded e) (StepOrigin m infos f e) r to_origin of_origin (step e r is)
+    good r is = IsWitness-same (StepOperand m infos f recorded e) (StepOrigin m infos f e) r to_origin of_origin (step e r is)
 
   all_good : (n e : ℕ) → e < n → Good e
   all_good zero e lt = absurd (omega arith)

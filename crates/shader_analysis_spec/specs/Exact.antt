@@ -8,7 +8,7 @@ use Rattle.shader_resolve.specs.Context.{context_of}
 use Rattle.shader_analysis_spec.specs.Program.{Function, Module}
 use Rattle.shader_analysis_spec.specs.Counts.{count_of}
 use Rattle.shader_analysis_spec.specs.Derivable.{AreTypes, function_context}
-use Rattle.shader_analysis_spec.specs.Infos.{Info, HasTables, Use, RecordsUse, Resource, Picks, Pairwise}
+use Rattle.shader_analysis_spec.specs.Infos.{Info, HasTables, Use, RecordsUse, Resource, IsWitness, Pairwise}
 use Rattle.shader_analysis_spec.specs.Kills.{Kills}
 use Rattle.shader_analysis_spec.specs.Needs.{Need, bit_of_need, Needs, ExpressionNeeds}
 use Rattle.shader_analysis_spec.specs.Origins.{Origin, ResultOrigin}
@@ -22,8 +22,8 @@ pub record IsExact (m : Module) (f : Function) (info : Info) : Type 0 where
   pub uses : (g : ℕ) (u : Use) → RecordsUse info g u ↔ Uses m f g u
   pub pairs : (image sampler : Resource) → Contains info.pairs (image, sampler) ↔ IsPair m f image sampler
   pub origins : (e : ℕ) (o : Option ℕ) → slice_get info.non_uniform e ≡ Some o →
-      Picks (λ h. (r : Function) × Origin m f e r h) o
-  pub result : Picks (λ h. (r : Function) × ResultOrigin m f r h) info.non_uniform_result
+      IsWitness (λ h. (r : Function) × Origin m f e r h) o
+  pub result : IsWitness (λ h. (r : Function) × ResultOrigin m f r h) info.non_uniform_result
   pub kills : IsTrue info.may_kill ↔ Kills m f
   pub expression_needs : (n : Need) (e : ℕ) → e < length f.expressions →
       IsBitSet (slice_index info.expression_needs e) (bit_of_need n) ↔ ExpressionNeeds m n f e

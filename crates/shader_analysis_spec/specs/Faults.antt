@@ -76,12 +76,12 @@ pub record IndexesBindings (m : Module) (f : Function) (e index element : ℕ) :
   pub is : inner_of m.types resolution ≡ Some (type.BindingArray element size)
 
 -- the path point is inside an If or a Switch on an expression with origin h
-pub data Around (OriginOf : ℕ → ℕ → Type 0) (h : ℕ) (root : Body) : (b : Body) → At root b → Type 0 where
+pub data IsEnclosedBy (OriginOf : ℕ → ℕ → Type 0) (h : ℕ) (root : Body) : (b : Body) → At root b → Type 0 where
   branch : {s : Step} {b x : Body} {e : ℕ} (p : At root (Then s b)) {child : Child s x} → BranchOn e s x child → OriginOf e h →
-      Around OriginOf h root _ (inside p child)
-  deeper : {s : Step} {b x : Body} {p : At root (Then s b)} {child : Child s x} → Around OriginOf h root _ p →
-      Around OriginOf h root _ (inside p child)
-  later : {s : Step} {b : Body} {p : At root (Then s b)} → Around OriginOf h root _ p → Around OriginOf h root _ (rest p)
+      IsEnclosedBy OriginOf h root _ (inside p child)
+  deeper : {s : Step} {b x : Body} {p : At root (Then s b)} {child : Child s x} → IsEnclosedBy OriginOf h root _ p →
+      IsEnclosedBy OriginOf h root _ (inside p child)
+  later : {s : Step} {b : Body} {p : At root (Then s b)} → IsEnclosedBy OriginOf h root _ p → IsEnclosedBy OriginOf h root _ (rest p)
 
 -- `OriginOf e h`: h is an origin of expression e. `Kills c`: the function at position c kills. `NeededBy n e`: expression e has the need n.
 -- `PairOf c p q`: the function at position c samples p with q
@@ -93,7 +93,7 @@ module _ (OriginOf : ℕ → ℕ → Type 0) (Kills : ℕ → Type 0) (NeededBy 
 
   -- a disruptor that may be reported for a disrupted path point
   pub data MayDisrupt (b : Body) (p : At f.body b) : Disruptor → Type 0 where
-    a_source : {h : ℕ} → Around OriginOf h f.body b p → MayDisrupt b p (Source h)
+    a_source : {h : ℕ} → IsEnclosedBy OriginOf h f.body b p → MayDisrupt b p (Source h)
     a_return : {value : Option ℕ} {left : Body} (q : At f.body (Then (Leaf (Return value)) left)) → Disrupted HasOriginOf Kills f.body _ q →
         MayDisrupt b p EarlierReturn
     a_kill : {left : Body} (q : At f.body (Then (Leaf Kill) left)) → Disrupted HasOriginOf Kills f.body _ q → MayDisrupt b p EarlierDiscard

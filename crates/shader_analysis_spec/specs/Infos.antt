@@ -53,24 +53,24 @@ bit_of Atomics = 3
 abbrev pub RecordsUse : Info → ℕ → Use → Type 0
 RecordsUse info g u = IsBitSet (slice_index info.global_uses g) (bit_of u)
 
--- o is one of the numbers for which P holds, or None if P holds for none
-abbrev pub Picks : (ℕ → Type 0) → Option ℕ → Type 0
-Picks P (Some h) = P h
-Picks P None = (h : ℕ) → P h → ⊥
+-- o is a witness of P, a number for which P holds, or None if there is none
+abbrev pub IsWitness : (ℕ → Type 0) → Option ℕ → Type 0
+IsWitness P (Some h) = P h
+IsWitness P None = (h : ℕ) → P h → ⊥
 
--- f names the function at position c, by a Call statement or a CallResult
-pub data Mentions (f : Function) (c : ℕ) : Type 0 where
-  by_call : {arguments : List ℕ} {result : Option ℕ} → Contains (statements f.body) (Leaf (Call c arguments result)) → Mentions f c
-  by_result : (e : ℕ) → IsExpressionAt f e (form.CallResult c) → Mentions f c
+-- f names the function at position c as a callee, by a Call statement or a CallResult
+pub data HasCallee (f : Function) (c : ℕ) : Type 0 where
+  by_call : {arguments : List ℕ} {result : Option ℕ} → Contains (statements f.body) (Leaf (Call c arguments result)) → HasCallee f c
+  by_result : (e : ℕ) → IsExpressionAt f e (form.CallResult c) → HasCallee f c
 
 -- each function that f names exists, so does its info, and P holds of the two
 abbrev pub EachNamed : (Function → Info → Type 0) → Module → List Info → Function → Type 0
-EachNamed P m infos f = (c : ℕ) → Mentions f c →
+EachNamed P m infos f = (c : ℕ) → HasCallee f c →
     (r : Function) × (i : Info) × (slice_get m.functions c ≡ Some r) × (slice_get infos c ≡ Some i) × P r i
 
 -- f names only functions before position i
 abbrev pub NamesEarlier : ℕ → Function → Type 0
-NamesEarlier i f = (c : ℕ) → Mentions f c → c < i
+NamesEarlier i f = (c : ℕ) → HasCallee f c → c < i
 
 abbrev pub IsOrdered : Module → Type 0
 IsOrdered m = (i : ℕ) (f : Function) → slice_get m.functions i ≡ Some f → NamesEarlier i f

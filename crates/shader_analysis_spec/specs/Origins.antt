@@ -16,17 +16,17 @@ use Rattle.shader_analysis_spec.specs.Program.{Function, Module, Expression, Lab
 use Rattle.shader_analysis_spec.specs.Program.{simple_operands, expression_operands, statements, IsExpressionAt}
 use Rattle.shader_analysis_spec.specs.Calls.{CallPath}
 
--- e is h, or leads to h through operands
-pub data Leads (f : Function) : ℕ → ℕ → Type 0 where
-  itself : {e : ℕ} → Leads f e e
-  through : {e h : ℕ} {x : Expression} {o : ℕ × Label} → IsExpressionAt f e x → Contains (expression_operands x) o → Leads f o.0 h →
-      Leads f e h
+-- e is h, or depends on h through operands
+pub data DependsOn (f : Function) : ℕ → ℕ → Type 0 where
+  itself : {e : ℕ} → DependsOn f e e
+  through : {e h : ℕ} {x : Expression} {o : ℕ × Label} → IsExpressionAt f e x → Contains (expression_operands x) o → DependsOn f o.0 h →
+      DependsOn f e h
 
--- f yields the value of e: it returns e, or stores a cooperative matrix by means of e
-pub data Gives (f : Function) (e : ℕ) : Type 0 where
-  returned : Contains (statements f.body) (Leaf (Return (Some e))) → Gives f e
+-- the value of e is a result of f: f returns it, or stores a cooperative matrix by means of it
+pub data HasResultValue (f : Function) (e : ℕ) : Type 0 where
+  returned : Contains (statements f.body) (Leaf (Return (Some e))) → HasResultValue f e
   stored : {target : ℕ} {tile : CooperativeData} {label : Label} → Contains (statements f.body) (Leaf (CooperativeStore target tile)) →
-      Contains (simple_operands (CooperativeStore target tile)) (e, label) → Gives f e
+      Contains (simple_operands (CooperativeStore target tile)) (e, label) → HasResultValue f e
 
 -- true if invocations of one work group may be given different values
 abbrev pub built_in_varies : BuiltIn → Bool
@@ -85,10 +85,10 @@ module _ (m : Module) where
   mutual
     -- expression h of r is an origin of expression e of f
     pub data Origin : Function → ℕ → Function → ℕ → Type 0 where
-      source : {f : Function} {e h : ℕ} → Leads f e h → IsSource m f h → Origin f e f h
-      result : {f : Function} {e k c : ℕ} {d r : Function} {h : ℕ} → Leads f e k → IsExpressionAt f k (form.CallResult c) →
+      source : {f : Function} {e h : ℕ} → DependsOn f e h → IsSource m f h → Origin f e f h
+      result : {f : Function} {e k c : ℕ} {d r : Function} {h : ℕ} → DependsOn f e k → IsExpressionAt f k (form.CallResult c) →
           slice_get m.functions c ≡ Some d → ResultOrigin d r h → Origin f e r h
 
-    -- expression h of r is an origin of what f yields
+    -- expression h of r is an origin of a result of f
     pub data ResultOrigin : Function → Function → ℕ → Type 0 where
-      of_value : {f s r : Function} {e h : ℕ} → CallPath m f s → Gives s e → Origin s e r h → ResultOrigin f r h
+      of_value : {f s r : Function} {e h : ℕ} → CallPath m f s → HasResultValue s e → Origin s e r h → ResultOrigin f r h

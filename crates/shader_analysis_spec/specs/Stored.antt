@@ -3,7 +3,7 @@ use Rattle.std.specs.Prelude.{◌≡◌, ℕ, ◌<◌, List, [], ◌∷◌, ◌+
 use Rattle.std.specs.List.{Contains}
 use Rattle.shader_ir.specs.declared.expression.Expression.TheVariants as form
 use Rattle.shader_analysis_spec.specs.Program.{Function, Module, Expression, Label, expression_operands, IsExpressionAt}
-use Rattle.shader_analysis_spec.specs.Infos.{Info, Picks, Mentions, IsOrdered, Pairwise}
+use Rattle.shader_analysis_spec.specs.Infos.{Info, IsWitness, HasCallee, IsOrdered, Pairwise}
 use Rattle.shader_analysis_spec.specs.Origins.{IsSource}
 use Rattle.shader_analysis_spec.specs.Steps.{MeetsSteps, StepOrigin}
 use Rattle.shader_analysis_spec.specs.Exact.{IsExact}
@@ -17,7 +17,7 @@ NextIsExact = (m : Module) (stored : List Info) (f : Function) (info : Info) →
 -- if the stored infos are exact, so is the info of an entry point, which no function names
 abbrev pub EntryIsExact : Type 0
 EntryIsExact = (m : Module) (stored : List Info) (f : Function) (info : Info) → length stored ≡ length m.functions →
-    ((c : ℕ) → Mentions f c → c < length m.functions) → Pairwise (IsExact m) m stored → MeetsSteps m stored f info → IsExact m f info
+    ((c : ℕ) → HasCallee f c → c < length m.functions) → Pairwise (IsExact m) m stored → MeetsSteps m stored f info → IsExact m f info
 
 -- expression e itself if it is a source of f, an origin recorded of one of its operands, or the one recorded of the result of its callee
 pub data StepOperand (m : Module) (infos : List Info) (f : Function) (recorded : List (Option ℕ)) (e : ℕ) : ℕ → Type 0 where
@@ -34,5 +34,5 @@ abbrev pub OperandsGiveOrigins : Type 0
 OperandsGiveOrigins = (m : Module) (infos : List Info) (f : Function) (recorded : List (Option ℕ)) →
     length recorded ≡ length f.expressions →
     ((e : ℕ) (x : Expression) (o : ℕ × Label) → IsExpressionAt f e x → Contains (expression_operands x) o → o.0 < e) →
-    ((e : ℕ) (r : Option ℕ) → slice_get recorded e ≡ Some r → Picks (StepOperand m infos f recorded e) r) →
-    (e : ℕ) (r : Option ℕ) → slice_get recorded e ≡ Some r → Picks (StepOrigin m infos f e) r
+    ((e : ℕ) (r : Option ℕ) → slice_get recorded e ≡ Some r → IsWitness (StepOperand m infos f recorded e) r) →
+    (e : ℕ) (r : Option ℕ) → slice_get recorded e ≡ Some r → IsWitness (StepOrigin m infos f e) r

@@ -8,21 +8,21 @@ use Rattle.shader_analysis_spec.specs.Infos.{Use, Reads, Writes, Queries, Atomic
 use Rattle.shader_analysis_spec.specs.Calls.{CallPath}
 
 -- true if a label adds a use of the global; a base in a chain of accesses adds none
-abbrev pub puts : Label → Use → Bool
-puts label.Read Reads = true
-puts label.Write Writes = true
-puts label.ReadWrite Reads = true
-puts label.ReadWrite Writes = true
-puts label.Query Queries = true
-puts label.Atomic Atomics = true
-puts _ _ = false
+abbrev pub adds_use : Label → Use → Bool
+adds_use label.Read Reads = true
+adds_use label.Write Writes = true
+adds_use label.ReadWrite Reads = true
+adds_use label.ReadWrite Writes = true
+adds_use label.Query Queries = true
+adds_use label.Atomic Atomics = true
+adds_use _ _ = false
 
 -- an occurrence in f adds the use u of the global g
 pub record UsesDirectly (f : Function) (g : ℕ) (u : Use) : Type 0 where
   pub occurrence : ℕ × Label
   pub occurs : Contains (occurrences f) occurrence
   pub root : Root f.expressions occurrence.0 g
-  pub label : IsTrue (puts occurrence.1 u)
+  pub label : IsTrue (adds_use occurrence.1 u)
 
 -- a named expression of f has root g
 pub record Names (f : Function) (g : ℕ) : Type 0 where

@@ -9,7 +9,7 @@ use Rattle.shader_analysis_spec.specs.Faults.{Capability, IndexTextures, IndexSt
 use Rattle.shader_analysis_spec.specs.Faults.{NoResource, BindingArrayElement, NonUniformControlFlow, CountFull, IndexesBindings}
 use Rattle.shader_analysis_spec.specs.Faults.{untyped, no_capability, bad_element, element_capability, allows}
 use Rattle.shader_analysis_spec.specs.StepFaults.{StepFault}
-use Rattle.shader_analysis_spec.specs.Infos.{Picks}
+use Rattle.shader_analysis_spec.specs.Infos.{IsWitness}
 use Rattle.shader_analysis_spec.specs.Program.{Function, Module, Expression, IsExpressionAt}
 use Rattle.shader_analysis_spec.specs.Steps.{StepOrigin}
 use Rattle.shader_expression_types.proofs.TypedLemmas.{typed}
@@ -60,9 +60,9 @@ module _ (m : Module) (infos : List FunctionInfo) (f : Function) (facts : List F
     (below : PointsBackwards f)
     (capabilities : Capabilities) where
   -- the computed origin of an expression is one of it, and there is none if none is computed
-  origins : (e : ℕ) → e < length f.expressions → Picks (StepOrigin m (infos_of infos) f e) (origin_at facts e)
+  origins : (e : ℕ) → e < length f.expressions → IsWitness (StepOrigin m (infos_of infos) f e) (origin_at facts e)
   origins e lt = at (slice_get facts e) refl where
-    at : (o : Option Fact) → slice_get facts e ≡ o → Picks (StepOrigin m (infos_of infos) f e)
+    at : (o : Option Fact) → slice_get facts e ≡ o → IsWitness (StepOrigin m (infos_of infos) f e)
         (option_and_then (λ (fact : Fact). fact.origin) o)
     at (Some fact) is = origins_of_the_step m infos f below e fact.origin
         (slice_get-map (λ (one : Fact). one.origin) (computed_facts m infos f) e
@@ -80,7 +80,7 @@ module _ (m : Module) (infos : List FunctionInfo) (f : Function) (facts : List F
   module _ (k index element : ℕ) (flags : ValidationFlags) (at : IndexesBindings m f k index element) where
     -- an error of the access is a fault
     refused : (needed : Option Capability) → element_capability (found_inner (slice_get m.types element)) ≡ needed →
-        (origin : Option ℕ) → Picks (StepOrigin m (infos_of infos) f index) origin →
+        (origin : Option ℕ) → IsWitness (StepOrigin m (infos_of infos) f index) origin →
         (source : ExpressionError) → index_refusal capabilities origin (option_map alone needed) ≡ Some source →
         IsNamedOf (StepFault m (infos_of infos) f (settings_of flags capabilities)) k source
     refused None none origin picks source is =
@@ -103,7 +103,7 @@ module _ (m : Module) (infos : List FunctionInfo) (f : Function) (facts : List F
         let P : Option Capability → Type 0 = λ v. index_refusal capabilities origin (option_map alone v) ≡ None in
         let reported = subst P none is in cc
 
-    no_missing : (capability : Capability) (origin : Option ℕ) → Picks (StepOrigin m (infos_of infos) f index) origin →
+    no_missing : (capability : Capability) (origin : Option ℕ) → IsWitness (StepOrigin m (infos_of infos) f index) origin →
         index_refusal capabilities origin (Some (alone capability)) ≡ None → (h : ℕ) → StepOrigin m (infos_of infos) f index h →
         allows (settings_of flags capabilities) capability ≡ false → ⊥
     no_missing capability None picks is h is_there lacks = picks h is_there

@@ -5,7 +5,7 @@ use Rattle.std.specs.Option.{option_and_then, option_map}
 use Rattle.std.specs.List.{Contains}
 use Rattle.std.proofs.lemmas.Bool.{or_cases}
 use Rattle.shader_ir.specs.declared.statement.SwitchValue.{SwitchValue}
-use Rattle.shader_analysis_spec.specs.Faults.{Around, branch, deeper, Disruptor, Source, EarlierReturn, EarlierDiscard}
+use Rattle.shader_analysis_spec.specs.Faults.{IsEnclosedBy, branch, deeper, Disruptor, Source, EarlierReturn, EarlierDiscard}
 use Rattle.shader_analysis_spec.specs.Faults.{MayDisrupt, a_source, a_return, a_kill, a_call, Settings}
 use Rattle.shader_analysis_spec.specs.StepFaults.{RecordsPair}
 use Rattle.shader_analysis_spec.specs.Faults as faults
@@ -89,7 +89,7 @@ module _ (m : Module) (infos : List FunctionInfo) (f : Function) (settings : Set
   disrupts_child s b x p child _ (a_call holds k) = a_call holds k
 
   disrupts_rest : (s : Step) (b : Body) (p : At f.body (Then s b)) (d : Disruptor) → IsDisruptor (Then s b) p d → IsDisruptor b (rest p) d
-  disrupts_rest s b p _ (a_source w) = a_source (faults.Around.later w)
+  disrupts_rest s b p _ (a_source w) = a_source (faults.IsEnclosedBy.later w)
   disrupts_rest s b p _ (a_return q d) = a_return q d
   disrupts_rest s b p _ (a_kill q d) = a_kill q d
   disrupts_rest s b p _ (a_call holds k) = a_call holds k

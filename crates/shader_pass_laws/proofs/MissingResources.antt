@@ -6,13 +6,13 @@ use Rattle.shader_analysis_spec.specs.Faults.{Cause, NoResource, Settings, untyp
 use Rattle.shader_analysis_spec.specs.StepFaults.{StepFault}
 use Rattle.shader_analysis_spec.specs.Faults.{no_image_resource}
 use Rattle.shader_analysis_spec.specs.Faults.{no_sampler_resource, no_image_passed, no_sampler_passed, flow_violation, count_full}
-use Rattle.shader_analysis_spec.specs.Infos.{Info, Resource, InGlobal, InArgument, Picks}
+use Rattle.shader_analysis_spec.specs.Infos.{Info, Resource, InGlobal, InArgument, IsWitness}
 use Rattle.shader_analysis_spec.specs.Pairs.{resource, in_caller, sampled_operands, samples}
 use Rattle.shader_analysis_spec.specs.Program.{Function, Module, Expression, Step, Leaf, Call, IsExpressionAt, statements}
 use Rattle.shader_analysis_spec.proofs.RetainedLemmas.{or_picks, preserves_all, retained, retained_after, picked, none_picked, is_there_at}
 use Rattle.shader_analysis_spec.proofs.RetainedLemmas.{at_occurs}
 use Rattle.shader_analysis_spec.proofs.ListLemmas.{nowhere}
-use Rattle.shader_analysis_spec.proofs.OriginsLemmas.{Picks-same}
+use Rattle.shader_analysis_spec.proofs.OriginsLemmas.{IsWitness-same}
 use Rattle.shader_info.specs.declared.info.FunctionInfo.{FunctionInfo}
 use Rattle.shader_passes.specs.InfoOf.{info_of, infos_of}
 use Rattle.shader_passes.specs.MissingResource.{missed_of, passed_for, operands_missed, sample_missed, pair_missed, call_missed}
@@ -24,7 +24,7 @@ use Rattle.shader_pass_laws.specs.Refused.{MissingResourcesAreFaults, computed_m
 abbrev Sought : Option Resource → ℕ → ℕ → Type 0
 Sought o e h = (h ≡ e) × (o ≡ None)
 
-sought : (o : Option Resource) (e : ℕ) → Picks (Sought o e) (missed_of o (Some e))
+sought : (o : Option Resource) (e : ℕ) → IsWitness (Sought o e) (missed_of o (Some e))
 sought (Some p) e = λ h t. let never = t.1 in absurd (cc)
 sought None e = (refl, refl)
 
@@ -37,7 +37,7 @@ module _ (f : Function) where
   abbrev Lacks : ℕ × Expression → ℕ → Type 0
   Lacks item h = OperandsLack item.0 (sampled_operands item.1) h
 
-  operands_picks : (e : ℕ) (o : Option (ℕ × ℕ)) → Picks (OperandsLack e o) (operands_missed f None e o)
+  operands_picks : (e : ℕ) (o : Option (ℕ × ℕ)) → IsWitness (OperandsLack e o) (operands_missed f None e o)
   operands_picks e (Some operands) =
       or_picks (Sought (resource f operands.0) e) (Sought (resource f operands.1) e) (missed_of (resource f operands.0) (Some e))
       (missed_of (resource f operands.1) (Some e))
@@ -48,7 +48,7 @@ module _ (f : Function) where
   operands_preserve e (Some operands) h = refl
   operands_preserve e None h = refl
 
-  sample_picks : (item : ℕ × Expression) → Picks (Lacks item) (sample_missed f None item)
+  sample_picks : (item : ℕ × Expression) → IsWitness (Lacks item) (sample_missed f None item)
   sample_picks item = operands_picks item.0 (sampled_operands item.1)
 
   sample_preserves : (item : ℕ × Expression) (h : ℕ) → sample_missed f (Some h) item ≡ Some h
@@ -59,11 +59,11 @@ module _ (f : Function) where
     abbrev Passed : Resource → ℕ → Type 0
     Passed p h = (i : ℕ) × (p ≡ InArgument i) × (slice_get arguments i ≡ Some h) × (resource f h ≡ None)
 
-    passed_picks : (p : Resource) → Picks (Passed p) (missed_of (in_caller f arguments p) (passed_for arguments p))
+    passed_picks : (p : Resource) → IsWitness (Passed p) (missed_of (in_caller f arguments p) (passed_for arguments p))
     passed_picks (InGlobal g) = λ h t. let never = t.1 in absurd (cc)
     passed_picks (InArgument i) = at (slice_get arguments i) refl where
       bound : (e : ℕ) (o : Option Resource) → slice_get arguments i ≡ Some e → resource f e ≡ o →
-          Picks (Passed (InArgument i)) (missed_of o (Some e))
+          IsWitness (Passed (InArgument i)) (missed_of o (Some e))
       bound e None a b = (i, refl, a, b)
       bound e (Some p) a b = λ h t.
           let number : i ≡ t.0 = let is = t.1 in cc in
@@ -71,7 +71,7 @@ module _ (f : Function) where
           let same : e ≡ h = let one = subst P number a in let two = t.2 in cc in
           let none = t.3 in absurd (cc)
 
-      at : (o : Option ℕ) → slice_get arguments i ≡ o → Picks (Passed (InArgument i)) (missed_of (option_and_then (resource f) o) o)
+      at : (o : Option ℕ) → slice_get arguments i ≡ o → IsWitness (Passed (InArgument i)) (missed_of (option_and_then (resource f) o) o)
       at None a = λ h t.
           let number : i ≡ t.0 = let is = t.1 in cc in
           let P : ℕ → Type 0 = λ v. slice_get arguments v ≡ None in
@@ -81,7 +81,7 @@ module _ (f : Function) where
     abbrev PairLacks : Resource × Resource → ℕ → Type 0
     PairLacks pair h = Passed pair.0 h ⊎ Passed pair.1 h
 
-    pair_picks : (pair : Resource × Resource) → Picks (PairLacks pair) (pair_missed f arguments None pair)
+    pair_picks : (pair : Resource × Resource) → IsWitness (PairLacks pair) (pair_missed f arguments None pair)
     pair_picks pair = or_picks (Passed pair.0) (Passed pair.1) (missed_of (in_caller f arguments pair.0) (passed_for arguments pair.0))
         (missed_of (in_caller f arguments pair.1) (passed_for arguments pair.1)) (passed_picks pair.0) (passed_picks pair.1)
 
@@ -94,7 +94,7 @@ module _ (f : Function) where
         PairLacks arguments pair h
     CallLacks s h = ⊥
 
-    call_picks : (s : Step) → Picks (CallLacks s) (call_missed infos f None s)
+    call_picks : (s : Step) → IsWitness (CallLacks s) (call_missed infos f None s)
     call_picks (Leaf (Call c arguments result)) =
         retained (pair_missed f arguments) (PairLacks arguments) (pair_preserves arguments) (pair_picks arguments) (recorded_pairs infos c)
     call_picks s = λ h t. t
@@ -111,7 +111,7 @@ module _ (f : Function) where
     abbrev Missing : ℕ → Type 0
     Missing h = OwnMissing h ⊎ ((s : Step) × Contains (statements f.body) s × CallLacks s h)
 
-    missing_picks : Picks Missing (computed_missing infos f)
+    missing_picks : IsWitness Missing (computed_missing infos f)
     missing_picks = retained_after (call_missed infos f) CallLacks call_preserves call_picks OwnMissing
         (fold (sample_missed f) None (enumerate_from 0 f.expressions))
         (retained (sample_missed f) Lacks sample_preserves sample_picks (enumerate_from 0 f.expressions)) (statements f.body)
@@ -213,14 +213,14 @@ module _ (f : Function) where
       of_fault _ (flow_violation on grave x) = tt
       of_fault _ (count_full most) = tt
 
-      resources_picked : Picks (λ e. Fault (NoResource e)) (computed_missing infos f)
-      resources_picked = Picks-same Missing (λ e. Fault (NoResource e)) (computed_missing infos f) missing_to
+      resources_picked : IsWitness (λ e. Fault (NoResource e)) (computed_missing infos f)
+      resources_picked = IsWitness-same Missing (λ e. Fault (NoResource e)) (computed_missing infos f) missing_to
           (λ h t. (h, of_fault (NoResource h) t)) missing_picks
 
 pub missing_resources_are_faults : MissingResourcesAreFaults
 missing_resources_are_faults m infos f settings =
     let P : ℕ → Type 0 = λ e. StepFault m (infos_of infos) f settings (NoResource e) in
-    let whole : Picks P (computed_missing infos f) = resources_picked f infos m settings in (
+    let whole : IsWitness P (computed_missing infos f) = resources_picked f infos m settings in (
       λ e is. picked P (computed_missing infos f) e whole is,
       λ is. none_picked P (computed_missing infos f) whole is,
     )

@@ -9,7 +9,7 @@ use Rattle.shader_analysis_spec.specs.Program.{Function, Step, Leaf, Kill, Call,
 use Rattle.shader_analysis_spec.specs.Flow.{At, Disrupted}
 use Rattle.shader_analysis_spec.proofs.Flags.{found}
 use Rattle.shader_analysis_spec.specs.Infos.{Info}
-use Rattle.shader_analysis_spec.specs.Steps.{Calls, StepKill, RecordsVaried, RecordsKills}
+use Rattle.shader_analysis_spec.specs.Steps.{CalleeInfo, StepKill, RecordsVaried, RecordsKills}
 use Rattle.shader_analysis_spec.specs.Steps as step
 use Rattle.shader_analysis_spec.proofs.FindLemmas.{flags_find_statements}
 use Rattle.shader_analysis_spec.proofs.FlowLemmas.{more_disrupted}

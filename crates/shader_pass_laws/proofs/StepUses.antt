@@ -17,8 +17,8 @@ use Rattle.shader_ir.specs.declared.proc.operands.Label.TheVariants.{Part, Read,
 use Rattle.shader_ir.specs.Occurs as occurs
 use Rattle.shader_analysis_spec.specs.Infos.{Info, Use, Reads, Writes, Queries, Atomics, bit_of}
 use Rattle.shader_analysis_spec.specs.Program.{Function, Module, Label, Step, Leaf, Call, Root, IsExpressionAt, occurrences, statements}
-use Rattle.shader_analysis_spec.specs.Uses.{Names, puts}
-use Rattle.shader_analysis_spec.specs.Steps.{Calls, CalleeUses, StepUse}
+use Rattle.shader_analysis_spec.specs.Uses.{Names, adds_use}
+use Rattle.shader_analysis_spec.specs.Steps.{CalleeInfo, CalleeUses, StepUse}
 use Rattle.shader_analysis_spec.specs.Steps as step
 use Rattle.shader_passes.specs.declared.facts.Fact.{Fact}
 use Rattle.shader_info.specs.declared.info.FunctionInfo.{FunctionInfo}
@@ -37,7 +37,7 @@ use Rattle.shader_pass_laws.proofs.UsesLemmas.{eq_true, eq_false, put_one, put_a
 use Rattle.shader_pass_laws.proofs.UsesLemmas.{names_are, names_long, used_named, named_cases, Named}
 
 -- the bits of a label are its uses
-bits_to : (l : Label) (u : Use) → IsBitSet (bits l) (bit_of u) → IsTrue (puts l u)
+bits_to : (l : Label) (u : Use) → IsBitSet (bits l) (bit_of u) → IsTrue (adds_use l u)
 bits_to Part u h = absurd (no_bit (bit_of u) h)
 bits_to Read Reads h = refl
 bits_to Read Writes h = absurd (not_bit 1 1 refl h)
@@ -60,7 +60,7 @@ bits_to Atomic Writes h = absurd (not_bit 8 1 refl h)
 bits_to Atomic Queries h = absurd (not_bit 8 2 refl h)
 bits_to Atomic Atomics h = refl
 
-of_puts : (l : Label) (u : Use) → IsTrue (puts l u) → IsBitSet (bits l) (bit_of u)
+of_puts : (l : Label) (u : Use) → IsTrue (adds_use l u) → IsBitSet (bits l) (bit_of u)
 of_puts Read Reads h = of_bit 1 0 refl
 of_puts Write Writes h = of_bit 2 1 refl
 of_puts ReadWrite Reads h = of_bit 3 0 refl

@@ -2,7 +2,7 @@
 use Rattle.std.proofs.Common.{◌≡◌, refl, ap, ◌∙◌, ℕ, ◌<◌, IsTrue, List, Option, Some, None, map, slice_get, length, get_or, arith}
 use Rattle.std.specs.Option.{option_and_then, option_map}
 use Rattle.std.proofs.lemmas.Option.{slice_get-get_or, slice_get-map, slice_get_within}
-use Rattle.shader_analysis_spec.specs.Origins.{Leads, itself, through}
+use Rattle.shader_analysis_spec.specs.Origins.{DependsOn, itself, through}
 use Rattle.shader_analysis_spec.specs.Program.{Function, Module, Expression, IsExpressionAt}
 use Rattle.shader_analysis_spec.specs.Steps.{StepOrigin, own, callee}
 use Rattle.shader_info.specs.declared.info.FunctionInfo.{FunctionInfo}
@@ -22,7 +22,7 @@ module _ (m : Module) (infos : List FunctionInfo) (f : Function) (below : Points
   abbrev O : ℕ → ℕ → Type 0
   O e h = StepOrigin m (infos_of infos) f e h
 
-  leads_within : (e h : ℕ) (x : Expression) → Leads f e h → IsExpressionAt f h x → e < length f.expressions
+  leads_within : (e h : ℕ) (x : Expression) → DependsOn f e h → IsExpressionAt f h x → e < length f.expressions
   leads_within e _ x itself is_there = slice_get_within f.expressions e x is_there
   leads_within e h x (through {x = y} first operand leads) is_there = slice_get_within f.expressions e y first
 

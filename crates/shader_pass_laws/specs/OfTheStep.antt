@@ -2,7 +2,7 @@
 use Rattle.std.specs.Prelude.{◌≡◌, ◌↔◌, ℕ, ◌<◌, List, slice_index, length, IsTrue}
 use Rattle.std.specs.Int.{IsBitSet}
 use Rattle.std.specs.List.{Contains}
-use Rattle.shader_analysis_spec.specs.Infos.{Info, Picks, Resource, Use, bit_of}
+use Rattle.shader_analysis_spec.specs.Infos.{Info, IsWitness, Resource, Use, bit_of}
 use Rattle.shader_analysis_spec.specs.Needs.{Need, bit_of_need}
 use Rattle.shader_analysis_spec.specs.Program.{Function, Module, statements}
 use Rattle.shader_analysis_spec.specs.Steps.{StepExpressionNeed, StepKill, StepNeed, StepPair, StepResult, StepUse}
@@ -16,7 +16,7 @@ use Rattle.shader_passes.specs.RecordedPairs.{SameMembers}
 
 abbrev pub ResultsAreOfTheStep : Type 0
 ResultsAreOfTheStep = (m : Module) (infos : List FunctionInfo) (f : Function) → PointsBackwards f →
-    Picks (StepResult m (infos_of infos) f) (computed_result m infos f)
+    IsWitness (StepResult m (infos_of infos) f) (computed_result m infos f)
 
 abbrev pub ExpressionNeedsAreOfTheStep : Type 0
 ExpressionNeedsAreOfTheStep = (m : Module) (infos : List FunctionInfo) (f : Function) (n : Need) (e : ℕ) → e < length f.expressions →

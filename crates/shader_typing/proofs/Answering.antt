@@ -11,7 +11,7 @@ use Rattle.shader_typing.specs.ExactRecord.{IsExactRecord}
 use Rattle.shader_typing.specs.InfoAnswers.{ExactRecordsAnswer, ExpressionAnswers, HasResultOrigin, InfoAnswers}
 use Rattle.shader_analysis_spec.specs.Counts.{count_of}
 use Rattle.shader_analysis_spec.specs.Exact.{IsExact}
-use Rattle.shader_analysis_spec.specs.Infos.{InGlobal, Picks, Use, Writes, bit_of}
+use Rattle.shader_analysis_spec.specs.Infos.{InGlobal, IsWitness, Use, Writes, bit_of}
 use Rattle.shader_analysis_spec.specs.Kills.{HasOrigin, Kills}
 use Rattle.shader_analysis_spec.specs.Needs.{ExpressionNeeds, bit_of_need}
 use Rattle.shader_analysis_spec.specs.Origins.{Origin, ResultOrigin}
@@ -30,7 +30,7 @@ mapped : {X Y : Type 0} (f : X → Y) (xs : List X) (i : ℕ) (x : X) → slice_
 mapped f xs i x at = slice_get-map f xs i ∙ ap (option_map f) at
 
 -- a number that is picked shows that there is one
-picked : (P : Function → ℕ → Type 0) (o : Option ℕ) → Picks (λ h. (r : Function) × P r h) o →
+picked : (P : Function → ℕ → Type 0) (o : Option ℕ) → IsWitness (λ h. (r : Function) × P r h) o →
     IsTrue (is_some o) ↔ ((r : Function) × (h : ℕ) × P r h)
 picked P (Some h) picks = (λ _. (picks.0, h, picks.1), λ _. refl)
 picked P None picks = (λ e. absurd (cc), λ v. absurd (picks v.1 (v.0, v.2)))

@@ -12,8 +12,8 @@ use Rattle.shader_analysis_spec.specs.Disruption.{OriginsDecided}
 use Rattle.shader_analysis_spec.specs.Earlier.{NamesBackwards}
 use Rattle.shader_analysis_spec.specs.Infos.{NamesEarlier, by_call, by_result}
 use Rattle.shader_analysis_spec.specs.Kills.{HasOrigin}
-use Rattle.shader_analysis_spec.specs.Origins.{Gives, Leads, Origin, ResultOrigin, is_source, itself, of_value, result, returned}
-use Rattle.shader_analysis_spec.specs.Origins.{source, stored, through}
+use Rattle.shader_analysis_spec.specs.Origins.{HasResultValue, DependsOn, Origin, ResultOrigin, is_source, itself, of_value, result}
+use Rattle.shader_analysis_spec.specs.Origins.{returned, source, stored, through}
 use Rattle.shader_analysis_spec.specs.Program.{Call, CooperativeStore, Expression, Function, IsExpressionAt, Label, Leaf, Module}
 use Rattle.shader_analysis_spec.specs.Program.{Return, Step, expression_operands, statement_operands, statements}
 use Rattle.shader_ir.specs.declared.expression.Expression.TheVariants as form
@@ -97,7 +97,7 @@ module _ (m : Module) where
 
   module _ (f : Function) (below : PointsBackwards f) (n : ℕ) (earlier : NamesEarlier n f)
       (callees : (c : ℕ) → c < n → Decided (ResultAt c)) where
-    led_from : (e k : ℕ) (y : Expression) → Leads f e k → IsExpressionAt f k y → (x : Expression) × IsExpressionAt f e x
+    led_from : (e k : ℕ) (y : Expression) → DependsOn f e k → IsExpressionAt f k y → (x : Expression) × IsExpressionAt f e x
     led_from e _ y itself is = (y, is)
     led_from e k y (through {x = x} s c leads) is = (x, s)
 
@@ -215,7 +215,7 @@ module _ (m : Module) where
     abbrev SomeGiven : Type 0
     SomeGiven = (s : Step) × Contains (statements f.body) s × Given s
 
-    given_by : (e : ℕ) → Gives f e → HasOrigin m f e → SomeGiven
+    given_by : (e : ℕ) → HasResultValue f e → HasOrigin m f e → SomeGiven
     given_by e (returned holds) has = (Leaf (Return (Some e)), holds, ((e, label.Read), here (e, label.Read) [], has))
     given_by e (stored {target = target} {tile = tile} {label = l} holds used) has =
         (Leaf (CooperativeStore target tile), holds, ((e, l), used, has))

@@ -7,8 +7,8 @@ use Rattle.std.proofs.lemmas.Bool.{cases_lt}
 use Rattle.std.proofs.lemmas.Option.{same_Some, slice_get-get_or, slice_get_within}
 use Rattle.shader_ir.specs.declared.expression.Expression.TheVariants as form
 use Rattle.shader_ir.specs.declared.proc.operands.Label.TheVariants as label
-use Rattle.shader_analysis_spec.specs.Infos.{Mentions, by_call, by_result}
-use Rattle.shader_analysis_spec.specs.Origins.{Gives, IsSource, is_source}
+use Rattle.shader_analysis_spec.specs.Infos.{HasCallee, by_call, by_result}
+use Rattle.shader_analysis_spec.specs.Origins.{HasResultValue, IsSource, is_source}
 use Rattle.shader_analysis_spec.specs.Origins as origins
 use Rattle.shader_analysis_spec.specs.Program.{Function, Module, Expression, Label, Step, Leaf, Return, CooperativeStore, Call}
 use Rattle.shader_analysis_spec.specs.Program.{IsExpressionAt}
@@ -114,7 +114,7 @@ called_reported m traces (Some c) each =
 
 -- the reasons computed for a function's expressions and for its result, if those in the functions before it are right
 module _ (m : Module) (traces : List Trace) (at : FunctionLocation) (f : Function) (is_f : IsFunctionAt m at f)
-    (called_are : (c : ℕ) → Mentions f c → Determines (IsReason m (link.Result (location.Function c))) (result_reason_at traces c)) where
+    (called_are : (c : ℕ) → HasCallee f c → Determines (IsReason m (link.Result (location.Function c))) (result_reason_at traces c)) where
   -- the reason for an expression, if those for its operands are right
   module _ (reasons : List (Option Reason)) (e : ℕ) (x : Expression) (is_there : IsExpressionAt f e x)
       (operands_are : (o : ℕ × Label) → Contains (expression_operands x) o → IsTold m at reasons o.0) where
@@ -271,7 +271,7 @@ module _ (m : Module) (traces : List Trace) (at : FunctionLocation) (f : Functio
       | inr none ↦ absurd (nowhere o none)
     ]
 
-    by_value : (r : Reason) (o : ℕ × Label) → Gives f o.0 → LeadsOn m (link.Expression at o.0) r → IsReason m (link.Result at) r
+    by_value : (r : Reason) (o : ℕ × Label) → HasResultValue f o.0 → LeadsOn m (link.Expression at o.0) r → IsReason m (link.Result at) r
     by_value r o gives leads =
         let P : Reason → Type 0 = λ v. IsReason m (link.Result at) v in
         subst P (sym leads.0) (chain.LinksTo.value f is_f gives, leads.1)
@@ -279,24 +279,24 @@ module _ (m : Module) (traces : List Trace) (at : FunctionLocation) (f : Functio
     given_reason : (r : Reason) (s : Step) → Contains (statements f.body) s → Given s r → IsReason m (link.Result at) r
     given_reason r (Leaf (Return value)) holds t =
         let P : Option ℕ → Type 0 = λ v. Contains (statements f.body) (Leaf (Return v)) in
-        by_value r t.0 (origins.Gives.returned (subst P (returned value t.0 t.1) holds)) t.2
-    given_reason r (Leaf (CooperativeStore target tile)) holds t = by_value r t.0 (origins.Gives.stored holds t.1) t.2
+        by_value r t.0 (origins.HasResultValue.returned (subst P (returned value t.0 t.1) holds)) t.2
+    given_reason r (Leaf (CooperativeStore target tile)) holds t = by_value r t.0 (origins.HasResultValue.stored holds t.1) t.2
     given_reason r (Leaf (Call c arguments value)) holds t =
         let P : Reason → Type 0 = λ v. IsReason m (link.Result at) v in
         let Q : ℕ → Type 0 = λ v. Contains (statements f.body) (Leaf (Call v arguments value)) in
         subst P (sym t.2.0) (chain.LinksTo.by_callee f is_f (subst Q (same_Some c t.0 t.1) holds), t.2.1)
     given_reason r s holds t = absurd t
 
-    value_given : (e : ℕ) → Gives f e → HasOriginAt m (link.Expression at e) →
+    value_given : (e : ℕ) → HasResultValue f e → HasOriginAt m (link.Expression at e) →
         SomeGiven (statements f.body) (Through (link.Expression at e))
-    value_given e (origins.Gives.returned holds) has =
+    value_given e (origins.HasResultValue.returned holds) has =
         (Leaf (Return (Some e)), holds, ((e, label.Read), here (e, label.Read) [], (refl, has)))
-    value_given e (origins.Gives.stored {target = target} {tile = tile} {label = l} holds used) has =
+    value_given e (origins.HasResultValue.stored {target = target} {tile = tile} {label = l} holds used) has =
         (Leaf (CooperativeStore target tile), holds, ((e, l), used, (refl, has)))
 
     links_to_statement : (next : Link) → LinksTo m (link.Result at) next → HasOriginAt m next → SomeGiven (statements f.body) (Through next)
     links_to_statement _ (chain.LinksTo.value {e = e} g too gives) has =
-        let P : Function → Type 0 = λ v. Gives v e in value_given e (subst P (same_function m at g f too is_f) gives) has
+        let P : Function → Type 0 = λ v. HasResultValue v e in value_given e (subst P (same_function m at g f too is_f) gives) has
     links_to_statement _ (chain.LinksTo.by_callee {c = c} g {arguments = arguments} {value = value} too holds) has =
         let P : Function → Type 0 = λ v. Contains (statements v.body) (Leaf (Call c arguments value)) in
         (Leaf (Call c arguments value), subst P (same_function m at g f too is_f) holds, (c, refl, (refl, has)))

@@ -6,7 +6,7 @@ use Rattle.std.specs.Option.{option_and_then}
 use Rattle.std.proofs.lemmas.Bool.{cases_lt}
 use Rattle.std.proofs.lemmas.Option.{same_Some, slice_get_within}
 use Rattle.shader_resolve.specs.WellFormed.{IsWellFormed}
-use Rattle.shader_analysis_spec.specs.Infos.{Mentions, NamesEarlier}
+use Rattle.shader_analysis_spec.specs.Infos.{HasCallee, NamesEarlier}
 use Rattle.shader_analysis_spec.specs.Program.{Function, Module, statements}
 use Rattle.shader_analysis_spec.proofs.EarlierLemmas.{point_backwards}
 use Rattle.shader_passes.specs.InfoOf.{PointsBackwards}
@@ -58,7 +58,7 @@ pub trace_is : (m : Module) (at : FunctionLocation) (f : Function) (traces : Lis
     trace.expressions.items ≡ reasons_after m traces at f [] (enumerate_from 0 f.expressions) →
     trace.result ≡ first_given at traces trace.expressions.items (statements f.body) → IsTrace m at trace
 trace_is m at f traces trace well are is expressions_are result_is =
-    let by_callee : (c : ℕ) → Mentions f c → Determines (IsReason m (link.Result (location.Function c))) (result_reason_at traces c) =
+    let by_callee : (c : ℕ) → HasCallee f c → Determines (IsReason m (link.Result (location.Function c))) (result_reason_at traces c) =
     λ c named. result_reported m (earlier_functions m at) traces are c (names_before m well at f is c named) in
     let P : List (Option Reason) → Type 0 = λ v. AreReasons m at v in
     let reported : AreReasons m at trace.expressions.items =

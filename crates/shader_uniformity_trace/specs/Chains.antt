@@ -4,7 +4,7 @@ use Rattle.std.specs.List.{Contains}
 use Rattle.shader_ir.specs.declared.expression.Expression.TheVariants as form
 use Rattle.shader_ir.specs.declared.function.EntryPoint.{EntryPoint}
 use Rattle.shader_analysis_spec.specs.Kills.{HasOrigin}
-use Rattle.shader_analysis_spec.specs.Origins.{Gives, IsSource, ResultOrigin}
+use Rattle.shader_analysis_spec.specs.Origins.{HasResultValue, IsSource, ResultOrigin}
 use Rattle.shader_analysis_spec.specs.Program.{Function, Module, Expression, Label, Leaf, Call, IsExpressionAt, expression_operands}
 use Rattle.shader_analysis_spec.specs.Program.{statements}
 use Rattle.shader_uniformity_trace.specs.declared.link.FunctionLocation.{FunctionLocation}
@@ -39,7 +39,7 @@ module _ (m : Module) where
         Contains (expression_operands x) (h, label) → LinksTo (link.Expression at e) (link.Expression at h)
     result : {at : FunctionLocation} {e c : ℕ} (f : Function) → IsFunctionAt m at f → IsExpressionAt f e (form.CallResult c) →
         LinksTo (link.Expression at e) (link.Result (location.Function c))
-    value : {at : FunctionLocation} {e : ℕ} (f : Function) → IsFunctionAt m at f → Gives f e →
+    value : {at : FunctionLocation} {e : ℕ} (f : Function) → IsFunctionAt m at f → HasResultValue f e →
         LinksTo (link.Result at) (link.Expression at e)
     by_callee : {at : FunctionLocation} {c : ℕ} (f : Function) {arguments : List ℕ} {value : Option ℕ} → IsFunctionAt m at f →
         Contains (statements f.body) (Leaf (Call c arguments value)) → LinksTo (link.Result at) (link.Result (location.Function c))
