@@ -1,5 +1,5 @@
 -- Backward references in a well-formed module.
-use Rattle.std.proofs.Common.{◌≡◌, ℕ, ◌<◌, All, List, Option, Some, IfSome, slice_get, length}
+use Rattle.std.proofs.Common.{◌≡◌, ℕ, ◌<◌, All, List, Some, IfSome, slice_get, length}
 use Rattle.std.specs.List.{Contains}
 use Rattle.std.proofs.lemmas.List.Elements.{All-contains}
 use Rattle.std.proofs.lemmas.Option.{slice_get_within, get_or_from_slice_get}

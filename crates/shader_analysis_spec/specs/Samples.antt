@@ -7,7 +7,6 @@ use Rattle.shader_ir.specs.declared.expression.Expression.TheVariants as form
 use Rattle.shader_ir.specs.declared.expression.SampleLevel.TheVariants as level
 use Rattle.shader_ir.specs.declared.function.FunctionArgument.{FunctionArgument}
 use Rattle.shader_ir.specs.declared.literal.Literal.TheVariants as literal
-use Rattle.shader_ir.specs.declared.module.GlobalVariable.{GlobalVariable}
 use Rattle.shader_ir.specs.declared.operators.DerivativeAxis.TheVariants as axis
 use Rattle.shader_ir.specs.declared.operators.DerivativeControl.TheVariants as control
 use Rattle.shader_ir.specs.declared.statement.SwitchValue.TheVariants as value
