@@ -1,2 +1,3 @@
 pub mod DominatesLemmas
 pub mod PairLemmas
+pub mod UsedLemmas

@@ -19,13 +19,13 @@ module _ {X : Type 0} where
   nowhere : (x : X) → Contains [] x → ⊥
   nowhere x h = let lt : h.0 < 0 = h.1 in omega arith
 
-  here : (x : X) (xs : List X) → Contains (x ∷ xs) x
+  pub here : (x : X) (xs : List X) → Contains (x ∷ xs) x
   here x xs = Contains-append_left (x ∷ []) xs x (Contains-push [] x)
 
-  there : (x : X) (xs : List X) (y : X) → Contains xs y → Contains (x ∷ xs) y
+  pub there : (x : X) (xs : List X) (y : X) → Contains xs y → Contains (x ∷ xs) y
   there x xs y h = Contains-append_right (x ∷ []) xs y h
 
-  cases : (x : X) (xs : List X) (y : X) → Contains (x ∷ xs) y → (x ≡ y) ⊎ Contains xs y
+  pub cases : (x : X) (xs : List X) (y : X) → Contains (x ∷ xs) y → (x ≡ y) ⊎ Contains xs y
   cases x xs y h = elim (Contains-append_cases (x ∷ []) xs y h) [
     | inl one ↦ elim (Contains-push_cases [] x y one) [ inl none ↦ absurd (nowhere y none) | inr e ↦ inl e ]
     | inr rest ↦ inr rest

@@ -1,8 +1,10 @@
 -- The contents of an info.
-use Rattle.std.specs.Prelude.{◌≡◌, ◌↔◌, ℕ, List, Contains, Some, slice_get, IsTrue}
-use Rattle.std.specs.List.Sorted.{IsStrictlySortedBy}
+use Rattle.std.specs.Prelude.{◌≡◌, ◌↔◌, ◌<◌, ℕ, Bool, false, List, Contains, Some, slice_get, unwrap_or, IsTrue}
+use Rattle.std.specs.List.Sorted.{IsStrictlyIncreasing, IsStrictlySortedBy}
+use Rattle.std.specs.Option.{option_map}
 use Rattle.std.specs.Ordering.{nat_cmp, ordering_then}
 use Rattle.std.specs.declared.cmp.Ordering.{Ordering}
+use Rattle.shader_arena.specs.Positions.{most_items}
 use Rattle.shader_info.specs.declared.flags.GlobalUse.{GlobalUse}
 use Rattle.shader_info.specs.declared.info.FunctionInfo.{FunctionInfo}
 use Rattle.shader_info.specs.declared.info.GlobalOrArgument.{GlobalOrArgument}
@@ -12,6 +14,15 @@ use Rattle.shader_info.specs.Uses.{includes}
 abbrev pub Dominates : List GlobalUse → List GlobalUse → Type 0
 Dominates uses others = (global : ℕ) (at other : GlobalUse) → slice_get uses global ≡ Some at → slice_get others global ≡ Some other →
     IsTrue (includes at other)
+
+-- true if the uses recorded of the global contain all of the given ones
+abbrev pub is_used_for : FunctionInfo → GlobalUse → ℕ → Bool
+is_used_for info uses global = unwrap_or (option_map (λ at. includes at uses) (slice_get info.global_uses global)) false
+
+-- the globals whose recorded uses contain all of the given ones, in ascending order
+pub record AreUsed (info : FunctionInfo) (uses : GlobalUse) (globals : List ℕ) : Type 0 where
+  pub ascending : IsStrictlyIncreasing globals
+  pub members : (global : ℕ) → Contains globals global ↔ ((global < most_items) × IsTrue (is_used_for info uses global))
 
 -- the image and the sampler, at least one of which is an argument, are recorded
 abbrev pub IsSampled : FunctionInfo → GlobalOrArgument → GlobalOrArgument → Type 0

@@ -6,7 +6,7 @@ ghost use Rattle.shader_ir.specs.Key.{HoldsNoMembers};
 
 use crate::{GlobalUse, UniformityRequirements};
 use bitflags::Flags;
-use shader_arena::Handle;
+use shader_arena::{Handle, Range};
 use shader_ir::proc::TypeResolution;
 use shader_ir::{Items, ShaderStages, TryCopy, mark};
 use std::alloc::{AllocError, Global};
@@ -118,7 +118,9 @@ fn dominates(uses: &[GlobalUse], others: &[GlobalUse]) -> bool
 }
 
 impl FunctionInfo {
-    ghost use Rattle.shader_info.specs.Recorded.{ArePairsOf, Dominates, IsSampled, IsSampledKey, SameInfo};
+    ghost use Rattle.std.specs.Prelude.{min};
+    ghost use Rattle.shader_arena.specs.Positions.{most_items};
+    ghost use Rattle.shader_info.specs.Recorded.{ArePairsOf, AreUsed, Dominates, IsSampled, IsSampledKey, SameInfo, is_used_for};
 
     /// Returns the number of the module's global variables.
     pub fn global_variable_count(&self) -> usize
@@ -132,6 +134,47 @@ impl FunctionInfo {
         ensures { result ≡ length self.now.expressions }
     {
         self.expressions.len()
+    }
+
+    /// Returns the positions of the global variables that a handle may have.
+    fn global_range(&self) -> Range<mark::GlobalVariable>
+        ensures { result ≡ (0, min (length self.now.global_uses) most_items) }
+    {
+        let count = self.global_uses.len().min(u32::MAX as usize) as u32;
+        Range::new(Handle::from_index(0), Handle::from_index(count))
+    }
+
+    /// Returns whether the recorded uses of a global variable contain all of the given ones.
+    fn is_used_for(&self, global: Handle<mark::GlobalVariable>, uses: GlobalUse) -> bool
+        ensures { result ≡ is_used_for self.now uses global }
+    {
+        match self.global_uses.as_slice().get(global.index()) {
+            Some(at) => at.contains(uses),
+            None => false,
+        }
+    }
+
+    /// Returns the global variables whose recorded uses contain all of the given ones, in ascending order: with `GlobalUse::WRITE` those
+    /// that the function writes, by itself or in a function that it calls. No arena has more than `u32::MAX` of them, and none beyond is
+    /// returned.
+    ///
+    /// # Errors
+    ///
+    /// `AllocError` if memory for the handles is refused.
+    pub fn globals_used(
+        &self,
+        alloc: Global,
+        uses: GlobalUse,
+    ) -> Result<Vec<Handle<mark::GlobalVariable>>, AllocError>
+        ensures { IfOk result (λ globals. AreUsed self.now uses globals.items) }
+    {
+        let mut globals = Vec::new(alloc);
+        for global in self.global_range().iter() {
+            if self.is_used_for(global, uses) {
+                globals.push(global)?;
+            }
+        }
+        Ok(globals)
     }
 
     /// Returns whether this function uses each global variable that both infos have in all ways in which the other function does.
