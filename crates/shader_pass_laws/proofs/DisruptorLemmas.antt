@@ -11,12 +11,12 @@ use Rattle.shader_analysis_spec.proofs.Flags.{case_flag, child_flag, flag, found
 use Rattle.shader_analysis_spec.proofs.PassLemmas.{flags_are_least}
 use Rattle.shader_info.specs.declared.error.UniformityDisruptor.{UniformityDisruptor}
 use Rattle.shader_passes.specs.declared.facts.Fact.{Fact}
-use Rattle.shader_passes.specs.Ends.{block_ends, block_fault, case_disruptor, disruptor_at, disruptor_in_case, disruptor_in_child}
-use Rattle.shader_passes.specs.Ends.{exit_cause, on_branch, requires_uniform_flow, step_ends}
+use Rattle.shader_passes.specs.Ends.{block_ends, exit_cause, on_branch, requires_uniform_flow, step_ends}
 use Rattle.shader_pass_laws.proofs.EndsLemmas.{Covers, block_first, block_kills, branch_some, entered_covers, exit_some, flag_behind}
 use Rattle.shader_pass_laws.proofs.EndsLemmas.{flag_continuing, flag_entered, or_same, step_is}
 use Rattle.shader_pass_laws.proofs.FlowWords.{calls_kill, emits_requiring, is_kill}
 use Rattle.shader_pass_laws.proofs.StepKills.{any_to, of_any}
+use Rattle.shader_pass_laws.specs.Disruptors.{disruptor_at, disruptor_in_case, disruptor_in_child}
 use Rattle.shader_pass_laws.specs.FlowLaws.{CallsKilling, EmitsDisrupted, IsDisrupted, KillsDisrupted, PassFindsKills}
 use Rattle.shader_pass_laws.specs.FlowLaws.{PassFindsViolations, PassIsLeast}
 

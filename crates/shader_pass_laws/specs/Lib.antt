@@ -1,3 +1,4 @@
+pub mod Disruptors
 pub mod FlowLaws
 pub mod OfTheStep
 pub mod PairsFit

@@ -2,8 +2,6 @@
 use Rattle.std.specs.Prelude.{ℕ, Bool, true, false, ◌||◌, not, nat_eq, List, [], ◌∷◌, Option, Some, None, is_some, slice_get, unwrap_or}
 use Rattle.std.specs.Option.{option_map, option_or}
 use Rattle.shader_arena.specs.Positions.{positions_between}
-use Rattle.shader_analysis_spec.specs.Flow.{At, start, rest, inside, Child, inner, accept, reject, body, continuing, case_of, CasesIn}
-use Rattle.shader_analysis_spec.specs.Flow.{from_first, after}
 use Rattle.shader_ir.specs.Body.{Body, End, Then, Step, Leaf, Nested, If, Switch, Loop}
 use Rattle.shader_ir.specs.Body.{Cases, NoCase, Case, Simple, Emit, Return, Kill, Call}
 use Rattle.shader_info.specs.declared.error.UniformityDisruptor.{UniformityDisruptor}
@@ -103,27 +101,6 @@ module _ (origin : ℕ → Option ℕ) (is_killing : ℕ → Bool) where
     pub cases_end : Option UniformityDisruptor → Option UniformityDisruptor → Cases → Exits
     cases_end o here NoCase = no_exit
     cases_end o here (Case v x fall cs) = either (block_ends here x) (cases_end o (case_disruptor o here fall (block_ends here x)) cs)
-
-  -- the disruptor in a case of a switch whose branches have a disruptor
-  abbrev pub disruptor_in_case : {all cs : Cases} → Option UniformityDisruptor → CasesIn all cs → Option UniformityDisruptor
-  disruptor_in_case branch from_first = branch
-  disruptor_in_case branch (after {x = x} {fall = fall} k) =
-      case_disruptor branch (disruptor_in_case branch k) fall (block_ends (disruptor_in_case branch k) x)
-
-  -- the disruptor in a block of a statement
-  abbrev pub disruptor_in_child : {s : Step} {x : Body} → Option UniformityDisruptor → Child s x → Option UniformityDisruptor
-  disruptor_in_child o inner = o
-  disruptor_in_child o (accept {c = c}) = on_branch origin o c
-  disruptor_in_child o (reject {c = c}) = on_branch origin o c
-  disruptor_in_child o body = o
-  disruptor_in_child o (continuing {x = x}) = disruptor_after o (block_ends o x)
-  disruptor_in_child o (case_of {e = e} k) = disruptor_in_case (on_branch origin o e) k
-
-  -- the disruptor with which the recursion comes to a path point
-  abbrev pub disruptor_at : {root b : Body} → At root b → Option UniformityDisruptor
-  disruptor_at start = None
-  disruptor_at (rest {s = s} p) = disruptor_after (disruptor_at p) (step_ends (disruptor_at p) s)
-  disruptor_at (inside p child) = disruptor_in_child (disruptor_at p) child
 
 -- the first violation: an expression that needs undisrupted flow and is emitted in disrupted flow
 module _ (origin : ℕ → Option ℕ) (is_killing : ℕ → Bool) (facts : List Fact) where
