@@ -1,3 +1,5 @@
+pub mod EntryLemmas
 pub mod FieldLemmas
+pub mod KeyLemmas
 pub mod ListLemmas
 pub mod RowLemmas

@@ -25,7 +25,7 @@ each_more R vs i v xs x ys pushed within is each here =
     subst (λ (ws : List (Value Global)). Each R (items_view ws) (xs ++ x ∷ [])) front (Each-append R (take i vs) v xs x each here) in
     subst (λ (zs : List _). Each R (items_view (take (i + 1) vs)) zs) (sym pushed) all
 
-take_over : {A : Type 0} (xs : List A) (i : ℕ) → length xs ≤ i → take i xs ≡ xs
+pub take_over : {A : Type 0} (xs : List A) (i : ℕ) → length xs ≤ i → take i xs ≡ xs
 take_over [] zero h = refl
 take_over [] (suc i) h = refl
 take_over (x ∷ xs) zero h = absurd (omega arith)

@@ -1,5 +1,7 @@
 pub mod Declarations
 pub mod Filters
+pub mod Keys
+pub mod NamedExpressions
 pub mod Names
 pub mod Rows
 pub mod Scalars

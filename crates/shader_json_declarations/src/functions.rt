@@ -1,11 +1,15 @@
 //! Reads the contents of functions besides expressions and statements.
+ghost use Rattle.std.specs.Prelude.{IfSome};
+ghost use Rattle.json.specs.Json.{number};
 ghost use Rattle.shader_json_declarations.specs.Declarations.{IsArgument, IsLocal, IsResult, IsStage};
+ghost use Rattle.shader_json_declarations.specs.NamedExpressions.{AreNamedExpressions};
 ghost use Rattle.shader_json_declarations.specs.Names.{stage_name};
-ghost use Rattle.std.specs.Prelude.{⊤};
+ghost use Rattle.shader_json_reader.specs.Numbers.{IsUnsigned};
 
 use crate::fields::Fields;
+use crate::maps::add_entry;
 use crate::names::{Spelled, named};
-use crate::values::Read;
+use crate::values::{Read, read_item};
 use json::Value;
 use shader_arena::Handle;
 use shader_ir::{
@@ -52,7 +56,7 @@ impl Read for LocalVariable {
 }
 
 impl Read for NamedExpressions {
-    ghost reads = { λ _ _. ⊤ };
+    ghost reads = { λ j names. AreNamedExpressions j names };
 
     fn read(context: &mut Context, value: &Value<'_>) -> Result<NamedExpressions, Failure> {
         let Value::Object(members) = value else {
@@ -63,29 +67,17 @@ impl Read for NamedExpressions {
             let Some(handle) = handle_of(member.0) else {
                 return Err(context.refused("keys that are handles"));
             };
-            let name = within(index, Read::read(context, &member.1))?;
-            add_name(context, &mut names, index, handle, name)?;
+            let name = read_item(context, index, &member.1)?;
+            within(index, add_entry(context, &mut names, handle, name))?;
         }
         Ok(names)
     }
 }
 
-/// Adds the name that the member of this index gives to an expression.
-fn add_name(
-    context: &Context,
-    names: &mut NamedExpressions,
-    index: usize,
-    handle: Handle<mark::Expression>,
-    name: Name,
-) -> Result<(), Failure> {
-    if names.insert(handle, name)?.is_some() {
-        return Err(context.refused("a key that stands once").within(index));
-    }
-    Ok(())
-}
-
 /// Returns the handle that a key spells, in decimal without sign or leading zeros.
-fn handle_of(key: &str) -> Option<Handle<mark::Expression>> {
+fn handle_of(key: &str) -> Option<Handle<mark::Expression>>
+    ensures { IfSome result (λ handle. IsUnsigned (number key.now) handle) }
+{
     match key.as_bytes() {
         [b'0'] => Some(Handle::from_index(0)),
         [b'1'..=b'9', ..] => match key.parse::<u32>() {

@@ -7,6 +7,7 @@ mod filters;
 mod functions;
 mod globals;
 mod images;
+mod maps;
 mod names;
 mod scalars;
 mod special_types;

@@ -1,8 +1,13 @@
 //! Reads the types that built-in functions and ray queries return.
-ghost use Rattle.shader_json_declarations.specs.SpecialTypes.{AreSpecialTypes};
-ghost use Rattle.std.specs.Prelude.{⊤};
+ghost use Rattle.std.specs.Prelude.{◌≡◌, IfOk, IsTrue, OnOk};
+ghost use Rattle.json.specs.Json.{no_members, object};
+ghost use Rattle.json.specs.Value.{value_view};
+ghost use Rattle.shader_json_declarations.specs.Keys.{IsKey, IsKeyed};
+ghost use Rattle.shader_json_declarations.specs.SpecialTypes.{ArePredeclared, AreSpecialTypes, HasShape, IsAdded};
+ghost use Rattle.shader_json_reader.specs.Shapes.{IsObject};
 
 use crate::fields::{Fields, Variant};
+use crate::maps::add_entry;
 use crate::values::Read;
 use indexmap::IndexSet;
 use json::Value;
@@ -25,7 +30,7 @@ struct Shape {
 }
 
 impl Read for Shape {
-    ghost reads = { λ _ _. ⊤ };
+    ghost reads = { λ j shape. IsObject j (λ ms. HasShape ms shape.size shape.scalar) };
 
     fn read(context: &mut Context, value: &Value<'_>) -> Result<Shape, Failure> {
         let fields = Fields::of(context, value)?;
@@ -37,7 +42,7 @@ impl Read for Shape {
 }
 
 impl Read for Key {
-    ghost reads = { λ _ _. ⊤ };
+    ghost reads = { λ j key. IsKey j key };
 
     fn read(context: &mut Context, value: &Value<'_>) -> Result<Key, Failure> {
         let Variant { name, data } = Variant::of(context, value)?;
@@ -67,25 +72,26 @@ struct Predeclared {
 
 impl Predeclared {
     /// Adds a key with its type.
-    fn add(&mut self, context: &mut Context, pair: &Value<'_>) -> Result<(), Failure> {
-        let (key, ty) = read_pair(context, pair)?;
-        let is_new = match key {
-            Key::Supported(key) => self.stored.insert(key, ty)?.is_none(),
-            Key::Dropped(scalar) => self.dropped.insert(scalar)?,
-        };
-        if is_new {
-            Ok(())
-        } else {
-            Err(context.refused("a key that stands once").within(0))
+    fn add(&mut self, context: &mut Context, pair: &Value<'_>) -> Result<(), Failure>
+        ensures { OnOk result (IsAdded (value_view pair.now) self.old.stored self.new.stored) }
+    {
+        match read_pair(context, pair)? {
+            (Key::Supported(key), ty) => within(0, add_entry(context, &mut self.stored, key, ty)),
+            (Key::Dropped(scalar), _) => {
+                if self.dropped.insert(scalar)? {
+                    Ok(())
+                } else {
+                    Err(context.refused("a key that stands once").within(0))
+                }
+            }
         }
     }
 }
 
 /// Reads a key with its type.
-fn read_pair(
-    context: &mut Context,
-    pair: &Value<'_>,
-) -> Result<(Key, Handle<mark::Type>), Failure> {
+fn read_pair(context: &mut Context, pair: &Value<'_>) -> Result<(Key, Handle<mark::Type>), Failure>
+    ensures { IfOk result (λ keyed. IsKeyed (value_view pair.now) keyed.0 keyed.1) }
+{
     let wanted = "an array of 2 items, key and type";
     let Value::Array(items) = pair else {
         return Err(context.refused(wanted));
@@ -100,7 +106,9 @@ fn read_pair(
 }
 
 /// Returns whether a value is an object without members.
-fn is_empty_object(value: &Value<'_>) -> bool {
+fn is_empty_object(value: &Value<'_>) -> bool
+    ensures { IsTrue result → value_view value.now ≡ object no_members }
+{
     match value {
         Value::Object(members) => members.is_empty(),
         _ => false,
@@ -108,7 +116,7 @@ fn is_empty_object(value: &Value<'_>) -> bool {
 }
 
 impl Read for Predeclared {
-    ghost reads = { λ _ _. ⊤ };
+    ghost reads = { λ j types. ArePredeclared j types.stored };
 
     /// Reads an array of pairs. An object must be empty, since the keys of this map can't be keys
     /// of JSON.
