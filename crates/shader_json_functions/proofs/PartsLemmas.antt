@@ -9,6 +9,7 @@ use Rattle.json.specs.Token.{Token}
 use Rattle.shader_ir.specs.declared.function.EntryPoint.{EntryPoint}
 use Rattle.shader_ir.specs.declared.function.Function.{Function}
 use Rattle.shader_json_declarations.specs.Declarations.{IsArgument, IsLocal, IsResult, IsStage}
+use Rattle.shader_json_declarations.specs.NamedExpressions.{AreNamedExpressions}
 use Rattle.shader_json_expressions.specs.Expressions.{IsExpression}
 use Rattle.shader_json_reader.specs.Numbers.{IsText, IsUnsigned}
 use Rattle.shader_json_reader.specs.Shapes.{HasField, IsList, IsOnly, IsOnlyOrNull, IsNullable, MayHaveField, Reading, cons_if, values_of}
@@ -74,6 +75,8 @@ next_function depth tokens rest left ms f parts is has =
         still_has (codes "expressions") (codes "body") (IsList IsLocal) (codes "local_variables") parts.ms f.local_variables refl all.3,
         still_may_have (codes "expressions") (codes "body") IsUnsigned (codes "diagnostic_filter_leaf") parts.ms f.diagnostic_filter_leaf
             refl all.4,
+        still_has (codes "expressions") (codes "body") AreNamedExpressions (codes "named_expressions") parts.ms f.named_expressions
+            refl all.5,
       );
     }
 
