@@ -1,16 +1,18 @@
 -- Constants, variables, arguments, results and filters are determined by their JSON.
 use Rattle.std.proofs.Common.{◌≡◌, ◌∙◌, sym, refl, inl, inr, ℕ, List, [], ◌∷◌, Option, Some}
 use Rattle.std.proofs.Common.{codes}
-use Rattle.json.specs.Json.{Json}
+use Rattle.json.specs.Json.{Json, null, boolean, number, string, array, object, Items, no_items, item, Members, no_members, member}
 use Rattle.shader_json_reader.specs.Numbers.{IsUnsigned, IsText}
 use Rattle.shader_json_reader.specs.Shapes.{values_of}
 use Rattle.shader_json_module.specs.Fixed.{Determines, DeterminesOf}
 use Rattle.shader_json_module.proofs.Numbers.{unsigned_same, text_same}
-use Rattle.shader_json_module.proofs.Shapes.{apart, optional_of, field, optional}
-use Rattle.shader_json_module.proofs.Shapes.{only_of, same_object, same_variant, named, name_determines}
+use Rattle.shader_json_module.proofs.Shapes.{apart, optional_of, field, list, optional}
+use Rattle.shader_json_module.proofs.Shapes.{only_of, same_array, same_object, same_struct, same_variant, named, name_determines}
 use Rattle.shader_ir.specs.declared.function.ShaderStage.{ShaderStage}
 use Rattle.shader_ir.specs.declared.module.DiagnosticRule.{DiagnosticRule}
 use Rattle.shader_ir.specs.declared.module.DiagnosticRule.TheVariants as diagnostics
+use Rattle.shader_ir.specs.declared.module.PredeclaredType.{PredeclaredType}
+use Rattle.shader_ir.specs.declared.module.PredeclaredType.TheVariants as predeclared
 use Rattle.shader_ir.specs.declared.module.Severity.{Severity}
 use Rattle.shader_ir.specs.declared.function.ShaderStage.TheVariants as stages
 use Rattle.shader_ir.specs.declared.module.Severity.TheVariants as severities
@@ -18,8 +20,12 @@ use Rattle.shader_json_declarations.specs.Names.{severity_name, stage_name}
 use Rattle.shader_json_declarations.specs.Types.{IsBinding, IsSpace}
 use Rattle.shader_json_declarations.specs.Declarations.{IsConstant, IsOverride, IsGlobal, IsArgument, IsResult, IsLocal, IsStage}
 use Rattle.shader_json_declarations.specs.Filters.{IsFilter, IsFilterNode, IsRule, IsRuleOf, IsSeverity}
-use Rattle.shader_json_declarations.specs.SpecialTypes.{AreSpecialTypes}
-use Rattle.shader_json_module.specs.Fixed.{fixed_argument, fixed_binding, fixed_result, fixed_special_types}
+use Rattle.shader_json_declarations.specs.NamedExpressions.{AreNamedExpressions, AreNames}
+use Rattle.shader_json_declarations.specs.Scalars.{IsScalar, IsSize}
+use Rattle.shader_json_declarations.specs.SpecialTypes.{ArePredeclared, AreSpecialTypes, IsEntry, IsPair, IsPredeclared, IsPredeclaredOf}
+use Rattle.shader_json_declarations.specs.SpecialTypes.{recorded}
+use Rattle.shader_json_module.specs.Fixed.{fixed_argument, fixed_binding, fixed_result}
+use Rattle.shader_json_module.proofs.Scalars.{scalar_same, size_same}
 use Rattle.shader_json_module.proofs.Types.{binding_same, space_same}
 
 abbrev stage_all : List ShaderStage
@@ -95,14 +101,69 @@ result_same j x y u v = same_object _ _ _ _ (λ ms p q i. record {
   binding = optional_of IsBinding fixed_binding binding_same (codes "binding") ms x.binding y.binding p.1 q.1 i;
 }) j u v
 
-pub special_types_same : DeterminesOf fixed_special_types AreSpecialTypes
+abbrev label_predeclared : PredeclaredType → List ℕ
+label_predeclared (predeclared.FrexpResult size scalar) = codes "FrexpResult"
+label_predeclared (predeclared.ModfResult size scalar) = codes "ModfResult"
+
+labelled_predeclared : (name : List ℕ) (payload : Option Json) (x : PredeclaredType) → IsPredeclaredOf name payload x
+    → name ≡ label_predeclared x
+labelled_predeclared name payload (predeclared.FrexpResult size scalar) u = u.0
+labelled_predeclared name payload x u = u.0
+
+predeclared_of : (name : List ℕ) (payload : Option Json) (x y : PredeclaredType) → IsPredeclaredOf name payload x
+    → IsPredeclaredOf name payload y → x ≡ y
+predeclared_of name payload (predeclared.FrexpResult size scalar) (predeclared.FrexpResult size′ scalar′) u v = same_struct _ _ _ _
+    (λ ms p q i. predeclared.FrexpResult (optional IsSize size_same (codes "size") ms size size′ p.0 q.0 i)
+    (field IsScalar scalar_same (codes "scalar") ms scalar scalar′ p.1 q.1 i)) payload u.1 v.1
+predeclared_of name payload (predeclared.ModfResult size scalar) (predeclared.ModfResult size′ scalar′) u v = same_struct _ _ _ _
+    (λ ms p q i. predeclared.ModfResult (optional IsSize size_same (codes "size") ms size size′ p.0 q.0 i)
+    (field IsScalar scalar_same (codes "scalar") ms scalar scalar′ p.1 q.1 i)) payload u.1 v.1
+predeclared_of name payload x y u v = apart (label_predeclared x) (label_predeclared y) refl
+    (sym (labelled_predeclared name payload x u) ∙ labelled_predeclared name payload y v)
+
+predeclared_same : Determines IsPredeclared
+predeclared_same j x y u v = same_variant _ _ _ _ (λ name payload p q. predeclared_of name payload x y p q) j u v
+
+pair_of : (js : Items) (x y : PredeclaredType × ℕ) → IsPair (λ key ty. IsPredeclared key x.0 × IsUnsigned ty x.1) js
+    → IsPair (λ key ty. IsPredeclared key y.0 × IsUnsigned ty y.1) js → x ≡ y
+pair_of no_items x y u v = absurd u
+pair_of (item key no_items) x y u v = absurd u
+pair_of (item key (item ty no_items)) x y u v = λ i. (predeclared_same key x.0 y.0 u.0 v.0 i, unsigned_same ty x.1 y.1 u.1 v.1 i)
+pair_of (item key (item ty (item j js))) x y u v = absurd u
+
+entry_same : Determines IsEntry
+entry_same j x y u v = same_array _ _ _ _ (λ js p q. pair_of js x y p q) j u v
+
+entries_same : Determines ArePredeclared
+entries_same null x y u v = absurd u
+entries_same (boolean b) x y u v = absurd u
+entries_same (number s) x y u v = absurd u
+entries_same (string s) x y u v = absurd u
+entries_same (array js) x y u v = list IsEntry entry_same (array (recorded js)) x y u v
+entries_same (object no_members) x y u v = u ∙ sym v
+entries_same (object (member k j ms)) x y u v = absurd u
+
+pub special_types_same : Determines AreSpecialTypes
 special_types_same j x y u v = same_object _ _ _ _ (λ ms p q i. record {
   ray_intersection = optional IsUnsigned unsigned_same
       (codes "ray_intersection") ms x.ray_intersection y.ray_intersection p.0 q.0 i;
   ray_vertex_return = optional IsUnsigned unsigned_same
       (codes "ray_vertex_return") ms x.ray_vertex_return y.ray_vertex_return p.1 q.1 i;
-  predeclared_types = [];
+  predeclared_types = field ArePredeclared entries_same
+      (codes "predeclared_types") ms x.predeclared_types y.predeclared_types p.2 q.2 i;
 }) j u v
+
+names_of : (ms : Members) (xs ys : List (ℕ × List ℕ)) → AreNames ms xs → AreNames ms ys → xs ≡ ys
+names_of no_members [] [] u v = refl
+names_of no_members [] (y ∷ ys) u v = absurd v
+names_of no_members (x ∷ xs) ys u v = absurd u
+names_of (member k j ms) [] ys u v = absurd u
+names_of (member k j ms) (x ∷ xs) [] u v = absurd v
+names_of (member k j ms) (x ∷ xs) (y ∷ ys) u v =
+    λ i. (unsigned_same (number k) x.0 y.0 u.0 v.0 i, text_same j x.1 y.1 u.1 v.1 i) ∷ names_of ms xs ys u.2 v.2 i
+
+pub named_expressions_same : Determines AreNamedExpressions
+named_expressions_same j x y u v = same_object _ _ _ _ (λ ms p q. names_of ms x y p q) j u v
 
 rule_of : (name : List ℕ) (payload : Option Json) (x y : DiagnosticRule) → IsRuleOf name payload x → IsRuleOf name payload y → x ≡ y
 rule_of name payload diagnostics.DerivativeUniformity diagnostics.DerivativeUniformity u v = refl

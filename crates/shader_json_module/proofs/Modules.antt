@@ -1,5 +1,5 @@
 -- Modules are determined by their JSON, but for what it leaves open.
-use Rattle.std.proofs.Common.{◌≡◌, [], map, Option, Some, None}
+use Rattle.std.proofs.Common.{◌≡◌, map, Option, Some, None}
 use Rattle.std.proofs.Common.{MatchOption}
 use Rattle.std.proofs.Common.{codes}
 use Rattle.json.specs.Json.{Json}
@@ -12,6 +12,7 @@ use Rattle.shader_json_module.proofs.Shapes.{same_object}
 use Rattle.json.specs.Json.{document}
 use Rattle.shader_json_declarations.specs.Declarations.{IsArgument, IsConstant, IsGlobal, IsLocal, IsOverride, IsResult, IsStage}
 use Rattle.shader_json_declarations.specs.Filters.{IsFilterNode}
+use Rattle.shader_json_declarations.specs.NamedExpressions.{AreNamedExpressions}
 use Rattle.shader_json_declarations.specs.SpecialTypes.{AreSpecialTypes}
 use Rattle.shader_json_declarations.specs.Types.{IsType}
 use Rattle.shader_json_expressions.specs.Expressions.{IsExpression}
@@ -19,9 +20,10 @@ use Rattle.shader_json_functions.specs.Statements.{IsBlock}
 use Rattle.shader_json_functions.specs.Functions.{IsEntryPoint, IsFunction}
 use Rattle.shader_json_module.specs.Modules.{IsModule}
 use Rattle.shader_json_module.specs.Fixed.{TextDeterminesModule, fixed_argument, fixed_entry_point, fixed_expression, fixed_function}
-use Rattle.shader_json_module.specs.Fixed.{fixed_module, fixed_result, fixed_special_types, fixed_type}
+use Rattle.shader_json_module.specs.Fixed.{fixed_module, fixed_result, fixed_type}
 use Rattle.shader_json_module.proofs.Declarations.{argument_same, constant_same, filter_node_same, global_same, local_same}
-use Rattle.shader_json_module.proofs.Declarations.{override_same, result_same, special_types_same, stage_same}
+use Rattle.shader_json_module.proofs.Declarations.{named_expressions_same, override_same, result_same}
+use Rattle.shader_json_module.proofs.Declarations.{special_types_same, stage_same}
 use Rattle.shader_json_module.proofs.Expressions.{expression_same}
 use Rattle.shader_json_module.proofs.Statements.{block_same}
 use Rattle.shader_json_module.proofs.Types.{type_same}
@@ -39,7 +41,8 @@ function_same j x y u v = same_object _ _ _ _ (λ ms p q i. record {
   expressions =
       field_of (IsList IsExpression) (map fixed_expression) (list_of IsExpression fixed_expression expression_same)
       (codes "expressions") ms x.expressions y.expressions p.0 q.0 i;
-  named_expressions = [];
+  named_expressions = field
+      AreNamedExpressions named_expressions_same (codes "named_expressions") ms x.named_expressions y.named_expressions p.7 q.7 i;
   body = field IsBlock block_same
       (codes "body") ms x.body y.body p.1 q.1 i;
   diagnostic_filter_leaf = optional IsUnsigned unsigned_same
@@ -60,7 +63,7 @@ module_same j x y u v = same_object _ _ _ _ (λ ms p q i. record {
   types = field_of (IsList IsType) (map fixed_type)
       (list_of IsType fixed_type type_same) (codes "types") ms x.types y.types p.0.0 q.0.0 i;
   special_types =
-      field_of AreSpecialTypes fixed_special_types special_types_same
+      field AreSpecialTypes special_types_same
       (codes "special_types") ms x.special_types y.special_types p.1.0 q.1.0 i;
   constants = field (IsList IsConstant)
       (list IsConstant constant_same) (codes "constants") ms x.constants y.constants p.1.1 q.1.1 i;

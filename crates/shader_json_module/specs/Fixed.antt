@@ -1,5 +1,5 @@
 -- What the JSON of a module determines.
-use Rattle.std.specs.Prelude.{◌≡◌, ℕ, List, [], map}
+use Rattle.std.specs.Prelude.{◌≡◌, ℕ, List, map}
 use Rattle.std.specs.Option.{option_map}
 use Rattle.json.specs.Json.{Json}
 use Rattle.shader_ir.specs.declared.binding.Binding.{Binding}
@@ -15,7 +15,6 @@ use Rattle.shader_ir.specs.declared.function.FunctionResult.{FunctionResult}
 use Rattle.shader_ir.specs.declared.literal.Literal.{Literal}
 use Rattle.shader_ir.specs.declared.literal.Literal.TheVariants as l
 use Rattle.shader_ir.specs.declared.«module».Module.{Module}
-use Rattle.shader_ir.specs.declared.«module».SpecialTypes.{SpecialTypes}
 use Rattle.shader_ir.specs.declared.types.StructMember.{StructMember}
 use Rattle.shader_ir.specs.declared.types.«Type».{«Type»}
 use Rattle.shader_ir.specs.declared.types.TypeInner.{TypeInner}
@@ -67,26 +66,19 @@ fixed_argument a = record a { binding = option_map fixed_binding a.binding }
 abbrev pub fixed_result : FunctionResult → FunctionResult
 fixed_result r = record r { binding = option_map fixed_binding r.binding }
 
--- the names of expressions are left out
 abbrev pub fixed_function : Function → Function
 fixed_function f = record f {
   arguments = map fixed_argument f.arguments;
   result = option_map fixed_result f.result;
   expressions = map fixed_expression f.expressions;
-  named_expressions = [];
 }
 
 abbrev pub fixed_entry_point : EntryPoint → EntryPoint
 fixed_entry_point entry = record entry { function = fixed_function entry.function }
 
--- the types of predeclared names are left out
-abbrev pub fixed_special_types : SpecialTypes → SpecialTypes
-fixed_special_types special = record special { predeclared_types = [] }
-
 abbrev pub fixed_module : Module → Module
 fixed_module m = record m {
   types = map fixed_type m.types;
-  special_types = fixed_special_types m.special_types;
   global_expressions = map fixed_expression m.global_expressions;
   functions = map fixed_function m.functions;
   entry_points = map fixed_entry_point m.entry_points;
