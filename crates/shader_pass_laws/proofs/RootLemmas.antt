@@ -2,13 +2,13 @@
 use Rattle.std.proofs.Common.{◌≡◌, refl, sym, ap, subst, ◌∙◌, ℕ, zero, suc, ◌<◌, List, [], ◌∷◌, Bool, true}
 use Rattle.std.proofs.Common.{false, Option, Some, None, slice_get, length, arith, get_or, nat_lt}
 use borrow.Author.Tests.{ltb-true, ltb-false}
-use Rattle.std.specs.List.{Contains, enumerate_from}
+use Rattle.std.specs.List.{enumerate_from}
 use Rattle.std.specs.Option.{option_and_then}
 use Rattle.std.proofs.lemmas.Option.{slice_get-get_or, slice_get_past}
 use Rattle.shader_ir.specs.declared.expression.Expression.TheVariants as form
 use Rattle.shader_ir.specs.declared.proc.operands.Label.TheVariants.{Part, Read}
 use Rattle.shader_ir.specs.Occurs as occurs
-use Rattle.shader_analysis_spec.specs.Program.{Function, Module, Expression, Label, Root, IsExpressionAt, expression_operands}
+use Rattle.shader_analysis_spec.specs.Program.{Function, Module, Expression, Root, IsExpressionAt}
 use Rattle.shader_passes.specs.declared.facts.Fact.{Fact}
 use Rattle.shader_info.specs.declared.info.FunctionInfo.{FunctionInfo}
 use Rattle.shader_passes.specs.Facts.{root_at, own_root, entry, facts_after}

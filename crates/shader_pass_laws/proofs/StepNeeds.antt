@@ -13,8 +13,8 @@ use Rattle.shader_ir.specs.declared.expression.SampleLevel.{SampleLevel}
 use Rattle.shader_ir.specs.declared.expression.SampleLevel.TheVariants as level
 use Rattle.shader_analysis_spec.specs.Infos.{Info}
 use Rattle.shader_analysis_spec.specs.Needs.{Need, WorkGroupBarrier, Derivative, ImplicitLevel, CooperativeOperation}
-use Rattle.shader_analysis_spec.specs.Needs.{bit_of_need, expression_requires, statement_requires, simple_requires, is_implicit}
-use Rattle.shader_analysis_spec.specs.Program.{Function, Module, Expression, Simple, Step, Leaf, Emit, ControlBarrier, MemoryBarrier}
+use Rattle.shader_analysis_spec.specs.Needs.{bit_of_need, expression_requires, statement_requires, is_implicit}
+use Rattle.shader_analysis_spec.specs.Program.{Function, Module, Expression, Step, Leaf, Emit, ControlBarrier, MemoryBarrier}
 use Rattle.shader_analysis_spec.specs.Program.{WorkGroupUniformLoad, CooperativeStore, Call, IsExpressionAt, statements}
 use Rattle.shader_analysis_spec.specs.Steps.{StepExpressionNeed, StepNeed}
 use Rattle.shader_analysis_spec.specs.Steps as step
@@ -27,7 +27,7 @@ use Rattle.shader_passes.specs.CalleeUses.{with_needs_of, statement_needs}
 use Rattle.shader_passes.proofs.FactLemmas.{is_there_between, get_seam}
 use Rattle.shader_passes.proofs.StoredInfoLemmas.{stored_of, of_stored}
 use Rattle.shader_passes.proofs.StepOrigins.{same_expression, facts_long}
-use Rattle.shader_analysis_spec.proofs.JoinLemmas.{no_bit, not_bit, of_bit, or_to, or_of, joined_to, joined_old, joined_of, range_to}
+use Rattle.shader_analysis_spec.proofs.JoinLemmas.{no_bit, not_bit, of_bit, or_to, or_of, joined_to, joined_of, range_to}
 use Rattle.shader_analysis_spec.proofs.JoinLemmas.{of_range}
 
 -- the bits with a name are those of the needs

@@ -12,11 +12,10 @@ use Rattle.std.proofs.lemmas.Bool.{cases_eq}
 use Rattle.std.proofs.lemmas.Nat.{and_assoc, and_le_r, or_lt}
 use Rattle.std.proofs.lemmas.List.{get_or_past, get_or-replicate, length-map, length-replicate}
 use Rattle.shader_analysis_spec.proofs.BitsLemmas.{numbers_are_sets}
-use Rattle.shader_ir.specs.declared.expression.Expression.TheVariants as form
 use Rattle.shader_ir.specs.declared.proc.operands.Label.TheVariants.{Part, Read, Write, ReadWrite, Query, Atomic}
 use Rattle.shader_ir.specs.Occurs as occurs
 use Rattle.shader_analysis_spec.specs.Infos.{Info, Use, Reads, Writes, Queries, Atomics, bit_of}
-use Rattle.shader_analysis_spec.specs.Program.{Function, Module, Label, Step, Leaf, Call, Root, IsExpressionAt, occurrences, statements}
+use Rattle.shader_analysis_spec.specs.Program.{Function, Module, Label, Step, Leaf, Call, Root, occurrences, statements}
 use Rattle.shader_analysis_spec.specs.Uses.{Names, adds_use}
 use Rattle.shader_analysis_spec.specs.Steps.{CalleeInfo, CalleeUses, StepUse}
 use Rattle.shader_analysis_spec.specs.Steps as step
