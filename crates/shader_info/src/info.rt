@@ -140,7 +140,7 @@ impl FunctionInfo {
     fn global_range(&self) -> Range<mark::GlobalVariable>
         ensures { result ≡ (0, min (length self.now.global_uses) most_items) }
     {
-        let count = self.global_uses.len().min(u32::MAX as usize) as u32;
+        let count = self.global_variable_count().min(u32::MAX as usize) as u32;
         Range::new(Handle::from_index(0), Handle::from_index(count))
     }
 

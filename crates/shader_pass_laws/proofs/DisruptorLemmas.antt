@@ -1,5 +1,6 @@
 -- The disruptors of the pass decide disruption, as the flags do.
-use Rattle.std.proofs.Common.{◌≡◌, refl, sym, ap, ◌∙◌, ◌↔◌, ℕ, ◌⊎◌, inl, inr, List, Bool, ◌||◌, ◌&&◌, IsTrue, Option, None, is_some, subst}
+use Rattle.std.proofs.Common.{◌≡◌, refl, sym, ap, ◌∙◌, ◌↔◌, ℕ, ◌⊎◌, inl, inr, List, Bool, false, ◌||◌, ◌&&◌, IsTrue, Option}
+use Rattle.std.proofs.Common.{None, is_some}
 use Rattle.std.specs.List.{Contains, list_any}
 use Rattle.std.proofs.lemmas.Bool.{or_cases, or_left, or_right}
 use Rattle.shader_arena.specs.Positions.{positions_between}
@@ -69,10 +70,10 @@ module _ (origin : ℕ → Option ℕ) (K : ℕ → Bool) where
 
   violation_to : (facts : List Fact) (root : Body) (s : Step) (b : Body) (p : At root (Then s b)) →
       IsTrue (emits_requiring facts s) → IsDisrupted origin K root (Then s b) p → EmitsDisrupted origin K root facts
-  violation_to facts root (Leaf (Emit start finish)) b p needs d =
-      let one = any_to (requires_uniform_flow facts) (positions_between start finish) needs in
+  violation_to facts root (Leaf (Emit first finish)) b p needs d =
+      let one = any_to (requires_uniform_flow facts) (positions_between first finish) needs in
       record {
-        start = start;
+        start = first;
         finish = finish;
         left = b;
         at = p;

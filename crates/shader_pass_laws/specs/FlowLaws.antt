@@ -1,5 +1,5 @@
 -- Laws: the recursion over the blocks that the pass computes decides disruption.
-use Rattle.std.specs.Prelude.{ℕ, ◌⊎◌, ◌↔◌, IsTrue, List, Option, None, is_some}
+use Rattle.std.specs.Prelude.{ℕ, ◌⊎◌, ◌↔◌, Bool, IsTrue, List, Option, None, is_some}
 use Rattle.std.specs.List.{Contains}
 use Rattle.shader_arena.specs.Positions.{positions_between}
 use Rattle.shader_analysis_spec.specs.Flow.{At, Disrupted, Exits}
@@ -30,10 +30,10 @@ module _ (origin : ℕ → Option ℕ) (is_killing : ℕ → Bool) (root : Body)
   abbrev pub KillsDisrupted : Type 0
   KillsDisrupted = (left : Body) × (p : At root (Then (Leaf Kill) left)) × IsDisrupted _ p
 
-  -- a function that kills is called
-  abbrev pub CallsKilling : Type 0
-  CallsKilling = (c : ℕ) × (arguments : List ℕ) × (result : Option ℕ) × Contains (statements root) (Leaf (Call c arguments result))
-      × IsTrue (is_killing c)
+-- a function that kills is called
+abbrev pub CallsKilling : (is_killing : ℕ → Bool) → Body → Type 0
+CallsKilling is_killing root = (c : ℕ) × (arguments : List ℕ) × (result : Option ℕ)
+    × Contains (statements root) (Leaf (Call c arguments result)) × IsTrue (is_killing c)
 
 -- the recursion decides the least relations: it has a disruptor exactly where flow is disrupted, and exits of the statements that exit
 abbrev pub PassIsLeast : Type 0

@@ -2,6 +2,6 @@
 //! exactly a fault. Each is the contract of a function that does nothing.
 #![tactic(auto)]
 
+pub mod disruption;
 pub mod faults;
-pub mod flow;
 pub mod steps;
