@@ -13,7 +13,7 @@ use Rattle.shader_analysis_spec.specs.Faults.{NoResource, NonUniformControlFlow,
 use Rattle.shader_analysis_spec.specs.StepFaults.{StepFault}
 use Rattle.shader_analysis_spec.specs.Infos.{Info, IsWitness}
 use Rattle.shader_analysis_spec.specs.Needs.{Need, bit_of_need}
-use Rattle.shader_analysis_spec.specs.Program.{Expression, Function, Module}
+use Rattle.shader_analysis_spec.specs.Program.{Function, Module}
 use Rattle.shader_analysis_spec.specs.Steps.{MeetsSteps, StepExpressionNeed, StepKill, StepNeed, StepResult}
 use Rattle.shader_pass_laws.proofs.Arguments.{typed_functions_have_arguments}
 use Rattle.shader_pass_laws.proofs.Pairs.{collected_pairs_fit}
@@ -23,7 +23,7 @@ use Rattle.shader_info.specs.Fit.{Fits, IsOfModule}
 use Rattle.shader_info.specs.declared.info.ExpressionInfo.{ExpressionInfo}
 use Rattle.shader_info.specs.declared.info.FunctionInfo.{FunctionInfo}
 use Rattle.shader_ir.specs.Key.{FitsTypes}
-use Rattle.shader_resolve.specs.Context.{IsInRange, context_of}
+use Rattle.shader_resolve.specs.Context.{context_of}
 use Rattle.shader_resolve.specs.WellFormed.{ExpressionInRange, FunctionInRange}
 use Rattle.shader_pass_laws.proofs.ResultLemmas.{expression_needs_of_the_step, kills_of_the_step, needs_of_the_step}
 use Rattle.shader_pass_laws.proofs.ResultLemmas.{pairs_of_the_step, results_of_the_step}
@@ -53,16 +53,11 @@ pub record IsComputed (m : Module) (infos : List FunctionInfo) (f : Function) (i
   pub uses : HasUses m infos f (map (λ at. at.0) info.global_uses)
   pub pairs : SameMembers (info_pairs info) (computed_pairs infos f)
 
--- all that the expressions of such a function name exists
-names_in_range : (m : Module) (f : Function) → FunctionInRange m f → (e : ℕ) (x : Expression) → slice_get f.expressions e ≡ Some x →
-    IsInRange (function_context m f) x
-names_in_range m f within e x is_there =
-    (All-contains (ExpressionInRange m (context_of m f.local_variables f.arguments) f.expressions) f.expressions x within.expressions
-    (is_item f.expressions e x is_there)).names
-
 -- the globals that an analysable function names exist, and each stored info has an entry for each
 pub globals_within : (m : Module) (f : Function) → FunctionInRange m f → GlobalsWithin m f
-globals_within m f within e g is_there = names_in_range m f within e _ is_there
+globals_within m f within e g is_there =
+    (All-contains (ExpressionInRange m (context_of m f.local_variables f.arguments) f.expressions) f.expressions _ within.expressions
+    (is_item f.expressions e _ is_there)).names
 
 pub fit_stored : (m : Module) (infos : List FunctionInfo) → AreStored m infos → FitStored m infos
 fit_stored m infos stored = record {
@@ -122,7 +117,7 @@ module _ (m : Module) (infos : List FunctionInfo) (f : Function) (on : IsAnalyza
         global_uses = sym (length-map info.global_uses (λ at. at.0)) ∙ is.uses.1;
         expressions = long;
         types = all_of_map m info.expressions
-            (types_of_module (function_context m f) f.expressions (names_in_range m f on.handles) m
+            (types_of_module (function_context m f) f.expressions m
             (map (λ (e : ExpressionInfo). e.ty) info.expressions) is.fit is.types.derived);
         known = pairs.0;
         with_arguments = pairs.1;

@@ -13,6 +13,7 @@ pub mod ListLemmas
 pub mod NeedsLemmas
 pub mod Order
 pub mod OriginsLemmas
+pub mod OutsideLemmas
 pub mod PairsLemmas
 pub mod PartingLemmas
 pub mod ReasonLemmas

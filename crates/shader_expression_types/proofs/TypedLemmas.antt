@@ -12,7 +12,7 @@ use Rattle.shader_ir.specs.Key.{FitsTypes, HoldsNoMembers}
 use Rattle.shader_resolve.proofs.GivenLemmas.{GivesNoMembers, KeepsNoMembers, fits-no_members, no_members_kept}
 use Rattle.shader_resolve.proofs.MemoryLemmas.{for_type}
 use Rattle.shader_resolve.specs.declared.error.ResolveError.{ResolveError}
-use Rattle.shader_resolve.specs.Context.{Context, IsInRange}
+use Rattle.shader_resolve.specs.Context.{Context}
 use Rattle.shader_resolve.specs.DerivesByRule.{OperandAnswer, DerivesByRule, Answered}
 use Rattle.shader_resolve.specs.Outcome.{Given, Meets, Memory, Outcome, Refusal, Refused}
 use Rattle.shader_resolve.specs.TypingRules.{TypingRule, Plain, One, Two, typing_rule}
@@ -52,7 +52,7 @@ module _ (context : Context) (expressions : List Expression) (types : List TypeR
         })
     concluded (Err failure) (Refused refusal) none answers (inr out_of_memory) = inr out_of_memory
 
-    module _ (names : IsInRange context x) (fit : All (FitsTypes context.types) types)
+    module _ (fit : All (FitsTypes context.types) types)
         (Post : ℕ → OperandAnswer → Type 0) (determines : (operand : ℕ) (reported : OperandAnswer) → Post operand reported →
         IsOkAnd reported (λ t. slice_get types operand ≡ Some t.now))
         (result : Result TypeResolution ResolveError) where
@@ -77,4 +77,4 @@ module _ (context : Context) (expressions : List Expression) (types : List TypeR
           concluded result (answer t.0 u.0) (keeps t.0 u.0 t.3 u.3) (by_two is same t.1 u.1) u.2
 
       pub is_reported : DerivesByRule memory Post result (typing_rule context x) → IsResultOf context expressions e memory result
-      is_reported follows = by_rule (typing_rule context x) refl (no_members_kept context x names) follows
+      is_reported follows = by_rule (typing_rule context x) refl (no_members_kept context x) follows

@@ -45,7 +45,7 @@ use Rattle.shader_resolve.specs.declared.resolve.access.Component.{Component}
 use Rattle.shader_resolve.specs.declared.resolve.access.Component.TheVariants as component_kind
 use Rattle.shader_resolve.specs.declared.resolve.access.BadIndex.{BadIndex}
 use Rattle.shader_resolve.specs.declared.resolve.access.BadIndex.TheVariants.{PastEnd, NotIndexable}
-use Rattle.shader_resolve.specs.Context.{Context, IsInRange}
+use Rattle.shader_resolve.specs.Context.{Context}
 use Rattle.shader_resolve.specs.DerivesByRule.{OperandAnswer, DerivesByRule, EachQueried}
 use Rattle.shader_resolve.specs.Images.{bool_scalar, texel, extent, gather_type, sample_type, extent_type}
 use Rattle.shader_resolve.specs.Operations.{test_type, logical_type}
@@ -83,6 +83,15 @@ pub record NamesFit (context : Context) (Named : ℕ → Type 0) : Type 0 where
   pub ray_vertex_return : IfSome context.special_types.ray_vertex_return Named
   pub predeclared : All (λ (entry : PredeclaredType × ℕ). Named entry.1) context.special_types.predeclared_types
 
+-- the types that an expression names itself have a property
+abbrev pub NamesHave : (ℕ → Type 0) → Expression → Type 0
+NamesHave Named (form.ZeroValue ty) = Named ty
+NamesHave Named (form.Compose ty components) = Named ty
+NamesHave Named (form.AtomicResult ty comparison) = Named ty
+NamesHave Named (form.WorkGroupUniformLoadResult ty) = Named ty
+NamesHave Named (form.SubgroupOperationResult ty) = Named ty
+NamesHave Named _ = Unit {0}
+
 -- a type that a rule may build outside the arena
 abbrev pub IsBuilt : TypeInner → Type 0
 IsBuilt (type.Array base size stride) = ⊥
@@ -109,7 +118,6 @@ module _ (Named : ℕ → Type 0) (Outside : TypeInner → Type 0) where
 -- a property of handles, which all that a module names have, and one of types outside the arena, which all have that rules build
 module _ (context : Context) (Named : ℕ → Type 0) (Outside : TypeInner → Type 0)
     (built : (inner : TypeInner) → IsBuilt inner → Outside inner)
-    (in_range : (ty : ℕ) → ty < length context.types → Named ty)
     (reached : (position : ℕ) (type : «Type») → slice_get context.types position ≡ Some type → All Named (type_handles type.inner))
     (stored : NamesFit context Named) where
   abbrev Fits : TypeResolution → Type 0
@@ -402,7 +410,7 @@ module _ (context : Context) (Named : ℕ → Type 0) (Outside : TypeInner → T
       first-fits Fits plain-fits context.special_types stored.predeclared _ fun))
 
   -- the outcome of each typing rule has the property
-  pub typing_rule-fits : (expression : Expression) → IsInRange context expression → NumberFits (typing_rule context expression)
+  pub typing_rule-fits : (expression : Expression) → NamesHave Named expression → NumberFits (typing_rule context expression)
   typing_rule-fits (form.Literal literal) h = (bare, built _ tt)
   typing_rule-fits (form.Constant constant) h =
       constant-fits (slice_get context.constants constant)
@@ -410,8 +418,8 @@ module _ (context : Context) (Named : ℕ → Type 0) (Outside : TypeInner → T
   typing_rule-fits (form.Override override) h =
       override-fits (slice_get context.overrides override)
       (listed (λ (override : Override). Named override.ty) context.overrides override stored.overrides)
-  typing_rule-fits (form.ZeroValue ty) h = in_range ty h
-  typing_rule-fits (form.Compose ty components) h = in_range ty h
+  typing_rule-fits (form.ZeroValue ty) h = h
+  typing_rule-fits (form.Compose ty components) h = h
   typing_rule-fits (form.Access base index) h =
       shape-fits base (lifted context.types base None) (lifted-fits base None)
   typing_rule-fits (form.AccessIndex base index) h =
@@ -448,8 +456,8 @@ module _ (context : Context) (Named : ℕ → Type 0) (Outside : TypeInner → T
   typing_rule-fits (form.CallResult function) h =
       result_of-fits (slice_get context.functions function)
       (listed (λ (function : Function). IfSome function.result (λ result. Named result.ty)) context.functions function stored.results)
-  typing_rule-fits (form.AtomicResult ty comparison) h = in_range ty h
-  typing_rule-fits (form.WorkGroupUniformLoadResult ty) h = in_range ty h
+  typing_rule-fits (form.AtomicResult ty comparison) h = h
+  typing_rule-fits (form.WorkGroupUniformLoadResult ty) h = h
   typing_rule-fits (form.ArrayLength array) h = (bare, built _ tt)
   typing_rule-fits (form.RayQueryVertexPositions query committed) h =
       special-fits context.special_types.ray_vertex_return stored.ray_vertex_return
@@ -457,7 +465,7 @@ module _ (context : Context) (Named : ℕ → Type 0) (Outside : TypeInner → T
   typing_rule-fits (form.RayQueryGetIntersection query committed) h =
       special-fits context.special_types.ray_intersection stored.ray_intersection
   typing_rule-fits form.SubgroupBallotResult h = (bare, built _ tt)
-  typing_rule-fits (form.SubgroupOperationResult ty) h = in_range ty h
+  typing_rule-fits (form.SubgroupOperationResult ty) h = h
   typing_rule-fits (form.CooperativeLoad columns rows role tile) h =
       shape-fits tile.pointer (tile_type tile.pointer context.types columns rows role)
       (λ inner h. tile-fits tile.pointer columns rows role (pointed_scalar context.types inner))

@@ -1,6 +1,7 @@
 -- What typing rules give: types whose handles are in range, and no struct outside the arena unless an operand's type is one.
 use Rattle.std.proofs.Common.{ℕ, ◌<◌, List, Option, Some, None, Result, Ok, Err, IfOk, IfSome, All, length}
 use Rattle.shader_ir.specs.declared.expression.Expression.{Expression}
+use Rattle.shader_ir.specs.declared.expression.Expression.TheVariants as form
 use Rattle.shader_ir.specs.declared.types.«Type».{«Type»}
 use Rattle.shader_ir.specs.declared.types.TypeInner.{TypeInner}
 use Rattle.shader_ir.specs.declared.types.TypeInner.TheVariants.{Struct}
@@ -13,7 +14,8 @@ use Rattle.shader_resolve.specs.Context.{Context, IsInRange, TypesInRange}
 use Rattle.shader_resolve.specs.DerivesByRule.{AnswerFits, AnswerInRange, DerivesByRule, EachQueried, OperandAnswer}
 use Rattle.shader_resolve.specs.Outcome.{Given, Memory, Outcome, Refused}
 use Rattle.shader_resolve.specs.TypingRules.{TypingRule, Plain, One, Two, typing_rule}
-use Rattle.shader_resolve.proofs.FitsLemmas.{Has, IsBuilt, NamesFit, OutcomeHas, RuleKeeps, derived-has, typing_rule-fits}
+use Rattle.shader_resolve.proofs.FitsLemmas.{Has, IsBuilt, NamesFit, NamesHave, OutcomeHas, RuleKeeps}
+use Rattle.shader_resolve.proofs.FitsLemmas.{derived-has, typing_rule-fits}
 use Rattle.shader_resolve.proofs.QueriedLemmas.{each-queried}
 
 always : {X : Type 0} (P : X → Type 0) → ((x : X) → P x) → (xs : List X) → All P xs
@@ -39,6 +41,23 @@ any_names context = record {
   ray_vertex_return = if_some context.special_types.ray_vertex_return;
   predeclared = always _ (λ entry. tt) context.special_types.predeclared_types;
 }
+
+any_named : (expression : Expression) → NamesHave Any expression
+any_named (form.ZeroValue ty) = tt
+any_named (form.Compose ty components) = tt
+any_named (form.AtomicResult ty comparison) = tt
+any_named (form.WorkGroupUniformLoadResult ty) = tt
+any_named (form.SubgroupOperationResult ty) = tt
+any_named expression = tt
+
+in_range-named : (context : Context) (expression : Expression) → IsInRange context expression →
+    NamesHave (λ handle. handle < length context.types) expression
+in_range-named context (form.ZeroValue ty) lt = lt
+in_range-named context (form.Compose ty components) lt = lt
+in_range-named context (form.AtomicResult ty comparison) lt = lt
+in_range-named context (form.WorkGroupUniformLoadResult ty) lt = lt
+in_range-named context (form.SubgroupOperationResult ty) lt = lt
+in_range-named context expression lt = tt
 
 built-no_struct : (inner : TypeInner) → IsBuilt inner → IsNoStruct inner
 built-no_struct (Struct span members) built = absurd built
@@ -124,12 +143,12 @@ module _ (types : List «Type») where
       both-fit types resolution (in_range-has resolution in_range) (no_members-has resolution none)
   result-fits (Err failure) in_range none = tt
 
-module _ (context : Context) (expression : Expression) (names : IsInRange context expression) where
+module _ (context : Context) (expression : Expression) where
   -- what all types outside the arena have that rules build, the rule's outcome has if the types of its operands have it
   pub outside_kept : (Outside : TypeInner → Type 0) → ((inner : TypeInner) → IsBuilt inner → Outside inner) →
       RuleKeeps Any Outside (typing_rule context expression)
-  outside_kept Outside built = typing_rule-fits context Any Outside built (λ ty lt. tt)
-      (λ position type is. always Any (λ handle. tt) (type_handles type.inner)) (any_names context) expression names
+  outside_kept Outside built = typing_rule-fits context Any Outside built
+      (λ position type is. always Any (λ handle. tt) (type_handles type.inner)) (any_names context) expression (any_named expression)
 
   no_struct_kept : RuleKeeps Any IsNoStruct (typing_rule context expression)
   no_struct_kept = outside_kept IsNoStruct built-no_struct
@@ -137,9 +156,9 @@ module _ (context : Context) (expression : Expression) (names : IsInRange contex
   pub no_members_kept : KeepsNoMembers (typing_rule context expression)
   no_members_kept = keeps-no_members (typing_rule context expression) no_struct_kept
 
-  module _ (backward : IsBackward context.types) (stored : TypesInRange context) where
+  module _ (names : IsInRange context expression) (backward : IsBackward context.types) (stored : TypesInRange context) where
     range_kept : RuleKeeps (Below context.types) (Each context.types) (typing_rule context expression)
-    range_kept = typing_rule-fits context (Below context.types) (Each context.types) (λ inner built. tt) (λ ty lt. lt) backward.in_range
+    range_kept = typing_rule-fits context (Below context.types) (Each context.types) (λ inner built. tt) backward.in_range
         (record {
           constants = stored.constants;
           overrides = stored.overrides;
@@ -150,7 +169,7 @@ module _ (context : Context) (expression : Expression) (names : IsInRange contex
           ray_intersection = stored.ray_intersection;
           ray_vertex_return = stored.ray_vertex_return;
           predeclared = stored.predeclared;
-        }) expression names
+        }) expression (in_range-named context expression names)
 
     module _ (memory : Memory) (Post : ℕ → OperandAnswer → Type 0) (result : Result TypeResolution ResolveError)
         (lent : EachQueried (λ operand. (reported : OperandAnswer) → Post operand reported → AnswerInRange context.types reported)

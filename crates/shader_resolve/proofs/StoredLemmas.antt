@@ -9,7 +9,7 @@ use Rattle.shader_resolve.proofs.GivenLemmas.{GivesNoMembers, KeepsNoMembers, an
 use Rattle.shader_resolve.proofs.QueriedLemmas.{queried, each-queried}
 use Rattle.shader_resolve.proofs.MemoryLemmas.{for_type}
 use Rattle.shader_resolve.specs.declared.error.ResolveError.{ResolveError}
-use Rattle.shader_resolve.specs.Context.{Context, IsInRange}
+use Rattle.shader_resolve.specs.Context.{Context}
 use Rattle.shader_resolve.specs.DerivesByRule.{OperandAnswer, DerivesByRule, EachQueried, AnswerFits, AnswerInRange, memory_of}
 use Rattle.shader_resolve.specs.Outcome.{Given, Meets, Memory, Outcome, Refused}
 use Rattle.shader_resolve.specs.Stored.{IsOutcomeOf, outcome_at}
@@ -74,14 +74,14 @@ module _ (context : Context) (x : Expression) (stored : List TypeResolution) (be
         (stored_fits fit operand reported (determines operand reported post)))
 
   -- the result is the outcome at the stored types, none of which is a struct outside the arena
-  pub outcome_of : IsInRange context x → All (FitsTypes context.types) stored → (Post : ℕ → OperandAnswer → Type 0)
+  pub outcome_of : All (FitsTypes context.types) stored → (Post : ℕ → OperandAnswer → Type 0)
       (result : Result TypeResolution ResolveError) →
       DerivesByRule (memory_of x) Post result (typing_rule context x) →
       ((operand : ℕ) (reported : OperandAnswer) → Post operand reported →
       IsOkAnd reported (λ t. slice_get stored operand ≡ Some t.now)) →
       IsOutcomeOf stored (memory_of x) (typing_rule context x) result
-  outcome_of names fit Post result derives determines =
+  outcome_of fit Post result derives determines =
       derivation_gives stored (memory_of x) Post result
       (λ operand t at. fits-no_members context.types t (subst (FitsTypes context.types) (get_or_from_slice_get stored operand t t at)
       (fit operand t (slice_get_within stored operand t at))))
-      determines (typing_rule context x) (no_members_kept context x names) derives
+      determines (typing_rule context x) (no_members_kept context x) derives

@@ -23,12 +23,12 @@ resolve-requires c κs = (
 pub returns-clause-reported : goal.returns-clause-reported
 returns-clause-reported c = λ expressions is first.
     is_reported c.args.context.now expressions c.args.types.now first (length c.args.types.now) c.args.expression.now is c.requires.operands
-    (memory_of c.args.expression.now) c.requires.names c.requires.fit
+    (memory_of c.args.expression.now) c.requires.fit
     _ (λ operand reported post. search rules) c.resolve.result c.resolve.ensures.follows
 
 pub returns-clause-by_rule : goal.returns-clause-by_rule
 returns-clause-by_rule c =
-    outcome_of c.args.context.now c.args.expression.now c.args.types.now c.requires.operands c.requires.names c.requires.fit _
+    outcome_of c.args.context.now c.args.expression.now c.args.types.now c.requires.operands c.requires.fit _
     c.resolve.result c.resolve.ensures.follows (λ operand reported post. search rules)
 
 pub returns-clause-fits : goal.returns-clause-fits

@@ -28,7 +28,7 @@ returns-in-Err-clause-refused c =
     let memory = memory_of c.args.expression.now in
     is_refused_as c.args.context.now c.args.self.now c.args.expression.now c.in-Err.failure
     (subst (IsOutcomeOf c.args.self.now memory queries) c.in-Err.is
-    (outcome_of c.args.context.now c.args.expression.now c.args.self.now (search rules) (search rules) c.requires.fit _
+    (outcome_of c.args.context.now c.args.expression.now c.args.self.now (search rules) c.requires.fit _
     c.resolve-resolved.result c.resolve-resolved.ensures.follows (λ operand reported post. search rules)))
 
 pub returns-then-fits-clause-typed : goal.returns-then-fits-clause-typed
@@ -39,7 +39,7 @@ returns-then-fits-clause-typed c =
       names = search rules;
       operands = search rules;
       reported = subst (IsOutcomeOf c.args.self.now memory queries) c.in-Ok.is
-          (outcome_of c.args.context.now c.args.expression.now c.args.self.now (search rules) (search rules) c.requires.fit _
+          (outcome_of c.args.context.now c.args.expression.now c.args.self.now (search rules) c.requires.fit _
           c.resolve-resolved.result c.resolve-resolved.ensures.follows (λ operand reported post. search rules));
       fits = search rules;
     }
@@ -51,7 +51,7 @@ returns-else-fits-clause-refused c =
     inr (record {
       resolution = c.in-Ok.resolution;
       reported = subst (IsOutcomeOf c.args.self.now memory queries) c.in-Ok.is
-          (outcome_of c.args.context.now c.args.expression.now c.args.self.now (search rules) (search rules) c.requires.fit _
+          (outcome_of c.args.context.now c.args.expression.now c.args.self.now (search rules) c.requires.fit _
           c.resolve-resolved.result c.resolve-resolved.ensures.follows (λ operand reported post. search rules));
       unfit = λ fits. search rules;
     })
