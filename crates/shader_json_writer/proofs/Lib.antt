@@ -1,5 +1,6 @@
 pub mod FloatLemmas
 pub mod ListLemmas
+pub mod MapLemmas
 pub mod MemberLemmas
 pub mod NumberLemmas
 pub mod StatementLemmas

@@ -22,9 +22,6 @@ pub enum WriteError {
     /// A set of flags has a bit that no flag has.
     #[error("a set of flags has a bit without a name")]
     UnnamedFlag,
-    /// A statement emits an empty range of expressions, whose ends no range tells.
-    #[error("a range of expressions is empty")]
-    EmptyRange,
     /// Arrays and objects nest more than 128 deep, as blocks do in blocks.
     #[error("arrays and objects nest more than 128 deep")]
     TooDeep,
@@ -41,7 +38,6 @@ pub(crate) enum WriteFailure {
     UnnamedBuiltIn(u32),
     TakenName(u32),
     UnnamedFlag,
-    EmptyRange,
 }
 
 impl From<AllocError> for WriteFailure {
@@ -76,7 +72,6 @@ impl From<WriteFailure> for WriteError {
             WriteFailure::UnnamedBuiltIn(number) => WriteError::UnnamedBuiltIn(number),
             WriteFailure::TakenName(number) => WriteError::TakenName(number),
             WriteFailure::UnnamedFlag => WriteError::UnnamedFlag,
-            WriteFailure::EmptyRange => WriteError::EmptyRange,
         }
     }
 }

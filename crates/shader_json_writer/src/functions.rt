@@ -3,7 +3,6 @@ ghost use Rattle.shader_json_functions.specs.Functions.{IsEntryPoint, IsFunction
 ghost use Rattle.shader_json_functions.specs.Statements.{IsBlock};
 
 use crate::error::WriteFailure;
-use crate::maps::expression_names;
 use crate::objects::object3;
 use crate::statements::block;
 use crate::values::Field::{Needed, Optional};
@@ -30,7 +29,7 @@ impl Write for Function {
         let result = member(out, Optional("result", &self.result))?;
         let local_variables = member(out, Needed("local_variables", &self.local_variables))?;
         let expressions = member(out, Needed("expressions", &self.expressions))?;
-        let names = expression_names(out, &self.named_expressions)?;
+        let named_expressions = member(out, Needed("named_expressions", &self.named_expressions))?;
         let body = member(out, Needed("body", &self.body))?;
         let leaf = member(
             out,
@@ -42,7 +41,7 @@ impl Write for Function {
             result,
             local_variables,
             expressions,
-            ("named_expressions", names),
+            named_expressions,
             body,
             leaf,
         ]?))

@@ -86,8 +86,8 @@ fn value_text(alloc: Global, value: &Value<'_>) -> Result<Vec<u8>, WriteError>
 ///
 /// # Errors
 ///
-/// A literal that isn't finite, a built-in value without a name or with a taken one, a flag without a name, an empty range to emit, blocks
-/// that nest too deep, a text that is too long, or an allocation failure.
+/// A literal that isn't finite, a built-in value without a name or with a taken one, a flag without a name, blocks that nest too deep, a
+/// text that is too long, or an allocation failure.
 pub fn module_text(
     alloc: Global,
     module: &Module,

@@ -1,5 +1,5 @@
 //! Writes numbers, truth values, names, handles, and lists of items.
-ghost use Rattle.std.specs.Prelude.{◌≡◌, IfOk, IfSome, decimal};
+ghost use Rattle.std.specs.Prelude.{◌≡◌, IfOk, decimal};
 ghost use Rattle.std.specs.Fmt.{signed_decimal};
 ghost use Rattle.json.specs.Json.{number as json_number};
 ghost use Rattle.json.specs.Tree.{HasNumbers};
@@ -27,6 +27,14 @@ pub(crate) fn unsigned<'o>(out: Output<'o, '_>, number: u64) -> Result<Value<'o>
 {
     let mut buffer = itoa::Buffer::new();
     Ok(Value::Number(out.texts.try_alloc_str(buffer.format(number))?))
+}
+
+/// Writes the digits of an integer without a sign.
+pub(crate) fn digits<'o>(out: Output<'o, '_>, integer: u64) -> Result<&'o str, WriteFailure>
+    ensures { IfOk result (λ text. IsUnsigned (json_number text.now) integer) }
+{
+    let mut buffer = itoa::Buffer::new();
+    Ok(out.texts.try_alloc_str(buffer.format(integer))?)
 }
 
 /// Writes an integer that may have a sign.
@@ -149,22 +157,16 @@ impl<M> Write for Handle<M> {
     ghost not_null = { λ _ h. h };
 }
 
-/// Returns the ends of a range, or `None` if it is empty.
-fn ends_of<M>(range: &Range<M>) -> Option<(u64, u64)>
-    ensures { IfSome result (λ ends. ends ≡ range.now) }
-{
-    let (first, last) = range.first_and_last()?;
-    Some((first.index() as u64, last.index() as u64 + 1))
-}
-
 impl<M> Write for Range<M> {
     ghost writes = { λ j range. IsRange j range };
 
     fn write<'o>(&self, out: Output<'o, '_>) -> Result<Value<'o>, WriteFailure> {
-        match ends_of(self) {
-            Some(ends) => object2(out, Needed("start", &ends.0), Needed("end", &ends.1)),
-            None => Err(WriteFailure::EmptyRange),
-        }
+        let positions = self.index_range();
+        object2(
+            out,
+            Needed("start", &positions.start),
+            Needed("end", &positions.end),
+        )
     }
 
     ghost not_null = { λ _ h. h };
