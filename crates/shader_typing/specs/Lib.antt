@@ -236,7 +236,7 @@ pub use Rattle.shader_resolve.specs.Operations
 pub use Rattle.shader_resolve.specs.Outcome
 pub use Rattle.shader_resolve.specs.PointerLaws
 pub use Rattle.shader_resolve.specs.QueriedLaws
-pub use Rattle.shader_resolve.specs.Stored
+pub use Rattle.shader_resolve.specs.Stored as ResolveStored
 pub use Rattle.shader_resolve.specs.Typing
 pub use Rattle.shader_resolve.specs.TypingRules
 pub use Rattle.shader_resolve.specs.WellFormed
