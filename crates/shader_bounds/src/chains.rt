@@ -1,6 +1,5 @@
 //! Chains of accesses, and whether they need a bounds check.
-ghost use Rattle.std.specs.Prelude.{◌≡◌, ◌↔◌, IsTrue, IfSome, slice_get};
-ghost use Rattle.std.specs.Option.{option_copied};
+ghost use Rattle.std.specs.Prelude.{◌≡◌, ◌↔◌, IsTrue, IfSome};
 ghost use Rattle.shader_ir.specs.Key.{IsNoStruct};
 ghost use Rattle.shader_resolve.specs.WellFormed.{AtEach, OperandsBelow};
 ghost use Rattle.shader_bounds.specs.Checked.{AccessNeedsCheck, ChainNeedsCheck, IsNoMember, NeedsCheck};
@@ -113,16 +112,6 @@ fn base_of(expression: &Expression) -> Option<Handle<mark::Expression>>
     }
 }
 
-fn expression_at(function: &Function, handle: Handle<mark::Expression>) -> Option<&Expression>
-    ensures { option_copied result ≡ slice_get function.now.expressions handle }
-{
-    if function.expressions.contains_handle(handle) {
-        Some(&function.expressions[handle])
-    } else {
-        None
-    }
-}
-
 /// Returns whether the chain of accesses that ends at an expression contains one that needs a
 /// check.
 #[tactic(auto, using(crate::proofs::ChainLemmas::leads_itself, crate::proofs::ChainLemmas::leads_to_base, crate::proofs::ChainLemmas::leads_nowhere, crate::proofs::ChainLemmas::leads_outside, crate::proofs::ChainLemmas::leads_checked, crate::proofs::ChainLemmas::base_lower))]
@@ -137,7 +126,7 @@ pub(crate) fn chain_needs_check(
 {
     let mut next = Some(chain);
     while let Some(position) = next {
-        match expression_at(function, position) {
+        match function.expressions.try_get(position) {
             Some(expression) => {
                 if is_unchecked(module, function, info, expression) {
                     return true;
