@@ -1,6 +1,6 @@
 //! Pairs of an image and a sampler that are used together.
 ghost use Rattle.std.specs.Prelude.{◌≡◌, [], ◌∷◌, ◌++◌, OnOk, IfOk, slice_get, Some, None, fold};
-ghost use Rattle.std.specs.Option.{option_copied, option_map, option_or};
+ghost use Rattle.std.specs.Option.{option_map, option_or};
 ghost use Rattle.std.specs.List.{flat_map, enumerate_from};
 ghost use Rattle.std.specs.Prelude.{map};
 ghost use Rattle.shader_analysis_spec.specs.Infos.{InGlobal};
@@ -26,17 +26,6 @@ pub struct Pairs {
     pub missing_resource: Option<Handle<mark::Expression>>,
 }
 
-/// Returns the expression at a handle, if there is one.
-fn expression_at(function: &Function, handle: Handle<mark::Expression>) -> Option<&Expression>
-    ensures { option_copied result ≡ slice_get function.now.expressions handle }
-{
-    if function.expressions.contains_handle(handle) {
-        Some(&function.expressions[handle])
-    } else {
-        None
-    }
-}
-
 /// Returns the resource of an expression that is a global, and none of any other.
 fn global_resource(
     function: &Function,
@@ -44,7 +33,7 @@ fn global_resource(
 ) -> Option<GlobalOrArgument>
     ensures { option_map resource_view result ≡ global_resource (slice_get function.now.expressions handle) }
 {
-    match expression_at(function, handle) {
+    match function.expressions.try_get(handle) {
         Some(Expression::GlobalVariable(variable)) => Some(GlobalOrArgument::Global(*variable)),
         _ => None,
     }
@@ -54,7 +43,7 @@ fn global_resource(
 fn resource_of(function: &Function, handle: Handle<mark::Expression>) -> Option<GlobalOrArgument>
     ensures { option_map resource_view result ≡ resource function.now handle }
 {
-    match expression_at(function, handle) {
+    match function.expressions.try_get(handle) {
         Some(Expression::GlobalVariable(variable)) => Some(GlobalOrArgument::Global(*variable)),
         Some(Expression::FunctionArgument(index)) => Some(GlobalOrArgument::Argument(*index)),
         Some(Expression::Access { base, .. }) => global_resource(function, *base),

@@ -1,7 +1,6 @@
 //! The rules of emitted expressions and of places.
-ghost use Rattle.std.specs.Prelude.{◌≡◌, ◌∷◌, ◌++◌, [], OnOk, map, slice_get};
+ghost use Rattle.std.specs.Prelude.{◌≡◌, ◌∷◌, ◌++◌, [], OnOk, map};
 ghost use Rattle.std.specs.List.{flat_map};
-ghost use Rattle.std.specs.Option.{option_copied};
 ghost use Rattle.shader_arena.specs.Positions.{positions_between};
 ghost use Rattle.shader_ir.specs.Operands.{expression_operands};
 ghost use Rattle.shader_uniformity.specs.Differs.{emit_rules, emitted_rules, form_rules, load_rule, operand_rule, sample_rules};
@@ -12,7 +11,7 @@ ghost use Rattle.shader_uniformity.specs.Needs.{emitted_need, is_implicit, need}
 use crate::facts::{Fact, Place, Rule};
 use crate::places::place_at;
 use crate::rules::{Scope, add_rule, reads_at, writes_at};
-use shader_arena::{Arena, Handle, Range};
+use shader_arena::{Handle, Range};
 use shader_ir::proc::expression_operands;
 use shader_ir::{Expression, SampleLevel, mark};
 use std::alloc::AllocError;
@@ -196,20 +195,6 @@ fn add_form(
     }
 }
 
-/// Returns the expression of a handle.
-fn expression_at(
-    expressions: &Arena<Expression, mark::Expression>,
-    handle: Handle<mark::Expression>,
-) -> Option<&Expression>
-    ensures { option_copied result ≡ slice_get expressions.now handle }
-{
-    if expressions.contains_handle(handle) {
-        Some(&expressions[handle])
-    } else {
-        None
-    }
-}
-
 /// Adds the rules of an emitted expression.
 fn add_emitted(
     rules: &mut Vec<Rule>,
@@ -221,7 +206,7 @@ fn add_emitted(
     ensures { OnOk result (rules.new.items ≡ rules.old.items
         ++ emit_rules scope.now.places.now position around scope.now.severe scope.now.expressions.now handle) }
 {
-    match expression_at(scope.expressions, handle) {
+    match scope.expressions.try_get(handle) {
         Some(expression) => {
             add_rule(rules, Fact::Apart(position), Fact::Differs(handle))?;
             add_operands(rules, handle, expression)?;
