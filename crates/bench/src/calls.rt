@@ -55,11 +55,12 @@ fn supply(
     Ok(left)
 }
 
-/// Returns the number of arguments of a call's preferred rule, or 0 if no rule accepts its arguments.
+/// Returns the number of arguments of a call's preferred rule, or 1 for any rule without `prefers`, and 0 if no rule accepts its arguments.
 fn resolve(
     alloc: Global,
     call: &Call,
     types: &UniqueArena<Type, mark::Type>,
+    prefers: bool,
 ) -> Result<usize, AllocError> {
     if !types_backward(types) {
         return Ok(0);
@@ -68,19 +69,27 @@ fn resolve(
     if left.is_empty() {
         return Ok(0);
     }
+    if !prefers {
+        return Ok(1);
+    }
     let rule = left.most_preferred(alloc)?;
     Ok(rule.arguments.len())
 }
 
-/// Resolves the calls in turn, `size` in all.
-pub fn resolve_calls(alloc: Global, calls: &[Call], size: usize) -> Result<usize, AllocError> {
+/// Resolves the calls in turn, `size` in all; without `prefers` the sets are only narrowed, and no rule is chosen.
+pub fn resolve_calls(
+    alloc: Global,
+    calls: &[Call],
+    size: usize,
+    prefers: bool,
+) -> Result<usize, AllocError> {
     let types = UniqueArena::new(alloc);
     let mut done = 0usize;
     for position in 0..size {
         if calls.is_empty() {
             return Ok(done);
         }
-        let arguments = resolve(alloc, &calls[position % calls.len()], &types)?;
+        let arguments = resolve(alloc, &calls[position % calls.len()], &types, prefers)?;
         done = done.wrapping_add(arguments);
     }
     Ok(done)

@@ -63,7 +63,8 @@ pub fn work(alloc: Global, input: &[u8]) -> Result<usize, AllocError> {
     let rounds = number(words.next());
     let text = &input[end + 1..];
     match call {
-        b"arg" => resolve_calls(alloc, calls_of(alloc, text)?.as_slice(), rounds),
+        b"arg" => resolve_calls(alloc, calls_of(alloc, text)?.as_slice(), rounds, true),
+        b"narrow" => resolve_calls(alloc, calls_of(alloc, text)?.as_slice(), rounds, false),
         b"overloads" => build_sets(alloc, calls_of(alloc, text)?.as_slice(), rounds),
         _ => work_on_text(alloc, call, text, rounds, number(words.next())),
     }
