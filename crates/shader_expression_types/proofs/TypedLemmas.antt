@@ -59,9 +59,13 @@ module _ (context : Context) (expressions : List Expression) (types : List TypeR
       answered : (operand : ℕ) (Rest : TypeResolution → Type 0) → Answered Post result operand Rest →
           (t : TypeResolution) × Derives context expressions operand t × Rest t × HoldsNoMembers t
       answered operand Rest (Ok t, post, rest) =
-          let at = determines operand (Ok t) post in
-          (t.now, first operand t.now at, rest, fits-no_members context.types t.now
-          (at_position (FitsTypes context.types) types operand t.now fit at))
+          let at = determines operand (Ok t) post in (
+            t.now,
+            first operand t.now at,
+            rest,
+            fits-no_members context.types t.now
+                (at_position (FitsTypes context.types) types operand t.now fit at),
+          )
       answered operand Rest (Err failure, post, rest) = absurd (determines operand (Err failure) post)
 
       by_rule : (queried : TypingRule) → typing_rule context x ≡ queried → KeepsNoMembers queried →
