@@ -112,6 +112,12 @@ fn add_analysis(
     }
 }
 
+/// Adds what a report ends with: the refusal of a type, if there is one, or that the module is accepted.
+fn add_end(text: &mut String, refusal: &str, is_accepted: bool) -> Result<(), AllocError> {
+    text.push_str(refusal)?;
+    text.push_str(if is_accepted { "accepted\n" } else { "" })
+}
+
 /// Returns the report on a well-formed module, of which the last line is the verdict.
 #[tactic(auto, using(crate::proofs::VerdictLemmas::verdict_both))]
 fn analysed(
@@ -129,8 +135,7 @@ fn analysed(
     let mut refusal = String::new(alloc);
     let laid = add_layouts(alloc, module, is_drawn, &mut text, &mut refusal)?;
     let found = add_analysis(alloc, module, bindings, flags, capabilities, &mut text)?;
-    text.push_str(refusal.as_str())?;
-    text.push_str(if laid && found { "accepted\n" } else { "" })?;
+    add_end(&mut text, refusal.as_str(), laid && found)?;
     Ok(Summary {
         text,
         is_accepted: laid && found,
