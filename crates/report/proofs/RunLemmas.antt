@@ -12,7 +12,7 @@ use Rattle.report_answers.specs.Reports.{IsModuleReport, IsRefusal, IsReport}
 use Rattle.report_answers.specs.declared.options.Options.{Options}
 use Rattle.report_answers.specs.declared.reports.Outcome.{Outcome}
 use Rattle.report_answers.specs.declared.reports.Outcome.TheVariants as outcomes
-use Rattle.report.specs.Runs.{IsAnswerOf, IsTold, OnAnswered, OnNotModule, outcome_status, verdict}
+use Rattle.report.specs.Runs.{IsAnswerOf, IsBegun, IsTold, OnAnswered, OnNotModule, OnWriteFailed, outcome_status, verdict}
 use Rattle.report.specs.declared.status.Status.{Status}
 use Rattle.report.specs.declared.status.Status.TheVariants.{Accepted, Refused, BadUsage, ReadFailed, WriteFailed}
 use Rattle.report.specs.declared.status.Status.TheVariants.{OutOfMemory, NotModule}
@@ -37,6 +37,10 @@ module _ (options : Options) (before after : Option (List ℕ)) where
   abbrev Refusal : (failed : Bool) (old new errors told : Option (List ℕ)) → Type 0
   Refusal failed old new errors told = (text : List ℕ) × IfSome before (λ input. IsReport options input outcomes.NotModule text)
       × IsTold options.is_json failed text old new errors told
+
+  abbrev Beginning : (old new : Option (List ℕ)) → Type 0
+  Beginning old new =
+      (outcome : Outcome) × (text : List ℕ) × IfSome before (λ input. IsReport options input outcome text) × IsBegun text old new
 
   answer : (old new : Option (List ℕ)) (input text : List ℕ) (accepted : Bool) → IfSome before (λ all. all ≡ input) →
       IsModuleReport options input accepted text → Appends old new text → Answer old new (verdict accepted)
@@ -122,6 +126,19 @@ module _ (options : Options) (before after : Option (List ℕ)) where
     is_told,
   )
 
+  -- with status 4 it has a beginning
+  pub begun : (old new : Option (List ℕ)) (input text : List ℕ) (outcome : Outcome) (status : Status) → Consumes before after input →
+      IsAtEnd after → IsReport options input outcome text → OnWriteFailed status (IsBegun text old new) →
+      OnWriteFailed status (Beginning old new)
+  begun old new input text outcome Accepted read ended report h = tt
+  begun old new input text outcome Refused read ended report h = tt
+  begun old new input text outcome BadUsage read ended report h = tt
+  begun old new input text outcome ReadFailed read ended report h = tt
+  begun old new input text outcome WriteFailed read ended report h =
+      (outcome, text, of_all (λ all. IsReport options all outcome text) before input (whole before after input read ended) report, h)
+  begun old new input text outcome OutOfMemory read ended report h = tt
+  begun old new input text outcome NotModule read ended report h = tt
+
   -- the text on too many bytes is the same of each input
   of_length : (is_json : Bool) (input text : List ℕ) → IsRefusal (record options { is_json = is_json }) [] TooLong text →
       IsRefusal (record options { is_json = is_json }) input TooLong text
@@ -152,3 +169,21 @@ module _ (options : Options) (before after : Option (List ℕ)) where
         (λ input is_long. inl (record { error = TooLong; accurate = is_long; refusal = of_length options.is_json input text refusal })),
     is_told,
   )
+
+  pub begun_as_long : (old new : Option (List ℕ)) (read : List ℕ) (status : Status) → Consumes before after read →
+      most_text_bytes < length read →
+      OnWriteFailed status ((text : List ℕ) × IsRefusal options [] TooLong text × IsBegun text old new) →
+      OnWriteFailed status (Beginning old new)
+  begun_as_long old new read Accepted consumed long h = tt
+  begun_as_long old new read Refused consumed long h = tt
+  begun_as_long old new read BadUsage consumed long h = tt
+  begun_as_long old new read ReadFailed consumed long h = tt
+  begun_as_long old new read WriteFailed consumed long (text, refusal, begun) = (
+    outcomes.NotModule,
+    text,
+    longer (λ input. IsReport options input outcomes.NotModule text) before after read consumed long
+        (λ input is_long. inl (record { error = TooLong; accurate = is_long; refusal = of_length options.is_json input text refusal })),
+    begun,
+  )
+  begun_as_long old new read OutOfMemory consumed long h = tt
+  begun_as_long old new read NotModule consumed long h = tt

@@ -1,5 +1,5 @@
 -- The outcome of a run.
-use Rattle.std.specs.Prelude.{◌≡◌, ℕ, Bool, true, false, not, List, Option}
+use Rattle.std.specs.Prelude.{◌≡◌, ℕ, Bool, true, false, not, List, take, Option}
 use Rattle.std.specs.Io.KnownBytes.{Appends, Keeps}
 use Rattle.shader_analysis_spec.specs.Program.{Module}
 use Rattle.report_answers.specs.Reports.{IsOutput}
@@ -63,6 +63,20 @@ OnNotModule ReadFailed P = Unit {0}
 OnNotModule WriteFailed P = Unit {0}
 OnNotModule OutOfMemory P = Unit {0}
 OnNotModule NotModule P = P
+
+-- a clause about status 4
+abbrev pub OnWriteFailed : Status → Type 0 → Type 0
+OnWriteFailed Accepted P = Unit {0}
+OnWriteFailed Refused P = Unit {0}
+OnWriteFailed BadUsage P = Unit {0}
+OnWriteFailed ReadFailed P = Unit {0}
+OnWriteFailed WriteFailed P = P
+OnWriteFailed OutOfMemory P = Unit {0}
+OnWriteFailed NotModule P = Unit {0}
+
+-- a beginning of the text was written
+abbrev pub IsBegun : List ℕ → Option (List ℕ) → Option (List ℕ) → Type 0
+IsBegun text old new = (n : ℕ) × Appends old new (take n text)
 
 -- whether an error of the input belongs to standard error
 abbrev pub is_told_apart : Options → Outcome → Bool

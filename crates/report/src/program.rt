@@ -6,7 +6,8 @@ ghost use Rattle.json.specs.Json.{document};
 ghost use Rattle.shader_analysis_spec.specs.Program.{Module};
 ghost use Rattle.shader_json_module.specs.Modules.{IsTextOf};
 ghost use Rattle.report_answers.specs.Reports.{IsRefusal, IsReport};
-ghost use Rattle.report.specs.Runs.{IsAnswerOf, IsTold, OnAnswered, OnNotModule, OnUnanswered, is_told_apart, outcome_status};
+ghost use Rattle.report.specs.Runs.{IsAnswerOf, IsBegun, IsTold, OnAnswered, OnNotModule, OnUnanswered, OnWriteFailed};
+ghost use Rattle.report.specs.Runs.{is_told_apart, outcome_status};
 
 use crate::status::Status;
 use program_io::{Failed, InputError, Sink, Source, read_input, write_all};
@@ -41,8 +42,11 @@ pub fn run<R: Source, W: Sink, E: Sink, P: Progress>(
         × IsTold options.is_json (E.has_failed errors.new) text (W.contents writer.old) (W.contents writer.new)
         (E.contents errors.old) (E.contents errors.new)) }
 
-    // With statuses 3 and 5 nothing was written.
+    // With statuses 3 and 5 nothing was written, with 4 a beginning of the report on the input.
     ensures nothing { OnUnanswered result (Keeps (W.contents writer.old) (W.contents writer.new)) }
+    ensures beginning { OnWriteFailed result ((outcome : Outcome) × (text : List ℕ)
+        × IfSome (R.remaining reader.old) (λ input. IsReport options input outcome text)
+        × IsBegun text (W.contents writer.old) (W.contents writer.new)) }
 
     // Statuses 3 and 4 occur exactly if reading or writing failed, and status 2 never occurs.
     ensures read_failed { (result ≡ Status.ReadFailed) ↔ IsTrue (R.has_failed reader.new) }
@@ -81,6 +85,8 @@ fn refuse<W: Sink, E: Sink, P: Progress>(
         × IsTold options.is_json (E.has_failed errors.new) text (W.contents writer.old) (W.contents writer.new)
         (E.contents errors.old) (E.contents errors.new)) }
     ensures nothing { OnUnanswered result (Keeps (W.contents writer.old) (W.contents writer.new)) }
+    ensures beginning { OnWriteFailed result ((text : List ℕ) × IsRefusal options [] ReadError.TooLong text
+        × IsBegun text (W.contents writer.old) (W.contents writer.new)) }
     ensures failed { (result ≡ Status.WriteFailed) ↔ IsTrue (W.has_failed writer.new) }
     ensures read { (result ≢ Status.ReadFailed) × (result ≢ Status.BadUsage) }
 {
@@ -106,6 +112,7 @@ fn write_report<W: Sink, E: Sink, P: Progress>(
         × IsTold options.is_json (E.has_failed errors.new) report.now.text.items (W.contents writer.old) (W.contents writer.new)
         (E.contents errors.old) (E.contents errors.new)) }
     ensures nothing { OnUnanswered result (Keeps (W.contents writer.old) (W.contents writer.new)) }
+    ensures beginning { OnWriteFailed result (IsBegun report.now.text.items (W.contents writer.old) (W.contents writer.new)) }
     ensures failed { (result ≡ Status.WriteFailed) ↔ IsTrue (W.has_failed writer.new) }
     ensures read { (result ≢ Status.ReadFailed) × (result ≢ Status.BadUsage) }
 {

@@ -1,7 +1,7 @@
 use Rattle.std.proofs.Common.{◌∙◌, ap, sym, subst, Err}
 use Rattle.std.specs.Io.KnownBytes.{Consumes}
 use Rattle.report_answers.specs.Reports.{IsReport}
-use Rattle.report.proofs.RunLemmas.{answered, refused, refused_as_long, spelled}
+use Rattle.report.proofs.RunLemmas.{answered, begun, begun_as_long, refused, refused_as_long, spelled}
 use Rattle.report.proofs.program.run.Given.{Over}
 use Rattle.report.proofs.program.run.Goals as goal
 use Rattle.report.proofs.program.run.Goals.{After-drop-report}
@@ -28,7 +28,16 @@ pub returns-in-Ok-of-2-clause-refusal : goal.returns-in-Ok-of-2-clause-refusal
 returns-in-Ok-of-2-clause-refusal g c =
     refused _ _ _ _ _ _ _ _ _ _ _ _ (read g c) c.in-Ok.ensures.end (report g c) c.write_report.ensures.refusal
 
+pub returns-in-Ok-of-2-clause-beginning : goal.returns-in-Ok-of-2-clause-beginning
+returns-in-Ok-of-2-clause-beginning g c =
+    begun _ _ _ _ _ _ _ _ _ (read g c) c.in-Ok.ensures.end (report g c) c.write_report.ensures.beginning
+
 pub returns-in-Err-TooLong-clause-refusal : goal.returns-in-Err-TooLong-clause-refusal
 returns-in-Err-TooLong-clause-refusal g c =
     let (read, consumed, exactly) = c.read_input.ensures.read in
     refused_as_long _ _ _ _ _ _ _ _ read _ consumed (exactly.0 (c.in-Err-TooLong.is ∙ ap Err c.in-Err-TooLong.field-0-is)) c.refuse.ensures.refusal
+
+pub returns-in-Err-TooLong-clause-beginning : goal.returns-in-Err-TooLong-clause-beginning
+returns-in-Err-TooLong-clause-beginning g c =
+    let (read, consumed, exactly) = c.read_input.ensures.read in
+    begun_as_long _ _ _ _ _ read _ consumed (exactly.0 (c.in-Err-TooLong.is ∙ ap Err c.in-Err-TooLong.field-0-is)) c.refuse.ensures.beginning
