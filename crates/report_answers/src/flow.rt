@@ -1,9 +1,10 @@
 //! The verdict on uniform flow as part of a report.
-ghost use Rattle.std.specs.Prelude.{◌≡◌, ◌++◌, true, false, IfOk, codes, drop, string_bytes};
+ghost use Rattle.std.specs.Prelude.{◌≡◌, ◌++◌, true, false, IfOk, IfSome, codes, drop, string_bytes};
 ghost use Rattle.shader_analysis_spec.specs.Program.{Module as IrModule};
 ghost use Rattle.report_answers.specs.Reports.{HasFlow, IsFlowSection};
 
 use shader_ir::Module;
+use shader_resolve::check_module;
 use shader_uniformity_text::{Section, json_section, people_section};
 use std::alloc::{AllocError, Global};
 
@@ -37,13 +38,45 @@ fn with_member(alloc: Global, member: &[u8], line: &[u8]) -> Result<Vec<u8>, All
 }
 
 /// Decides the flow of a module. The section is what a report on the module has of that, if the module has no other fault.
-pub fn flow_section(alloc: Global, is_json: bool, module: &Module) -> Result<Section, AllocError>
+fn flow_section(alloc: Global, is_json: bool, module: &Module) -> Result<Section, AllocError>
     ensures { IfOk result (λ section. IsFlowSection is_json «module».now section.is_accepted (string_bytes section.text)) }
 {
     if is_json {
         json_section(alloc, module)
     } else {
         people_section(alloc, module)
+    }
+}
+
+/// Decides the flow of a module before its other faults are known, if it is well formed. Of any other nothing is decided, since what is
+/// decided takes as much memory as the highest handle of a statement names.
+pub fn flow_beforehand(
+    alloc: Global,
+    is_json: bool,
+    module: &Module,
+) -> Result<Option<Section>, AllocError>
+    ensures { IfOk result (λ early. IfSome early
+        (λ section. IsFlowSection is_json «module».now section.is_accepted (string_bytes section.text))) }
+{
+    match check_module(module) {
+        Ok(()) => Ok(Some(flow_section(alloc, is_json, module)?)),
+        Err(_) => Ok(None),
+    }
+}
+
+/// Returns the section on the flow of a module, which is decided now if it wasn't beforehand.
+pub fn flow_at_last(
+    alloc: Global,
+    is_json: bool,
+    module: &Module,
+    early: Option<Section>,
+) -> Result<Section, AllocError>
+    requires { IfSome early (λ section. IsFlowSection is_json «module».now section.is_accepted (string_bytes section.text)) }
+    ensures { IfOk result (λ section. IsFlowSection is_json «module».now section.is_accepted (string_bytes section.text)) }
+{
+    match early {
+        Some(section) => Ok(section),
+        None => flow_section(alloc, is_json, module),
     }
 }
 

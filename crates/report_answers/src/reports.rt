@@ -1,7 +1,7 @@
 //! The report on the module that an input is.
 
 use crate::errors::{error_object, error_text, nesting_object, nesting_text};
-use crate::flow::{Part, flow_section, with_flow};
+use crate::flow::{Part, flow_at_last, flow_beforehand, with_flow};
 use crate::members::Extras;
 use crate::options::{FlowCheck, Options};
 use crate::progress::{Progress, Stage};
@@ -178,9 +178,10 @@ impl Report {
         ensures { IfOk result (λ report. (j : Json) → AreExtras options j «module».now (string_bytes extras.now.text) →
             IsReportOn options j «module».now report.outcome report.text.items) }
     {
-        let section = flow_section(alloc, options.is_json, module)?;
+        let early = flow_beforehand(alloc, options.is_json, module)?;
         let rest = Report::rest_on(alloc, options, extras, module)?;
         if rest.is_accepted {
+            let section = flow_at_last(alloc, options.is_json, module, early)?;
             let part = with_flow(alloc, options.is_json, section, rest.text)?;
             Ok(Report::with_verdict(part))
         } else {
