@@ -48,19 +48,14 @@ fn flow_section(alloc: Global, is_json: bool, module: &Module) -> Result<Section
     }
 }
 
-/// Decides the flow of a module before its other faults are known, if it is well formed. Of any other nothing is decided, since what is
-/// decided takes as much memory as the highest handle of a statement names.
-pub fn flow_beforehand(
-    alloc: Global,
-    is_json: bool,
-    module: &Module,
-) -> Result<Option<Section>, AllocError>
-    ensures { IfOk result (λ early. IfSome early
-        (λ section. IsFlowSection is_json «module».now section.is_accepted (string_bytes section.text))) }
+/// Decides the flow of a module before its other faults are known, if it is well formed and memory is there. What is decided takes as
+/// much memory as the highest handle or argument that is named, which a fault may be about: so a failure is told only if there is none.
+pub fn flow_beforehand(alloc: Global, is_json: bool, module: &Module) -> Option<Section>
+    ensures { IfSome result (λ section. IsFlowSection is_json «module».now section.is_accepted (string_bytes section.text)) }
 {
     match check_module(module) {
-        Ok(()) => Ok(Some(flow_section(alloc, is_json, module)?)),
-        Err(_) => Ok(None),
+        Ok(()) => flow_section(alloc, is_json, module).ok(),
+        Err(_) => None,
     }
 }
 

@@ -178,7 +178,7 @@ impl Report {
         ensures { IfOk result (λ report. (j : Json) → AreExtras options j «module».now (string_bytes extras.now.text) →
             IsReportOn options j «module».now report.outcome report.text.items) }
     {
-        let early = flow_beforehand(alloc, options.is_json, module)?;
+        let early = flow_beforehand(alloc, options.is_json, module);
         let rest = Report::rest_on(alloc, options, extras, module)?;
         if rest.is_accepted {
             let section = flow_at_last(alloc, options.is_json, module, early)?;
