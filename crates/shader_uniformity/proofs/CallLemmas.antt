@@ -1,8 +1,7 @@
 -- What a call leaves keeps to the marks of its caller.
-use Rattle.std.proofs.Common.{◌≡◌, refl, sym, ◌∙◌, ap, subst, ◌⊎◌, inl, inr, ℕ, zero, suc, ◌+◌, ◌<◌, ◌≤◌, true, false}
+use Rattle.std.proofs.Common.{◌≡◌, refl, sym, ◌∙◌, subst, ◌⊎◌, inl, inr, ℕ, zero, suc, ◌+◌, ◌<◌, ◌≤◌, true, false}
 use Rattle.std.proofs.Common.{List, [], ◌∷◌, ◌++◌, Option, Some, None, slice_get, length, arith, length-append}
-use Rattle.std.proofs.lemmas.Bool.{cases_eq, cases_lt}
-use Rattle.std.proofs.lemmas.Option.{slice_get_within}
+use Rattle.std.proofs.lemmas.Bool.{cases_lt}
 use Rattle.std.proofs.lemmas.List.Elements.{Contains-append_left, Contains-append_right, Contains-append_cases, Contains-push_cases}
 use Rattle.std.specs.List.{Contains, enumerate_from, flat_map}
 use Rattle.shader_ir.specs.declared.expression.Expression.TheVariants as form
@@ -26,7 +25,7 @@ use Rattle.shader_uniformity.specs.declared.facts.Fact.TheVariants.{Left}
 use Rattle.shader_uniformity.specs.declared.facts.Place.{Place}
 use Rattle.shader_uniformity.specs.declared.facts.Place.TheVariants.{Local, Pointee, Shared, Fixed}
 use Rattle.shader_uniformity.specs.declared.facts.Rule.{Rule}
-use Rattle.shader_uniformity.proofs.FineLemmas.{here, there, Cl, head, tail, left, right, AreMarks, is_own, same_place, Fine, assigned}
+use Rattle.shader_uniformity.proofs.FineLemmas.{here, there, Cl, head, tail, left, right, AreMarks, is_own, Fine, assigned}
 use Rattle.shader_uniformity.proofs.StatusLemmas.{Alike}
 
 -- members of lists
@@ -289,37 +288,6 @@ module _ (I V : Type 0) (M : Fact → Type 0) (k : AreMarks M) (t : Meaning I V)
   abbrev PassesAt : ℕ → Place → Type 0
   PassesAt j p = Passes I V (place_at all) d arguments j p
 
-  pass_by : (j : ℕ) (p : Place) (e : Option ℕ) → slice_get arguments j ≡ e → (a : Option FunctionArgument) → slice_get d.arguments j ≡ a →
-      PassesAt j p ⊎ (PassesAt j p → ⊥)
-  pass_by j p None given a is = inr (λ h. let wrong : None ≡ Some h.0 = sym given ∙ h.2 in absurd (cc))
-  pass_by j p (Some e) given None is = inr (λ h. let wrong : None ≡ Some h.1 = sym is ∙ h.3 in absurd (cc))
-  pass_by j p (Some e) given (Some a) is = elim (same_place (place_at all e) p) [
-    | inl same ↦ inl (e, a, given, is, same)
-    | inr unlike ↦ inr (λ h.
-        let twice : Some e ≡ Some h.0 = sym given ∙ h.2 in
-        let one : e ≡ h.0 = cc in
-        unlike (ap (λ (v : ℕ). place_at all v) one ∙ h.4))
-  ]
-
-  search_pass : (p : Place) (bound : ℕ) → ((j : ℕ) × PassesAt j p) ⊎ ((j : ℕ) → j < bound → PassesAt j p → ⊥)
-  search_pass p zero = inr (λ j lt h. absurd (omega (arith, lt)))
-  search_pass p (suc bound) = elim (search_pass p bound) [
-    | inl found ↦ inl found
-    | inr none ↦ elim (pass_by bound p (slice_get arguments bound) refl (slice_get d.arguments bound) refl) [
-      | inl here ↦ inl (bound, here)
-      | inr unlike ↦ inr (λ j lt h. elim (cases_eq j bound) [
-        | inl e ↦ let P : ℕ → Type 0 = λ v. PassesAt v p in unlike (subst P e h)
-        | inr other ↦ none j (omega (arith, lt, other)) h
-      ])
-    ]
-  ]
-
-  find_pass : (p : Place) → ((j : ℕ) × PassesAt j p) ⊎ ((j : ℕ) → PassesAt j p → ⊥)
-  find_pass p = elim (search_pass p (length arguments)) [
-    | inl found ↦ inl found
-    | inr none ↦ inr (λ j h. none j (slice_get_within arguments j h.0 h.2) h)
-  ]
-
   module _ (known : List Rule) (exact : IsKnownBy m before d known)
       (c : Cl M (call_rules all n around arguments value (Some known))) where
     outward : (last : Fact) → Contains (endings d.arguments) last → Inner last → (b : Fact) × M (cause_of all n around arguments value b)
@@ -368,20 +336,12 @@ module _ (I V : Type 0) (M : Fact → Type 0) (k : AreMarks M) (t : Meaning I V)
     module _ (s w v : State I V) (fine : Fine I V M k (reads_at n around) s)
         (inner : Fine I V Inner inner_marks (block_end 1 d.body) w) (l : run.Leaves I V (place_at all) d arguments s w v)
         (next : ℕ) (early : reads_at n around ≤ next) (late : writes_at n around ≤ next) where
-      passed_same : (p : Place) (j : ℕ) → PassesAt j p → ((i x : I) → v.memory i p ≡ v.memory x p) ⊎ M (Holds p next)
-      passed_same p j h = elim (inner.memory (Pointee j) refl) [
+      passed_same : (p : Place) (j : ℕ) → PassesAt j p → ((i : I) → v.memory i p ≡ w.memory i (Pointee j)) →
+          ((i x : I) → v.memory i p ≡ v.memory x p) ⊎ M (Holds p next)
+      passed_same p j h from = elim (inner.memory (Pointee j) refl) [
         | inr y ↦ inr (k.later p (writes_at n around) next late (left_out j p h y))
         | inl same ↦ inl (λ i x. from i ∙ same i x ∙ sym (from x))
       ]
-        where
-          from : (i : I) → v.memory i p ≡ w.memory i (Pointee j)
-          from i = elim (l.memory i p) [
-            | inl b ↦ b.2 ∙ ap (λ (y : ℕ). w.memory i (Pointee y)) (l.once b.0 j p b.1 h)
-            | inr b ↦ absurd (b.0 j h)
-          ]
-
-      kept_same : (p : Place) → ((j : ℕ) → PassesAt j p → ⊥) → (i : I) → v.memory i p ≡ s.memory i p
-      kept_same p none i = elim (l.memory i p) [ inl b ↦ absurd (none b.0 b.1) | inr b ↦ b.1 ]
 
       pub leaves_fine : Fine I V M k next v
       leaves_fine = record {
@@ -391,9 +351,9 @@ module _ (I V : Type 0) (M : Fact → Type 0) (k : AreMarks M) (t : Meaning I V)
         ];
         memory = λ p own. elim (fine.memory p own) [
           | inr y ↦ inr (k.later p (reads_at n around) next early y)
-          | inl same ↦ elim (find_pass p) [
-            | inl found ↦ passed_same p found.0 found.1
-            | inr none ↦ inl (λ i x. kept_same p none i ∙ same i x ∙ sym (kept_same p none x))
+          | inl same ↦ elim (l.memory p) [
+            | inl passed ↦ passed_same p passed.0 passed.1 passed.2
+            | inr kept ↦ inl (λ i x. kept.1 i ∙ same i x ∙ sym (kept.1 x))
           ]
         ];
         results = elim fine.results [

@@ -1,5 +1,5 @@
 -- What emitted expressions give keeps to the marks.
-use Rattle.std.proofs.Common.{◌≡◌, refl, sym, ◌∙◌, ap, subst, ◌⊎◌, inl, inr, ℕ, Bool, true, false, ◌&&◌}
+use Rattle.std.proofs.Common.{◌≡◌, refl, sym, ◌∙◌, ap, subst, ◌⊎◌, inl, inr, ℕ, Bool, true, false}
 use Rattle.std.proofs.Common.{List, [], ◌∷◌, ◌++◌, Option, Some, None, map}
 use Rattle.std.specs.List.{AllByRecursion, flat_map}
 use Rattle.shader_uniformity.specs.Differs.{emit_rules, emitted_rules, form_rules, operand_rule}
@@ -129,6 +129,6 @@ module _ (I V : Type 0) (M : Fact → Type 0) (k : AreMarks M) (t : Meaning I V)
         let rest = emitted g hs u w needs e (right M (emit_rules at_all n around (severity f) f.expressions h)
         (flat_map (emit_rules at_all n around (severity f) f.expressions) hs) c) flow next in (
           rest.0,
-          all_append IsKept (need_of I V (needs_all x && severity f) g) needs
-              (kept_need n (needs_all x && severity f) g (formed M at_all n around (severity f) h x inner).need flow) rest.1,
+          all_append IsKept (need_of I V (needs_all (severity f) x) g) needs
+              (kept_need n (needs_all (severity f) x) g (formed M at_all n around (severity f) h x inner).need flow) rest.1,
         )

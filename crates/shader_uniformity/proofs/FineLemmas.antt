@@ -9,7 +9,7 @@ use Rattle.shader_uniformity.specs.Differs.{form_rules, load_rule}
 use Rattle.shader_uniformity.specs.Lockstep.{State, Group, Assigns, Writes, Gives}
 use Rattle.shader_uniformity.specs.Lockstep.{read_of, is_source, needs_all}
 use Rattle.shader_uniformity.specs.Marks.{leads}
-use Rattle.shader_uniformity.specs.Needs.{emitted_need, is_implicit}
+use Rattle.shader_uniformity.specs.Needs.{emitted_need, is_implicit, need}
 use Rattle.shader_uniformity.specs.Places.{place_at}
 use Rattle.shader_uniformity.specs.Positions.{reads_at}
 use Rattle.shader_uniformity.specs.Words.{Expression}
@@ -88,7 +88,7 @@ module _ (M : Fact → Type 0) (all : List Place) (n : ℕ) (around : Option ℕ
   pub record IsFormed (x : Expression) : Type 0 where
     pub read : (p : ℕ) → read_of x ≡ Some p → M (Holds (place_at all p) (reads_at n around)) → M (Differs h)
     pub source : is_source x ≡ true → M Always → M (Differs h)
-    pub need : needs_all x && severe ≡ true → M (Apart n) → M Must
+    pub need : needs_all severe x ≡ true → M (Apart n) → M Must
 
   sampled : (b : Bool) → Cl M (if b then leads Always (Differs h) ∷ emitted_need severe n else []) →
       (b ≡ true → M Always → M (Differs h)) × (b && severe ≡ true → M (Apart n) → M Must)
@@ -105,19 +105,19 @@ module _ (M : Fact → Type 0) (all : List Place) (n : ℕ) (around : Option ℕ
       let back : q ≡ p = cc in
       f (subst P back m)
 
-  plain : (x : Expression) → read_of x ≡ None → is_source x ≡ false → needs_all x ≡ false → IsFormed x
+  plain : (x : Expression) → read_of x ≡ None → is_source x ≡ false → needs_all severe x ≡ false → IsFormed x
   plain x a b d = record {
     read = λ p e m. let wrong : None ≡ Some p = sym a ∙ e in absurd (cc);
     source = λ e m. absurd (false≢true (sym b ∙ e));
-    need = λ e m. absurd (false≢true (sym (ap (λ (v : Bool). v && severe) d) ∙ e));
+    need = λ e m. absurd (false≢true (sym d ∙ e));
   }
 
-  reads : (x : Expression) (p : ℕ) → read_of x ≡ Some p → is_source x ≡ false → needs_all x ≡ false →
+  reads : (x : Expression) (p : ℕ) → read_of x ≡ Some p → is_source x ≡ false → needs_all severe x ≡ false →
       (M (Holds (place_at all p) (reads_at n around)) → M (Differs h)) → IsFormed x
   reads x p a b d f = record {
     read = λ q e m. loaded p q (sym a ∙ e) f m;
     source = λ e m. absurd (false≢true (sym b ∙ e));
-    need = λ e m. absurd (false≢true (sym (ap (λ (v : Bool). v && severe) d) ∙ e));
+    need = λ e m. absurd (false≢true (sym d ∙ e));
   }
 
   pub formed : (x : Expression) → Cl M (form_rules all n around severe h x) → IsFormed x
@@ -137,14 +137,14 @@ module _ (M : Fact → Type 0) (all : List Place) (n : ℕ) (around : Option ℕ
     need = λ e m. need_form M n severe (tail M (leads Always (Differs h)) (emitted_need severe n) c) e m;
   }
   formed (form.CooperativeLoad columns rows role tile) c = record {
-    read = λ p e m. loaded tile.pointer p e (head M (load_rule all n around h tile.pointer) (emitted_need severe n) c) m;
+    read = λ p e m. loaded tile.pointer p e (head M (load_rule all n around h tile.pointer) (need n) c) m;
     source = λ e m. absurd (false≢true e);
-    need = λ e m. need_form M n severe (tail M (load_rule all n around h tile.pointer) (emitted_need severe n) c) e m;
+    need = λ e m. head M (leads (Apart n) Must) [] (tail M (load_rule all n around h tile.pointer) (need n) c) m;
   }
   formed (form.CooperativeMultiplyAdd a b d) c = record {
     read = λ p e m. absurd (cc);
     source = λ e m. absurd (false≢true e);
-    need = λ e m. need_form M n severe c e m;
+    need = λ e m. head M (leads (Apart n) Must) [] c m;
   }
   formed x c = plain x refl refl refl
 

@@ -2,6 +2,7 @@ pub mod CallLemmas
 pub mod Depths
 pub mod DoesLemmas
 pub mod EmitLemmas
+pub mod ExistLemmas
 pub mod FilterLemmas
 pub mod FineLemmas
 pub mod FunctionsLemmas

@@ -5,7 +5,7 @@ use Rattle.shader_ir.specs.declared.binding.BuiltIn.TheVariants as built_in
 use Rattle.shader_ir.specs.declared.expression.Expression.TheVariants as form
 use Rattle.shader_uniformity.specs.Words.{Expression, Binding, BuiltIn, FunctionArgument, Label, SampleLevel, expression_operands}
 use Rattle.shader_uniformity.specs.Marks.{leads}
-use Rattle.shader_uniformity.specs.Needs.{is_implicit, emitted_need}
+use Rattle.shader_uniformity.specs.Needs.{is_implicit, emitted_need, need}
 use Rattle.shader_uniformity.specs.Places.{place_at}
 use Rattle.shader_uniformity.specs.Positions.{reads_at, writes_at}
 use Rattle.shader_uniformity.specs.declared.facts.Fact.{Fact}
@@ -76,8 +76,8 @@ module _ (places : List Place) (n : ℕ) (around : Option ℕ) where
     form_rules h (form.Derivative axis ctrl expr) = leads Always (Differs h) ∷ emitted_need severe n
     form_rules h (form.RayQueryVertexPositions query committed) = load_rule h query ∷ []
     form_rules h (form.RayQueryGetIntersection query committed) = load_rule h query ∷ []
-    form_rules h (form.CooperativeLoad columns rows role tile) = load_rule h tile.pointer ∷ emitted_need severe n
-    form_rules h (form.CooperativeMultiplyAdd a b c) = emitted_need severe n
+    form_rules h (form.CooperativeLoad columns rows role tile) = load_rule h tile.pointer ∷ need n
+    form_rules h (form.CooperativeMultiplyAdd a b c) = need n
     form_rules h _ = []
 
     -- an emitted expression differs where flow is apart, where an operand does, and by its form

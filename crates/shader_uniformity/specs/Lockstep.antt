@@ -81,12 +81,14 @@ is_source (form.ImageSample image sampler gather clamp_to_edge coordinate array_
 is_source (form.Derivative axis ctrl expr) = true
 is_source _ = false
 
-abbrev pub needs_all : Expression → Bool
-needs_all (form.ImageSample image sampler gather clamp_to_edge coordinate array_index offset level depth_ref) = is_implicit level
-needs_all (form.Derivative axis ctrl expr) = true
-needs_all (form.CooperativeLoad columns rows role tile) = true
-needs_all (form.CooperativeMultiplyAdd a b c) = true
-needs_all _ = false
+-- whether it needs all invocations. `severe`: the filters leave what they may lift an error
+abbrev pub needs_all : Bool → Expression → Bool
+needs_all severe (form.ImageSample image sampler gather clamp_to_edge coordinate array_index offset level depth_ref) =
+    is_implicit level && severe
+needs_all severe (form.Derivative axis ctrl expr) = severe
+needs_all severe (form.CooperativeLoad columns rows role tile) = true
+needs_all severe (form.CooperativeMultiplyAdd a b c) = true
+needs_all severe _ = false
 
 -- `I`: the invocations that entered the call. `V`: values
 module _ (I V : Type 0) where
@@ -203,12 +205,11 @@ module _ (I V : Type 0) where
   Passes at f arguments k p = (e : ℕ) × (d : FunctionArgument) × (slice_get arguments k ≡ Some e) × (slice_get f.arguments k ≡ Some d)
       × (at e ≡ p)
 
-  -- and with what it leaves its caller: what it left at the place of a pointer, and a result. No place is passed twice
+  -- and with what it leaves its caller: a result, and at a place what it left at one argument that has this place
   pub record Leaves (at : ℕ → Place) (f : Function) (arguments : List ℕ) (s w v : State) : Type 0 where
-    pub once : (k n : ℕ) (p : Place) → Passes at f arguments k p → Passes at f arguments n p → k ≡ n
     pub values : (i : I) (h : ℕ) → v.values i h ≡ s.values i h
-    pub memory : (i : I) (p : Place) → ((k : ℕ) × Passes at f arguments k p × (v.memory i p ≡ w.memory i (Pointee k))) ⊎
-        (((k : ℕ) → Passes at f arguments k p → ⊥) × (v.memory i p ≡ s.memory i p))
+    pub memory : (p : Place) → ((k : ℕ) × Passes at f arguments k p × ((i : I) → v.memory i p ≡ w.memory i (Pointee k))) ⊎
+        (((k : ℕ) → Passes at f arguments k p → ⊥) × ((i : I) → v.memory i p ≡ s.memory i p))
     pub results : (i : I) → v.results i ≡ s.results i
 
   pub data Takes (g : Group) (w : State) : Option ℕ → State → State → Type 0 where
@@ -224,7 +225,7 @@ module _ (I V : Type 0) where
       none : {s : State} → Emits f g [] s s []
       one : {h : ℕ} {hs : List ℕ} {s u w : State} {needs : Trace} (x : Expression) → slice_get f.expressions h ≡ Some x →
           Assigns g h (GivenBy t (at_in f) s (is_source x) x) s u → Emits f g hs u w needs →
-          Emits f g (h ∷ hs) s w (need_of (needs_all x && severity f) g ++ needs)
+          Emits f g (h ∷ hs) s w (need_of (needs_all (severity f) x) g ++ needs)
       missing : {h : ℕ} {hs : List ℕ} {s w : State} {needs : Trace} → slice_get f.expressions h ≡ None → Emits f g hs s w needs →
           Emits f g (h ∷ hs) s w needs
 

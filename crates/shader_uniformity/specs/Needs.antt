@@ -16,7 +16,7 @@ is_implicit _ = false
 abbrev pub need : ℕ → List Rule
 need n = leads (Apart n) Must ∷ []
 
--- a need of an emitted expression; a diagnostic filter may lift it
+-- a need of a derivative or an implicit level, which a diagnostic filter may lift
 abbrev pub emitted_need : Bool → ℕ → List Rule
 emitted_need true n = need n
 emitted_need false n = []

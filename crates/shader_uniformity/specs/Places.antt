@@ -1,17 +1,21 @@
 -- What pointers lead back to: the end of a chain of Access and AccessIndex.
-use Rattle.std.specs.Prelude.{◌==◌, ℕ, Bool, true, false, List, [], ◌∷◌, ◌++◌, Option, Some, None, if◌then◌else◌, slice_get, bit_and}
+use Rattle.std.specs.Prelude.{◌==◌, ◌||◌, ℕ, Bool, true, false, not, List, [], ◌∷◌, ◌++◌, Option, Some, None, slice_get, bit_and}
 use Rattle.std.specs.Prelude.{slice_index_or}
 use Rattle.shader_ir.specs.declared.expression.Expression.TheVariants as form
 use Rattle.shader_ir.specs.declared.image.ImageClass.TheVariants as class
 use Rattle.shader_ir.specs.declared.types.AddressSpace.TheVariants as space
 use Rattle.shader_ir.specs.declared.types.TypeInner.TheVariants as type
-use Rattle.shader_uniformity.specs.Words.{Module, Expression, GlobalVariable, AddressSpace, ImageClass, «Type», TypeInner}
+use Rattle.shader_uniformity.specs.Words.{Module, Expression, GlobalVariable, AddressSpace, ImageClass, StorageAccess, «Type», TypeInner}
 use Rattle.shader_uniformity.specs.declared.facts.Place.{Place}
 use Rattle.shader_uniformity.specs.declared.facts.Place.TheVariants.{Local, Pointee, Shared, Fixed}
 
+-- stores are allowed, or atomic operations
+abbrev pub is_writable : StorageAccess → Bool
+is_writable access = bit_and access.0 2 == 2 || bit_and access.0 4 == 4
+
 -- a storage image whose texels may be written
 abbrev pub class_is_written : ImageClass → Bool
-class_is_written (class.Storage format access) = bit_and access.0 2 == 2
+class_is_written (class.Storage format access) = is_writable access
 class_is_written _ = false
 
 abbrev pub image_is_written : TypeInner → Bool
@@ -36,7 +40,7 @@ abbrev pub space_is_fixed : AddressSpace → Bool
 space_is_fixed space.Uniform = true
 space_is_fixed space.Handle = true
 space_is_fixed space.Immediate = true
-space_is_fixed (space.Storage access) = if bit_and access.0 2 == 2 then false else true
+space_is_fixed (space.Storage access) = not (is_writable access)
 space_is_fixed _ = false
 
 abbrev pub place_in : (written fixed : Bool) → Place

@@ -1,12 +1,13 @@
--- Where nothing that needs all invocations follows from what differs, all pass it together: laws over every run in lockstep.
-use Rattle.std.specs.Prelude.{◌≡◌, ◌⊎◌, ℕ, false, List, Some, length, slice_get}
+-- Where nothing that needs all invocations follows from what differs, all pass it together: laws over every run in lockstep. Beside them
+-- one says of calls that they have runs.
+use Rattle.std.specs.Prelude.{◌≡◌, ◌⊎◌, ◌<◌, ℕ, Bool, false, List, [], Some, None, length, slice_get}
 use Rattle.std.specs.List.{AllByRecursion, Contains}
 use Rattle.shader_ir.specs.declared.expression.Expression.TheVariants as form
 use Rattle.shader_uniformity.specs.Differs.{argument_is_uniform}
 use Rattle.shader_uniformity.specs.Fault.{AreKnown, IsFault, function_rules, severity}
-use Rattle.shader_uniformity.specs.Lockstep.{On, Left, State, Meaning, Group, Trace, RunsBlock}
+use Rattle.shader_uniformity.specs.Lockstep.{On, Left, State, Meaning, Group, Trace, RunsBlock, RunsStep}
 use Rattle.shader_uniformity.specs.Marks.{Marked}
-use Rattle.shader_uniformity.specs.Words.{Function, FunctionArgument, Module}
+use Rattle.shader_uniformity.specs.Words.{End, Leaf, Call, Function, FunctionArgument, Module}
 use Rattle.shader_uniformity.specs.declared.facts.Fact.{Fact}
 use Rattle.shader_uniformity.specs.declared.facts.Fact.TheVariants.{Always, Flow, Argument, Behind, Must}
 use Rattle.shader_uniformity.specs.declared.facts.Jump.{Jump}
@@ -68,3 +69,9 @@ module _ (I V : Type 0) where
       ((b : Fact) → Contains differing b → Marked (function_rules m callees (severity m f) false f) b Must → ⊥) →
       (g : Group I V) (s u : State I V) (h : Group I V) (a : Trace I V) → BeginCall differing f g s →
       RunsBlock I V t m (λ d. severity m d) (length callees) f f.body s g u h a → AllByRecursion IsTogether a
+
+  -- a call of a function without statements has a run, whatever is passed
+  abbrev pub EmptyCallsRun : Type 0
+  EmptyCallsRun = (t : Meaning I V) (m : Module) (severity : Function → Bool) (n c : ℕ) (f d : Function) (arguments : List ℕ) → c < n →
+      slice_get m.functions c ≡ Some d → d.body ≡ End → (s : State I V) (g : Group I V) →
+      (u : State I V) × RunsStep I V t m severity n f (Leaf (Call c arguments None)) s g u g []

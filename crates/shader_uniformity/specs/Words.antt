@@ -10,6 +10,7 @@ pub use Rattle.shader_ir.specs.declared.binding.BuiltIn.{BuiltIn}
 pub use Rattle.shader_ir.specs.declared.expression.CooperativeData.{CooperativeData}
 pub use Rattle.shader_ir.specs.declared.expression.Expression.{Expression}
 pub use Rattle.shader_ir.specs.declared.expression.SampleLevel.{SampleLevel}
+pub use Rattle.shader_ir.specs.declared.flags.StorageAccess.{StorageAccess}
 pub use Rattle.shader_ir.specs.declared.function.Function.{Function}
 pub use Rattle.shader_ir.specs.declared.function.EntryPoint.{EntryPoint}
 pub use Rattle.shader_ir.specs.declared.function.FunctionArgument.{FunctionArgument}

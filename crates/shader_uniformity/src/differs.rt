@@ -188,9 +188,9 @@ fn add_form(
         Expression::Derivative { .. } => add_derivative(rules, severe, position, handle),
         Expression::CooperativeLoad { tile, .. } => {
             add_load(rules, places, position, around, handle, tile.pointer)?;
-            add_emitted_need(rules, severe, position)
+            add_need(rules, position)
         }
-        Expression::CooperativeMultiplyAdd { .. } => add_emitted_need(rules, severe, position),
+        Expression::CooperativeMultiplyAdd { .. } => add_need(rules, position),
         _ => Ok(()),
     }
 }

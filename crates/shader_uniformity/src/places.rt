@@ -1,7 +1,7 @@
 //! The places that the pointers of a function lead back to.
 ghost use Rattle.std.specs.Prelude.{◌≡◌, ◌∷◌, ◌++◌, [], IfOk, slice_get};
-ghost use Rattle.shader_uniformity.specs.Places.{class_is_written, element_is_written, global_place, image_is_written};
-ghost use Rattle.shader_uniformity.specs.Places.{inner_is_written, place_at, place_in, place_of, places, space_is_fixed, type_is_written};
+ghost use Rattle.shader_uniformity.specs.Places.{class_is_written, element_is_written, global_place, image_is_written, inner_is_written};
+ghost use Rattle.shader_uniformity.specs.Places.{is_writable, place_at, place_in, place_of, places, space_is_fixed, type_is_written};
 
 use crate::facts::Place;
 use bitflags::Flags;
@@ -12,12 +12,19 @@ use shader_ir::{
 };
 use std::alloc::{AllocError, Global};
 
+/// Returns whether stores are allowed, or atomic operations.
+fn is_writable(access: StorageAccess) -> bool
+    ensures { result ≡ is_writable access }
+{
+    access.contains(StorageAccess::STORE) || access.contains(StorageAccess::ATOMIC)
+}
+
 /// Checks whether texels of such an image may be written.
 fn class_is_written(class: &ImageClass) -> bool
     ensures { result ≡ class_is_written class.now }
 {
     match class {
-        ImageClass::Storage { access, .. } => access.contains(StorageAccess::STORE),
+        ImageClass::Storage { access, .. } => is_writable(*access),
         _ => false,
     }
 }
@@ -67,7 +74,7 @@ fn space_is_fixed(space: AddressSpace) -> bool
 {
     match space {
         AddressSpace::Uniform | AddressSpace::Handle | AddressSpace::Immediate => true,
-        AddressSpace::Storage { access } => !access.contains(StorageAccess::STORE),
+        AddressSpace::Storage { access } => !is_writable(access),
         AddressSpace::Function
         | AddressSpace::Private
         | AddressSpace::WorkGroup

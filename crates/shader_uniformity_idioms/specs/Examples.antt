@@ -228,6 +228,11 @@ filtered faulty fine = record {
   fine = point_under (Some fine) (when first (emit sample ∷ []) ∷ []);
 }
 
+-- what needs all invocations under a filter that lifts what a derivative needs, where flow is apart
+abbrev pub lifted : List Step → Pair
+lifted steps =
+    record { faulty = point_under (Some 0) (when first steps ∷ []); fine = point_under (Some 0) (when first (emit slope ∷ []) ∷ []) }
+
 abbrev pub needs : List Pair
 needs =
     pair (when first (barrier ∷ []) ∷ []) (when first (add_to shared second ∷ []) ∷ [])
@@ -243,11 +248,8 @@ needs =
     -- a filter lifts the need of a sample, also around one of another rule, and not where one inside it keeps the need
     ∷ record { faulty = point (when first (emit sample ∷ []) ∷ []); fine = point_under (Some 0) (when first (emit sample ∷ []) ∷ []) }
     ∷ filtered 2 1 ∷ filtered 3 0
-    -- and never that of a barrier
-    ∷ record {
-      faulty = point_under (Some 0) (when first (barrier ∷ []) ∷ []);
-      fine = point_under (Some 0) (when first (emit slope ∷ []) ∷ []);
-    } ∷ []
+    -- and never that of a barrier or of a cooperative matrix
+    ∷ lifted (barrier ∷ []) ∷ lifted (emit matrix ∷ []) ∷ lifted (emit product ∷ []) ∷ []
 
 -- the law of examples, of some pairs
 abbrev pub IsTold : Pair → Type 0
