@@ -132,8 +132,8 @@ impl<'v, 'a> Fields<'v, 'a> {
         }
     }
 
-    /// Returns what was read of a field. Its failure, so far seen from the object, is then seen from the value that is read as a struct or
-    /// an enum.
+    /// Returns what was read of a field. The path of a failure, which so far begins at the object, then begins at the value that is read:
+    /// at the enum, where the object is a variant's payload.
     pub fn seen<T>(self, read: Result<T, Failure>) -> Result<T, Failure>
         ensures { IfOk result (λ x. read ≡ Ok x) }
     {
@@ -165,6 +165,7 @@ impl<'v, 'a> Fields<'v, 'a> {
 /// The payload of a variant.
 #[derive(Clone, Copy)]
 pub struct Data<'v, 'a> {
+    /// The value that stands for it.
     pub value: &'v Value<'a>,
 }
 
@@ -247,8 +248,10 @@ impl<'v, 'a> Data<'v, 'a> {
 /// A value that is read as an enum: the name of a variant, and its payload.
 #[derive(Clone, Copy)]
 pub struct Variant<'v, 'a> {
+    /// The variant's name, of which nothing is known yet.
     pub name: &'a str,
-    pub data: Option<Data<'v, 'a>>,
+    /// Its payload, none for a name alone.
+    pub payload: Option<Data<'v, 'a>>,
 }
 
 impl<'v, 'a> Variant<'v, 'a> {
@@ -259,14 +262,17 @@ impl<'v, 'a> Variant<'v, 'a> {
     /// Any other value.
     pub fn of(context: &Context, value: &'v Value<'a>) -> Result<Variant<'v, 'a>, Failure>
         ensures { IfOk result (λ v. variant_of (value_view value.now)
-            ≡ Some (v.name.now, option_map (λ d. value_view d.value.now) v.data)) }
+            ≡ Some (v.name.now, option_map (λ d. value_view d.value.now) v.payload)) }
     {
         match value {
-            Value::String(name) => Ok(Variant { name, data: None }),
+            Value::String(name) => Ok(Variant {
+                name,
+                payload: None,
+            }),
             Value::Object(members) => match members.as_slice() {
                 [member] => Ok(Variant {
                     name: member.0,
-                    data: Some(Data { value: &member.1 }),
+                    payload: Some(Data { value: &member.1 }),
                 }),
                 _ => Err(context.refused("an object with one key, the name of a variant")),
             },

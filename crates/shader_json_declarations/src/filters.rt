@@ -71,18 +71,18 @@ impl Read for DiagnosticRule {
     ghost reads = { λ j rule. IsRule j rule };
 
     fn read(context: &mut Context, value: &Value<'_>) -> Result<DiagnosticRule, Failure> {
-        let Variant { name, data } = Variant::of(context, value)?;
-        match (name, data) {
-            ("Standard", Some(data)) => {
-                let StandardRule(rule) = data.read(context)?;
+        let Variant { name, payload } = Variant::of(context, value)?;
+        match (name, payload) {
+            ("Standard", Some(payload)) => {
+                let StandardRule(rule) = payload.read(context)?;
                 Ok(rule)
             }
-            ("Unknown", Some(data)) => {
-                let _name: Name = data.read(context)?;
+            ("Unknown", Some(payload)) => {
+                let _name: Name = payload.read(context)?;
                 Ok(DiagnosticRule::Other)
             }
-            ("User", Some(data)) => {
-                let UserRule = data.read(context)?;
+            ("User", Some(payload)) => {
+                let UserRule = payload.read(context)?;
                 Ok(DiagnosticRule::Other)
             }
             _ => Err(context.refused("`Standard`, `Unknown` or `User`")),

@@ -39,18 +39,18 @@ impl Read for ImageClass {
     ghost reads = { λ j class. IsClass j class };
 
     fn read(context: &mut Context, value: &Value<'_>) -> Result<ImageClass, Failure> {
-        let Variant { name, data } = Variant::of(context, value)?;
-        match (name, data) {
+        let Variant { name, payload } = Variant::of(context, value)?;
+        match (name, payload) {
             ("External", None) => Ok(ImageClass::External),
-            ("Sampled", Some(data)) => {
-                let (kind, multi) = data.pair(context, "kind", "multi")?;
+            ("Sampled", Some(payload)) => {
+                let (kind, multi) = payload.pair(context, "kind", "multi")?;
                 Ok(ImageClass::Sampled { kind, multi })
             }
-            ("Depth", Some(data)) => Ok(ImageClass::Depth {
-                multi: data.field(context, "multi")?,
+            ("Depth", Some(payload)) => Ok(ImageClass::Depth {
+                multi: payload.field(context, "multi")?,
             }),
-            ("Storage", Some(data)) => {
-                let (format, access) = data.pair(context, "format", "access")?;
+            ("Storage", Some(payload)) => {
+                let (format, access) = payload.pair(context, "format", "access")?;
                 Ok(ImageClass::Storage { format, access })
             }
             _ => Err(context.refused("a class of images")),

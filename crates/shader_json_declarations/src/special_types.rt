@@ -45,18 +45,18 @@ impl Read for Key {
     ghost reads = { λ j key. IsKey j key };
 
     fn read(context: &mut Context, value: &Value<'_>) -> Result<Key, Failure> {
-        let Variant { name, data } = Variant::of(context, value)?;
-        match (name, data) {
-            ("ModfResult", Some(data)) => {
-                let Shape { size, scalar } = data.read(context)?;
+        let Variant { name, payload } = Variant::of(context, value)?;
+        match (name, payload) {
+            ("ModfResult", Some(payload)) => {
+                let Shape { size, scalar } = payload.read(context)?;
                 Ok(Key::Supported(PredeclaredType::ModfResult { size, scalar }))
             }
-            ("FrexpResult", Some(data)) => {
-                let Shape { size, scalar } = data.read(context)?;
+            ("FrexpResult", Some(payload)) => {
+                let Shape { size, scalar } = payload.read(context)?;
                 Ok(Key::Supported(PredeclaredType::FrexpResult { size, scalar }))
             }
-            ("AtomicCompareExchangeWeakResult", Some(data)) => {
-                Ok(Key::Dropped(data.read(context)?))
+            ("AtomicCompareExchangeWeakResult", Some(payload)) => {
+                Ok(Key::Dropped(payload.read(context)?))
             }
             _ => Err(context.refused("a predeclared type")),
         }

@@ -15,10 +15,10 @@ impl Read for AddressSpace {
     ghost reads = { λ j space. IsSpace j space };
 
     fn read(context: &mut Context, value: &Value<'_>) -> Result<AddressSpace, Failure> {
-        let Variant { name, data } = Variant::of(context, value)?;
-        match (name, data) {
-            ("Storage", Some(data)) => Ok(AddressSpace::Storage {
-                access: data.field(context, "access")?,
+        let Variant { name, payload } = Variant::of(context, value)?;
+        match (name, payload) {
+            ("Storage", Some(payload)) => Ok(AddressSpace::Storage {
+                access: payload.field(context, "access")?,
             }),
             ("Function", None) => Ok(AddressSpace::Function),
             ("Private", None) => Ok(AddressSpace::Private),
@@ -38,10 +38,10 @@ impl Read for ArraySize {
     ghost reads = { λ j size. IsLength j size };
 
     fn read(context: &mut Context, value: &Value<'_>) -> Result<ArraySize, Failure> {
-        let Variant { name, data } = Variant::of(context, value)?;
-        match (name, data) {
-            ("Constant", Some(data)) => Ok(ArraySize::Constant(data.read(context)?)),
-            ("Pending", Some(data)) => Ok(ArraySize::Pending(data.read(context)?)),
+        let Variant { name, payload } = Variant::of(context, value)?;
+        match (name, payload) {
+            ("Constant", Some(payload)) => Ok(ArraySize::Constant(payload.read(context)?)),
+            ("Pending", Some(payload)) => Ok(ArraySize::Pending(payload.read(context)?)),
             ("Dynamic", None) => Ok(ArraySize::Dynamic),
             _ => Err(context.refused("the size of an array")),
         }
@@ -53,8 +53,8 @@ impl Read for BuiltIn {
 
     /// Reads a built-in value. Those without a variant here are distinguished by their JSON.
     fn read(context: &mut Context, value: &Value<'_>) -> Result<BuiltIn, Failure> {
-        let Variant { name, data } = Variant::of(context, value)?;
-        if data.is_none() {
+        let Variant { name, payload } = Variant::of(context, value)?;
+        if payload.is_none() {
             if name == "WorkGroupId" {
                 return Ok(BuiltIn::WorkGroupId);
             }
@@ -73,10 +73,12 @@ impl Read for Binding {
     ghost reads = { λ j binding. IsBinding j binding };
 
     fn read(context: &mut Context, value: &Value<'_>) -> Result<Binding, Failure> {
-        let Variant { name, data } = Variant::of(context, value)?;
-        match (name, data) {
-            ("BuiltIn", Some(data)) => Ok(Binding::BuiltIn(data.read(context)?)),
-            ("Location", Some(data)) => Ok(Binding::Location(data.field(context, "location")?)),
+        let Variant { name, payload } = Variant::of(context, value)?;
+        match (name, payload) {
+            ("BuiltIn", Some(payload)) => Ok(Binding::BuiltIn(payload.read(context)?)),
+            ("Location", Some(payload)) => Ok(Binding::Location(payload.field(
+                context, "location",
+            )?)),
             _ => Err(context.refused("`BuiltIn` or `Location`")),
         }
     }
@@ -100,26 +102,30 @@ impl Read for TypeInner {
     ghost reads = { λ j inner. IsInner j inner };
 
     fn read(context: &mut Context, value: &Value<'_>) -> Result<TypeInner, Failure> {
-        let Variant { name, data } = Variant::of(context, value)?;
-        match data {
-            Some(data) => of_scalars(context, name, data),
+        let Variant { name, payload } = Variant::of(context, value)?;
+        match payload {
+            Some(payload) => of_scalars(context, name, payload),
             None => Err(context.refused("a type, with its fields")),
         }
     }
 }
 
 /// Reads a type of scalars alone, or else one that `of_types` reads.
-fn of_scalars(context: &mut Context, name: &str, data: Data<'_, '_>) -> Result<TypeInner, Failure>
-    ensures { IfOk result (λ inner. IsInnerOf name.now (Some (value_view «data».entry.value.now)) inner) }
+fn of_scalars(
+    context: &mut Context,
+    name: &str,
+    payload: Data<'_, '_>,
+) -> Result<TypeInner, Failure>
+    ensures { IfOk result (λ inner. IsInnerOf name.now (Some (value_view payload.entry.value.now)) inner) }
 {
     match name {
-        "Scalar" => Ok(TypeInner::Scalar(data.read(context)?)),
+        "Scalar" => Ok(TypeInner::Scalar(payload.read(context)?)),
         "Vector" => {
-            let (size, scalar) = data.pair(context, "size", "scalar")?;
+            let (size, scalar) = payload.pair(context, "size", "scalar")?;
             Ok(TypeInner::Vector { size, scalar })
         }
         "Matrix" => {
-            let (columns, rows, scalar) = data.triple(context, "columns", "rows", "scalar")?;
+            let (columns, rows, scalar) = payload.triple(context, "columns", "rows", "scalar")?;
             Ok(TypeInner::Matrix {
                 columns,
                 rows,
@@ -127,7 +133,7 @@ fn of_scalars(context: &mut Context, name: &str, data: Data<'_, '_>) -> Result<T
             })
         }
         "CooperativeMatrix" => {
-            let fields = data.fields(context)?;
+            let fields = payload.fields(context)?;
             let (columns, rows, scalar) = fields.triple(context, "columns", "rows", "scalar")?;
             Ok(TypeInner::CooperativeMatrix {
                 columns,
@@ -136,22 +142,22 @@ fn of_scalars(context: &mut Context, name: &str, data: Data<'_, '_>) -> Result<T
                 role: fields.needed(context, "role")?,
             })
         }
-        "Atomic" => Ok(TypeInner::Atomic(data.read(context)?)),
-        _ => of_types(context, name, data),
+        "Atomic" => Ok(TypeInner::Atomic(payload.read(context)?)),
+        _ => of_types(context, name, payload),
     }
 }
 
 /// Reads a pointer or a type composed of other types, or else one that `resource` reads.
-fn of_types(context: &mut Context, name: &str, data: Data<'_, '_>) -> Result<TypeInner, Failure>
-    ensures { IfOk result (λ inner. IsInnerOf name.now (Some (value_view «data».entry.value.now)) inner) }
+fn of_types(context: &mut Context, name: &str, payload: Data<'_, '_>) -> Result<TypeInner, Failure>
+    ensures { IfOk result (λ inner. IsInnerOf name.now (Some (value_view payload.entry.value.now)) inner) }
 {
     match name {
         "Pointer" => {
-            let (base, space) = data.pair(context, "base", "space")?;
+            let (base, space) = payload.pair(context, "base", "space")?;
             Ok(TypeInner::Pointer { base, space })
         }
         "ValuePointer" => {
-            let fields = data.fields(context)?;
+            let fields = payload.fields(context)?;
             let size = fields.optional(context, "size")?;
             let (scalar, space) = fields.pair(context, "scalar", "space")?;
             Ok(TypeInner::ValuePointer {
@@ -161,24 +167,24 @@ fn of_types(context: &mut Context, name: &str, data: Data<'_, '_>) -> Result<Typ
             })
         }
         "Array" => {
-            let (base, size, stride) = data.triple(context, "base", "size", "stride")?;
+            let (base, size, stride) = payload.triple(context, "base", "size", "stride")?;
             Ok(TypeInner::Array { base, size, stride })
         }
         "Struct" => {
-            let (members, span) = data.pair(context, "members", "span")?;
+            let (members, span) = payload.pair(context, "members", "span")?;
             Ok(TypeInner::Struct { members, span })
         }
-        _ => resource(context, name, data),
+        _ => resource(context, name, payload),
     }
 }
 
 /// Reads the type of a resource.
-fn resource(context: &mut Context, name: &str, data: Data<'_, '_>) -> Result<TypeInner, Failure>
-    ensures { IfOk result (λ inner. IsInnerOf name.now (Some (value_view «data».entry.value.now)) inner) }
+fn resource(context: &mut Context, name: &str, payload: Data<'_, '_>) -> Result<TypeInner, Failure>
+    ensures { IfOk result (λ inner. IsInnerOf name.now (Some (value_view payload.entry.value.now)) inner) }
 {
     match name {
         "Image" => {
-            let (dim, arrayed, class) = data.triple(context, "dim", "arrayed", "class")?;
+            let (dim, arrayed, class) = payload.triple(context, "dim", "arrayed", "class")?;
             Ok(TypeInner::Image {
                 dim,
                 arrayed,
@@ -186,16 +192,16 @@ fn resource(context: &mut Context, name: &str, data: Data<'_, '_>) -> Result<Typ
             })
         }
         "Sampler" => Ok(TypeInner::Sampler {
-            comparison: data.field(context, "comparison")?,
+            comparison: payload.field(context, "comparison")?,
         }),
         "AccelerationStructure" => Ok(TypeInner::AccelerationStructure {
-            vertex_return: data.field(context, "vertex_return")?,
+            vertex_return: payload.field(context, "vertex_return")?,
         }),
         "RayQuery" => Ok(TypeInner::RayQuery {
-            vertex_return: data.field(context, "vertex_return")?,
+            vertex_return: payload.field(context, "vertex_return")?,
         }),
         "BindingArray" => {
-            let (base, size) = data.pair(context, "base", "size")?;
+            let (base, size) = payload.pair(context, "base", "size")?;
             Ok(TypeInner::BindingArray { base, size })
         }
         _ => Err(context.refused("a type")),

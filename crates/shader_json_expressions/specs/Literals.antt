@@ -1,15 +1,17 @@
 -- Literals in the JSON of modules.
-use Rattle.std.specs.Prelude.{ℕ, List, Option, codes, IsSome}
+use Rattle.std.specs.Prelude.{◌≡◌, ℕ, List, Option, MatchOption, Ok, true, codes}
+use Rattle.std.specs.Str.Parse.{ParsesUnsigned}
 use Rattle.json.specs.Json.{Json}
 use Rattle.json.specs.Find.{as_number}
 use Rattle.shader_ir.specs.declared.literal.Literal.{Literal}
 use Rattle.shader_ir.specs.declared.literal.Literal.TheVariants as l
-use Rattle.shader_json_reader.specs.Numbers.{IsDouble, IsSingle, IsSigned, IsTruth, IsUnsigned}
+use Rattle.shader_json_reader.specs.Numbers.{IsDouble, IsSingle, IsSigned, IsTruth, IsUnsigned, is_integer_text}
 use Rattle.shader_json_reader.specs.Shapes.{IsVariant, IsNewtype}
 
--- Of an f16 it says nothing but that the value is a number.
+-- The value is a number. Without point and exponent it is the bits of the f16, as naga prints them; of another number it isn't said which
+-- f16 it is.
 abbrev pub IsHalf : Json → ℕ → Type 0
-IsHalf j bits = IsSome (as_number j)
+IsHalf j bits = MatchOption (as_number j) ⊥ (λ text. is_integer_text text ≡ true → ParsesUnsigned {E = ℕ} 64 10 text (Ok bits))
 
 abbrev pub IsLiteralOf : List ℕ → Option Json → Literal → Type 0
 IsLiteralOf name payload (l.F64 bits) = IsNewtype (codes "F64") name payload (λ j. IsDouble j bits)

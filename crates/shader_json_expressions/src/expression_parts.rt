@@ -11,14 +11,14 @@ impl Read for Code<SampleLevel> {
     ghost reads = { λ j level. IsLevel j level.0 };
 
     fn read(context: &mut Context, value: &Value<'_>) -> Result<Code<SampleLevel>, Failure> {
-        let Variant { name, data } = Variant::of(context, value)?;
-        let found = match (name, data) {
+        let Variant { name, payload } = Variant::of(context, value)?;
+        let found = match (name, payload) {
             ("Auto", None) => SampleLevel::Auto,
             ("Zero", None) => SampleLevel::Zero,
-            ("Exact", Some(data)) => SampleLevel::Exact(data.read(context)?),
-            ("Bias", Some(data)) => SampleLevel::Bias(data.read(context)?),
-            ("Gradient", Some(data)) => {
-                let (x, y) = data.pair(context, "x", "y")?;
+            ("Exact", Some(payload)) => SampleLevel::Exact(payload.read(context)?),
+            ("Bias", Some(payload)) => SampleLevel::Bias(payload.read(context)?),
+            ("Gradient", Some(payload)) => {
+                let (x, y) = payload.pair(context, "x", "y")?;
                 SampleLevel::Gradient { x, y }
             }
             _ => return Err(context.refused("a level to sample at")),
@@ -31,10 +31,10 @@ impl Read for Code<ImageQuery> {
     ghost reads = { λ j query. IsQuery j query.0 };
 
     fn read(context: &mut Context, value: &Value<'_>) -> Result<Code<ImageQuery>, Failure> {
-        let Variant { name, data } = Variant::of(context, value)?;
-        let found = match (name, data) {
-            ("Size", Some(data)) => ImageQuery::Size {
-                level: data.fields(context)?.optional(context, "level")?,
+        let Variant { name, payload } = Variant::of(context, value)?;
+        let found = match (name, payload) {
+            ("Size", Some(payload)) => ImageQuery::Size {
+                level: payload.fields(context)?.optional(context, "level")?,
             },
             ("NumLevels", None) => ImageQuery::NumLevels,
             ("NumLayers", None) => ImageQuery::NumLayers,

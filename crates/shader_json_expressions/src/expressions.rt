@@ -56,66 +56,70 @@ fn expression_at(
 pub fn read_expression(context: &mut Context, value: &Value<'_>) -> Result<Expression, Failure>
     ensures { IfOk result (λ e. IsExpression (value_view value.now) e) }
 {
-    let Variant { name, data } = Variant::of(context, value)?;
-    match (name, data) {
+    let Variant { name, payload } = Variant::of(context, value)?;
+    match (name, payload) {
         ("RayQueryProceedResult", None) => Ok(Expression::RayQueryProceedResult),
         ("SubgroupBallotResult", None) => Ok(Expression::SubgroupBallotResult),
-        (_, Some(data)) => leaf(context, name, data),
+        (_, Some(payload)) => leaf(context, name, payload),
         _ => Err(context.refused("an expression")),
     }
 }
 
 /// Reads an expression without operands, or else one that `composite` reads.
-fn leaf(context: &mut Context, name: &str, data: Data<'_, '_>) -> Result<Expression, Failure>
-    ensures { IfOk result (λ e. IsExpressionOf name.now (Some (value_view «data».entry.value.now)) e) }
+fn leaf(context: &mut Context, name: &str, payload: Data<'_, '_>) -> Result<Expression, Failure>
+    ensures { IfOk result (λ e. IsExpressionOf name.now (Some (value_view payload.entry.value.now)) e) }
 {
     match name {
-        "Literal" => Ok(Expression::Literal(data.read::<Code<Literal>>(context)?.0)),
-        "Constant" => Ok(Expression::Constant(data.read(context)?)),
-        "Override" => Ok(Expression::Override(data.read(context)?)),
-        "ZeroValue" => Ok(Expression::ZeroValue(data.read(context)?)),
-        "FunctionArgument" => Ok(Expression::FunctionArgument(data.read(context)?)),
-        "GlobalVariable" => Ok(Expression::GlobalVariable(data.read(context)?)),
-        "LocalVariable" => Ok(Expression::LocalVariable(data.read(context)?)),
-        "CallResult" => Ok(Expression::CallResult(data.read(context)?)),
+        "Literal" => Ok(Expression::Literal(payload.read::<Code<Literal>>(context)?.0)),
+        "Constant" => Ok(Expression::Constant(payload.read(context)?)),
+        "Override" => Ok(Expression::Override(payload.read(context)?)),
+        "ZeroValue" => Ok(Expression::ZeroValue(payload.read(context)?)),
+        "FunctionArgument" => Ok(Expression::FunctionArgument(payload.read(context)?)),
+        "GlobalVariable" => Ok(Expression::GlobalVariable(payload.read(context)?)),
+        "LocalVariable" => Ok(Expression::LocalVariable(payload.read(context)?)),
+        "CallResult" => Ok(Expression::CallResult(payload.read(context)?)),
         "AtomicResult" => {
-            let (ty, comparison) = data.pair(context, "ty", "comparison")?;
+            let (ty, comparison) = payload.pair(context, "ty", "comparison")?;
             Ok(Expression::AtomicResult { ty, comparison })
         }
         "WorkGroupUniformLoadResult" => Ok(Expression::WorkGroupUniformLoadResult {
-            ty: data.field(context, "ty")?,
+            ty: payload.field(context, "ty")?,
         }),
         "SubgroupOperationResult" => Ok(Expression::SubgroupOperationResult {
-            ty: data.field(context, "ty")?,
+            ty: payload.field(context, "ty")?,
         }),
-        _ => composite(context, name, data),
+        _ => composite(context, name, payload),
     }
 }
 
 /// Reads an expression that builds a composite value or takes one apart, or else one that `image`
 /// reads.
-fn composite(context: &mut Context, name: &str, data: Data<'_, '_>) -> Result<Expression, Failure>
-    ensures { IfOk result (λ e. IsExpressionOf name.now (Some (value_view «data».entry.value.now)) e) }
+fn composite(
+    context: &mut Context,
+    name: &str,
+    payload: Data<'_, '_>,
+) -> Result<Expression, Failure>
+    ensures { IfOk result (λ e. IsExpressionOf name.now (Some (value_view payload.entry.value.now)) e) }
 {
     match name {
         "Compose" => {
-            let (ty, components) = data.pair(context, "ty", "components")?;
+            let (ty, components) = payload.pair(context, "ty", "components")?;
             Ok(Expression::Compose { ty, components })
         }
         "Access" => {
-            let (base, index) = data.pair(context, "base", "index")?;
+            let (base, index) = payload.pair(context, "base", "index")?;
             Ok(Expression::Access { base, index })
         }
         "AccessIndex" => {
-            let (base, index) = data.pair(context, "base", "index")?;
+            let (base, index) = payload.pair(context, "base", "index")?;
             Ok(Expression::AccessIndex { base, index })
         }
         "Splat" => {
-            let (size, value) = data.pair(context, "size", "value")?;
+            let (size, value) = payload.pair(context, "size", "value")?;
             Ok(Expression::Splat { size, value })
         }
         "Swizzle" => {
-            let (Pattern(pattern), size, vector) = data.triple(
+            let (Pattern(pattern), size, vector) = payload.triple(
                 context, "pattern", "size", "vector",
             )?;
             Ok(Expression::Swizzle {
@@ -124,22 +128,22 @@ fn composite(context: &mut Context, name: &str, data: Data<'_, '_>) -> Result<Ex
                 pattern,
             })
         }
-        _ => image(context, name, data),
+        _ => image(context, name, payload),
     }
 }
 
 /// Reads an expression on an image, or else one that `operation` reads.
-fn image(context: &mut Context, name: &str, data: Data<'_, '_>) -> Result<Expression, Failure>
-    ensures { IfOk result (λ e. IsExpressionOf name.now (Some (value_view «data».entry.value.now)) e) }
+fn image(context: &mut Context, name: &str, payload: Data<'_, '_>) -> Result<Expression, Failure>
+    ensures { IfOk result (λ e. IsExpressionOf name.now (Some (value_view payload.entry.value.now)) e) }
 {
     match name {
-        "ImageSample" => sample(context, data.fields(context)?),
-        "ImageLoad" => load(context, data.fields(context)?),
+        "ImageSample" => sample(context, payload.fields(context)?),
+        "ImageLoad" => load(context, payload.fields(context)?),
         "ImageQuery" => {
-            let (Code(query), image) = data.pair(context, "query", "image")?;
+            let (Code(query), image) = payload.pair(context, "query", "image")?;
             Ok(Expression::ImageQuery { image, query })
         }
-        _ => operation(context, name, data),
+        _ => operation(context, name, payload),
     }
 }
 
@@ -177,20 +181,24 @@ fn sample(context: &mut Context, fields: Fields<'_, '_>) -> Result<Expression, F
 }
 
 /// Reads an operator on values, or else an expression that `function` reads.
-fn operation(context: &mut Context, name: &str, data: Data<'_, '_>) -> Result<Expression, Failure>
-    ensures { IfOk result (λ e. IsExpressionOf name.now (Some (value_view «data».entry.value.now)) e) }
+fn operation(
+    context: &mut Context,
+    name: &str,
+    payload: Data<'_, '_>,
+) -> Result<Expression, Failure>
+    ensures { IfOk result (λ e. IsExpressionOf name.now (Some (value_view payload.entry.value.now)) e) }
 {
     match name {
         "Unary" => {
-            let (Code(op), expr) = data.pair(context, "op", "expr")?;
+            let (Code(op), expr) = payload.pair(context, "op", "expr")?;
             Ok(Expression::Unary { op, expr })
         }
         "Binary" => {
-            let (Code(op), left, right) = data.triple(context, "op", "left", "right")?;
+            let (Code(op), left, right) = payload.triple(context, "op", "left", "right")?;
             Ok(Expression::Binary { op, left, right })
         }
         "Select" => {
-            let (condition, accept, reject) = data.triple(
+            let (condition, accept, reject) = payload.triple(
                 context,
                 "condition",
                 "accept",
@@ -203,25 +211,25 @@ fn operation(context: &mut Context, name: &str, data: Data<'_, '_>) -> Result<Ex
             })
         }
         "Derivative" => {
-            let (Code(axis), Code(ctrl), expr) = data.triple(context, "axis", "ctrl", "expr")?;
+            let (Code(axis), Code(ctrl), expr) = payload.triple(context, "axis", "ctrl", "expr")?;
             Ok(Expression::Derivative { axis, ctrl, expr })
         }
-        _ => function(context, name, data),
+        _ => function(context, name, payload),
     }
 }
 
 /// Reads a function of values, or else an expression that `memory` reads.
-fn function(context: &mut Context, name: &str, data: Data<'_, '_>) -> Result<Expression, Failure>
-    ensures { IfOk result (λ e. IsExpressionOf name.now (Some (value_view «data».entry.value.now)) e) }
+fn function(context: &mut Context, name: &str, payload: Data<'_, '_>) -> Result<Expression, Failure>
+    ensures { IfOk result (λ e. IsExpressionOf name.now (Some (value_view payload.entry.value.now)) e) }
 {
     match name {
         "Relational" => {
-            let (Code(fun), argument) = data.pair(context, "fun", "argument")?;
+            let (Code(fun), argument) = payload.pair(context, "fun", "argument")?;
             Ok(Expression::Relational { fun, argument })
         }
-        "Math" => math(context, data.fields(context)?),
+        "Math" => math(context, payload.fields(context)?),
         "As" => {
-            let fields = data.fields(context)?;
+            let fields = payload.fields(context)?;
             let (expr, kind) = fields.pair(context, "expr", "kind")?;
             Ok(Expression::As {
                 expr,
@@ -229,7 +237,7 @@ fn function(context: &mut Context, name: &str, data: Data<'_, '_>) -> Result<Exp
                 convert: fields.optional(context, "convert")?,
             })
         }
-        _ => memory(context, name, data),
+        _ => memory(context, name, payload),
     }
 }
 
@@ -249,33 +257,37 @@ fn math(context: &mut Context, fields: Fields<'_, '_>) -> Result<Expression, Fai
 
 /// Reads a load, the length of an array or the result of a ray query, or else an expression that
 /// `cooperative` reads.
-fn memory(context: &mut Context, name: &str, data: Data<'_, '_>) -> Result<Expression, Failure>
-    ensures { IfOk result (λ e. IsExpressionOf name.now (Some (value_view «data».entry.value.now)) e) }
+fn memory(context: &mut Context, name: &str, payload: Data<'_, '_>) -> Result<Expression, Failure>
+    ensures { IfOk result (λ e. IsExpressionOf name.now (Some (value_view payload.entry.value.now)) e) }
 {
     match name {
         "Load" => Ok(Expression::Load {
-            pointer: data.field(context, "pointer")?,
+            pointer: payload.field(context, "pointer")?,
         }),
-        "ArrayLength" => Ok(Expression::ArrayLength(data.read(context)?)),
+        "ArrayLength" => Ok(Expression::ArrayLength(payload.read(context)?)),
         "RayQueryVertexPositions" => {
-            let (query, committed) = data.pair(context, "query", "committed")?;
+            let (query, committed) = payload.pair(context, "query", "committed")?;
             Ok(Expression::RayQueryVertexPositions { query, committed })
         }
         "RayQueryGetIntersection" => {
-            let (query, committed) = data.pair(context, "query", "committed")?;
+            let (query, committed) = payload.pair(context, "query", "committed")?;
             Ok(Expression::RayQueryGetIntersection { query, committed })
         }
-        _ => cooperative(context, name, data),
+        _ => cooperative(context, name, payload),
     }
 }
 
 /// Reads an operation on cooperative matrices.
-fn cooperative(context: &mut Context, name: &str, data: Data<'_, '_>) -> Result<Expression, Failure>
-    ensures { IfOk result (λ e. IsExpressionOf name.now (Some (value_view «data».entry.value.now)) e) }
+fn cooperative(
+    context: &mut Context,
+    name: &str,
+    payload: Data<'_, '_>,
+) -> Result<Expression, Failure>
+    ensures { IfOk result (λ e. IsExpressionOf name.now (Some (value_view payload.entry.value.now)) e) }
 {
     match name {
         "CooperativeLoad" => {
-            let fields = data.fields(context)?;
+            let fields = payload.fields(context)?;
             let Tile(tile) = fields.needed(context, "data")?;
             let (columns, rows, role) = fields.triple(context, "columns", "rows", "role")?;
             Ok(Expression::CooperativeLoad {
@@ -286,7 +298,7 @@ fn cooperative(context: &mut Context, name: &str, data: Data<'_, '_>) -> Result<
             })
         }
         "CooperativeMultiplyAdd" => {
-            let (a, b, c) = data.triple(context, "a", "b", "c")?;
+            let (a, b, c) = payload.triple(context, "a", "b", "c")?;
             Ok(Expression::CooperativeMultiplyAdd { a, b, c })
         }
         _ => Err(context.refused("an expression")),

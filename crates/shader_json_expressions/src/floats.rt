@@ -45,6 +45,7 @@ impl Read for Half {
 
     /// Reads an integer as the bits themselves, and a number with a point or an exponent as the
     /// value.
+    #[tactic(auto, using(crate::proofs::HalfLemmas::half_by_bits, crate::proofs::HalfLemmas::half_by_value))]
     fn read(context: &mut Context, value: &Value<'_>) -> Result<Half, Failure> {
         let Some(text) = value.as_number() else {
             return Err(context.refused("a number"));

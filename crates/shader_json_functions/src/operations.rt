@@ -28,10 +28,10 @@ impl Read for Code<SwitchValue> {
     ghost reads = { λ j item. IsSwitchValue j item.0 };
 
     fn read(context: &mut Context, value: &Value<'_>) -> Result<Code<SwitchValue>, Failure> {
-        let Variant { name, data } = Variant::of(context, value)?;
-        let found = match (name, data) {
-            ("I32", Some(data)) => SwitchValue::I32(data.read(context)?),
-            ("U32", Some(data)) => SwitchValue::U32(data.read(context)?),
+        let Variant { name, payload } = Variant::of(context, value)?;
+        let found = match (name, payload) {
+            ("I32", Some(payload)) => SwitchValue::I32(payload.read(context)?),
+            ("U32", Some(payload)) => SwitchValue::U32(payload.read(context)?),
             ("Default", None) => SwitchValue::Default,
             _ => return Err(context.refused("`I32` or `U32` with a number, or `Default`")),
         };
@@ -108,8 +108,8 @@ impl Read for Code<AtomicFunction> {
     ghost reads = { λ j item. IsAtomic j item.0 };
 
     fn read(context: &mut Context, value: &Value<'_>) -> Result<Code<AtomicFunction>, Failure> {
-        let Variant { name, data } = Variant::of(context, value)?;
-        let found = match (name, data) {
+        let Variant { name, payload } = Variant::of(context, value)?;
+        let found = match (name, payload) {
             ("Add", None) => AtomicFunction::Add,
             ("Subtract", None) => AtomicFunction::Subtract,
             ("And", None) => AtomicFunction::And,
@@ -117,8 +117,8 @@ impl Read for Code<AtomicFunction> {
             ("InclusiveOr", None) => AtomicFunction::InclusiveOr,
             ("Min", None) => AtomicFunction::Min,
             ("Max", None) => AtomicFunction::Max,
-            ("Exchange", Some(data)) => AtomicFunction::Exchange {
-                compare: data.fields(context)?.optional(context, "compare")?,
+            ("Exchange", Some(payload)) => AtomicFunction::Exchange {
+                compare: payload.fields(context)?.optional(context, "compare")?,
             },
             _ => return Err(context.refused("an atomic function")),
         };
@@ -130,17 +130,17 @@ impl Read for Code<GatherMode> {
     ghost reads = { λ j item. IsMode j item.0 };
 
     fn read(context: &mut Context, value: &Value<'_>) -> Result<Code<GatherMode>, Failure> {
-        let Variant { name, data } = Variant::of(context, value)?;
-        let found = match (name, data) {
+        let Variant { name, payload } = Variant::of(context, value)?;
+        let found = match (name, payload) {
             ("BroadcastFirst", None) => GatherMode::BroadcastFirst,
-            ("Broadcast", Some(data)) => GatherMode::Broadcast(data.read(context)?),
-            ("Shuffle", Some(data)) => GatherMode::Shuffle(data.read(context)?),
-            ("ShuffleDown", Some(data)) => GatherMode::ShuffleDown(data.read(context)?),
-            ("ShuffleUp", Some(data)) => GatherMode::ShuffleUp(data.read(context)?),
-            ("ShuffleXor", Some(data)) => GatherMode::ShuffleXor(data.read(context)?),
-            ("QuadBroadcast", Some(data)) => GatherMode::QuadBroadcast(data.read(context)?),
-            ("QuadSwap", Some(data)) => GatherMode::QuadSwap(
-                data.read::<Code<Direction>>(context)?.0,
+            ("Broadcast", Some(payload)) => GatherMode::Broadcast(payload.read(context)?),
+            ("Shuffle", Some(payload)) => GatherMode::Shuffle(payload.read(context)?),
+            ("ShuffleDown", Some(payload)) => GatherMode::ShuffleDown(payload.read(context)?),
+            ("ShuffleUp", Some(payload)) => GatherMode::ShuffleUp(payload.read(context)?),
+            ("ShuffleXor", Some(payload)) => GatherMode::ShuffleXor(payload.read(context)?),
+            ("QuadBroadcast", Some(payload)) => GatherMode::QuadBroadcast(payload.read(context)?),
+            ("QuadSwap", Some(payload)) => GatherMode::QuadSwap(
+                payload.read::<Code<Direction>>(context)?.0,
             ),
             _ => return Err(context.refused("a mode of gathering")),
         };
@@ -152,12 +152,12 @@ impl Read for Code<RayQueryFunction> {
     ghost reads = { λ j item. IsQueryFunction j item.0 };
 
     fn read(context: &mut Context, value: &Value<'_>) -> Result<Code<RayQueryFunction>, Failure> {
-        let Variant { name, data } = Variant::of(context, value)?;
-        let found = match (name, data) {
+        let Variant { name, payload } = Variant::of(context, value)?;
+        let found = match (name, payload) {
             ("ConfirmIntersection", None) => RayQueryFunction::ConfirmIntersection,
             ("Terminate", None) => RayQueryFunction::Terminate,
-            ("Initialize", Some(data)) => {
-                let (acceleration_structure, descriptor) = data.pair(
+            ("Initialize", Some(payload)) => {
+                let (acceleration_structure, descriptor) = payload.pair(
                     context,
                     "acceleration_structure",
                     "descriptor",
@@ -167,11 +167,11 @@ impl Read for Code<RayQueryFunction> {
                     descriptor,
                 }
             }
-            ("Proceed", Some(data)) => RayQueryFunction::Proceed {
-                result: data.field(context, "result")?,
+            ("Proceed", Some(payload)) => RayQueryFunction::Proceed {
+                result: payload.field(context, "result")?,
             },
-            ("GenerateIntersection", Some(data)) => RayQueryFunction::GenerateIntersection {
-                hit_t: data.field(context, "hit_t")?,
+            ("GenerateIntersection", Some(payload)) => RayQueryFunction::GenerateIntersection {
+                hit_t: payload.field(context, "hit_t")?,
             },
             _ => return Err(context.refused("a function of ray queries")),
         };
@@ -186,10 +186,10 @@ impl Read for Code<RayPipelineFunction> {
         context: &mut Context,
         value: &Value<'_>,
     ) -> Result<Code<RayPipelineFunction>, Failure> {
-        let Variant { name, data } = Variant::of(context, value)?;
-        let found = match (name, data) {
-            ("TraceRay", Some(data)) => {
-                let (acceleration_structure, descriptor, payload) = data.triple(
+        let Variant { name, payload } = Variant::of(context, value)?;
+        let found = match (name, payload) {
+            ("TraceRay", Some(payload)) => {
+                let (acceleration_structure, descriptor, payload) = payload.triple(
                     context,
                     "acceleration_structure",
                     "descriptor",

@@ -12,8 +12,11 @@ use shader_json_reader::{Context, Failure};
 /// An object: what two of its members stand for, and the object without these two.
 #[derive(Drop)]
 pub struct Parts<'a, A: Drop, B: Drop> {
+    /// What the first of the two members stands for.
     pub first: A,
+    /// What the second one stands for.
     pub second: B,
+    /// The object without them.
     pub rest: Value<'a>,
 }
 

@@ -110,14 +110,14 @@ fn statement_at(
 fn statement(context: &mut Context, depth: usize, value: &Value<'_>) -> Result<Statement, Failure>
     ensures { IfOk result (λ statement. IsStatement (value_view value.now) (step_of statement)) }
 {
-    let Variant { name, data } = Variant::of(context, value)?;
-    let Some(data) = data else {
+    let Variant { name, payload } = Variant::of(context, value)?;
+    let Some(payload) = payload else {
         return bare(context, name);
     };
     match name {
-        "Block" => Ok(Statement::Block(within(0, block(context, depth, data.value))?)),
+        "Block" => Ok(Statement::Block(within(0, block(context, depth, payload.value))?)),
         "If" => {
-            let fields = data.fields(context)?;
+            let fields = payload.fields(context)?;
             Ok(Statement::If {
                 condition: fields.needed(context, "condition")?,
                 accept: inner(context, depth, fields, "accept")?,
@@ -125,21 +125,21 @@ fn statement(context: &mut Context, depth: usize, value: &Value<'_>) -> Result<S
             })
         }
         "Switch" => {
-            let fields = data.fields(context)?;
+            let fields = payload.fields(context)?;
             Ok(Statement::Switch {
                 selector: fields.needed(context, "selector")?,
                 cases: cases(context, depth, fields)?,
             })
         }
         "Loop" => {
-            let fields = data.fields(context)?;
+            let fields = payload.fields(context)?;
             Ok(Statement::Loop {
                 body: inner(context, depth, fields, "body")?,
                 continuing: inner(context, depth, fields, "continuing")?,
                 break_if: fields.optional(context, "break_if")?,
             })
         }
-        _ => flow(context, name, data),
+        _ => flow(context, name, payload),
     }
 }
 
@@ -235,24 +235,24 @@ fn bare(context: &Context, name: &str) -> Result<Statement, Failure>
 }
 
 /// Reads a statement that evaluates, leaves, waits or calls, or else one that `store` reads.
-fn flow(context: &mut Context, name: &str, data: Data<'_, '_>) -> Result<Statement, Failure>
-    ensures { IfOk result (λ statement. IsStepOf (step_of statement) name.now (Some (value_view «data».entry.value.now))) }
+fn flow(context: &mut Context, name: &str, payload: Data<'_, '_>) -> Result<Statement, Failure>
+    ensures { IfOk result (λ statement. IsStepOf (step_of statement) name.now (Some (value_view payload.entry.value.now))) }
 {
     match name {
-        "Emit" => Ok(Statement::Emit(data.read(context)?)),
+        "Emit" => Ok(Statement::Emit(payload.read(context)?)),
         "Return" => Ok(Statement::Return {
-            value: data.fields(context)?.optional(context, "value")?,
+            value: payload.fields(context)?.optional(context, "value")?,
         }),
         "ControlBarrier" => {
-            let Code(barrier) = data.read(context)?;
+            let Code(barrier) = payload.read(context)?;
             Ok(Statement::ControlBarrier(barrier))
         }
         "MemoryBarrier" => {
-            let Code(barrier) = data.read(context)?;
+            let Code(barrier) = payload.read(context)?;
             Ok(Statement::MemoryBarrier(barrier))
         }
         "Call" => {
-            let fields = data.fields(context)?;
+            let fields = payload.fields(context)?;
             let (function, arguments) = fields.pair(context, "function", "arguments")?;
             Ok(Statement::Call {
                 function,
@@ -260,22 +260,22 @@ fn flow(context: &mut Context, name: &str, data: Data<'_, '_>) -> Result<Stateme
                 result: fields.optional(context, "result")?,
             })
         }
-        _ => store(context, name, data),
+        _ => store(context, name, payload),
     }
 }
 
 /// Reads a statement that writes or that loads for a whole work group, or else one that `atomic`
 /// reads.
-fn store(context: &mut Context, name: &str, data: Data<'_, '_>) -> Result<Statement, Failure>
-    ensures { IfOk result (λ statement. IsStepOf (step_of statement) name.now (Some (value_view «data».entry.value.now))) }
+fn store(context: &mut Context, name: &str, payload: Data<'_, '_>) -> Result<Statement, Failure>
+    ensures { IfOk result (λ statement. IsStepOf (step_of statement) name.now (Some (value_view payload.entry.value.now))) }
 {
     match name {
         "Store" => {
-            let (pointer, value) = data.pair(context, "pointer", "value")?;
+            let (pointer, value) = payload.pair(context, "pointer", "value")?;
             Ok(Statement::Store { pointer, value })
         }
         "ImageStore" => {
-            let fields = data.fields(context)?;
+            let fields = payload.fields(context)?;
             let (image, coordinate) = fields.pair(context, "image", "coordinate")?;
             Ok(Statement::ImageStore {
                 image,
@@ -285,24 +285,24 @@ fn store(context: &mut Context, name: &str, data: Data<'_, '_>) -> Result<Statem
             })
         }
         "WorkGroupUniformLoad" => {
-            let (pointer, result) = data.pair(context, "pointer", "result")?;
+            let (pointer, result) = payload.pair(context, "pointer", "result")?;
             Ok(Statement::WorkGroupUniformLoad { pointer, result })
         }
         "CooperativeStore" => {
-            let (Tile(tile), target) = data.pair(context, "data", "target")?;
+            let (Tile(tile), target) = payload.pair(context, "data", "target")?;
             Ok(Statement::CooperativeStore { target, tile })
         }
-        _ => atomic(context, name, data),
+        _ => atomic(context, name, payload),
     }
 }
 
 /// Reads an atomic operation or an operation on rays, or else a statement that `subgroup` reads.
-fn atomic(context: &mut Context, name: &str, data: Data<'_, '_>) -> Result<Statement, Failure>
-    ensures { IfOk result (λ statement. IsStepOf (step_of statement) name.now (Some (value_view «data».entry.value.now))) }
+fn atomic(context: &mut Context, name: &str, payload: Data<'_, '_>) -> Result<Statement, Failure>
+    ensures { IfOk result (λ statement. IsStepOf (step_of statement) name.now (Some (value_view payload.entry.value.now))) }
 {
     match name {
         "Atomic" => {
-            let fields = data.fields(context)?;
+            let fields = payload.fields(context)?;
             let (OldValue(result), Code(fun)) = fields.pair(context, "result", "fun")?;
             let (pointer, value) = fields.pair(context, "pointer", "value")?;
             Ok(Statement::Atomic {
@@ -313,7 +313,7 @@ fn atomic(context: &mut Context, name: &str, data: Data<'_, '_>) -> Result<State
             })
         }
         "ImageAtomic" => {
-            let fields = data.fields(context)?;
+            let fields = payload.fields(context)?;
             let (Code(fun), image, coordinate) = fields.triple(
                 context,
                 "fun",
@@ -329,31 +329,31 @@ fn atomic(context: &mut Context, name: &str, data: Data<'_, '_>) -> Result<State
             })
         }
         "RayQuery" => {
-            let (Code(fun), query) = data.pair(context, "fun", "query")?;
+            let (Code(fun), query) = payload.pair(context, "fun", "query")?;
             Ok(Statement::RayQuery { query, fun })
         }
         "RayPipelineFunction" => {
-            let Code(fun) = data.read(context)?;
+            let Code(fun) = payload.read(context)?;
             Ok(Statement::RayPipelineFunction(fun))
         }
-        _ => subgroup(context, name, data),
+        _ => subgroup(context, name, payload),
     }
 }
 
 /// Reads an operation of a subgroup.
-fn subgroup(context: &mut Context, name: &str, data: Data<'_, '_>) -> Result<Statement, Failure>
-    ensures { IfOk result (λ statement. IsStepOf (step_of statement) name.now (Some (value_view «data».entry.value.now))) }
+fn subgroup(context: &mut Context, name: &str, payload: Data<'_, '_>) -> Result<Statement, Failure>
+    ensures { IfOk result (λ statement. IsStepOf (step_of statement) name.now (Some (value_view payload.entry.value.now))) }
 {
     match name {
         "SubgroupBallot" => {
-            let fields = data.fields(context)?;
+            let fields = payload.fields(context)?;
             Ok(Statement::SubgroupBallot {
                 result: fields.needed(context, "result")?,
                 predicate: fields.optional(context, "predicate")?,
             })
         }
         "SubgroupGather" => {
-            let (Code(mode), argument, result) = data.triple(
+            let (Code(mode), argument, result) = payload.triple(
                 context, "mode", "argument", "result",
             )?;
             Ok(Statement::SubgroupGather {
@@ -362,7 +362,7 @@ fn subgroup(context: &mut Context, name: &str, data: Data<'_, '_>) -> Result<Sta
                 result,
             })
         }
-        "SubgroupCollectiveOperation" => collective(context, data.fields(context)?),
+        "SubgroupCollectiveOperation" => collective(context, payload.fields(context)?),
         _ => Err(context.refused("a statement")),
     }
 }

@@ -120,7 +120,8 @@ pub fn read_value(alloc: Global, root: &Value<'_>) -> Result<Module, ReadError>
 
 /// Reads a module from a JSON text as `serde_json` prints naga's.
 ///
-/// Fields that this module type lacks are ignored. Everything else that naga wouldn't print is rejected with its path.
+/// Fields that this module type lacks are ignored, and values of another form are rejected with their path. A handle may be out of range,
+/// which `check_module` of `shader_resolve` tests.
 ///
 /// # Errors
 ///

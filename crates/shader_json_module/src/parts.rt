@@ -18,6 +18,7 @@ use std::str;
 /// A module that was read from a text, with the part of the text's JSON that the module may lack.
 #[derive(Drop)]
 pub struct ModuleParts<'a> {
+    /// The module.
     pub module: Module,
     /// The object that stands for the module, without its members `functions` and `entry_points`.
     pub rest: Value<'a>,

@@ -1,6 +1,8 @@
 -- What numbers, flags and the like mean in JSON.
-use Rattle.std.specs.Prelude.{◌≡◌, ℕ, ℤ, List, Bool, true, Option, MatchOption, Ok, option_and_then}
+use Rattle.std.specs.Prelude.{◌≡◌, ℕ, ℤ, List, Bool, true, Option, MatchOption, Ok, option_and_then, ◌==◌, ◌||◌}
+use Rattle.std.specs.Char.{is_ascii_digit}
 use Rattle.std.specs.Int.{w64}
+use Rattle.std.specs.List.{list_all}
 use Rattle.std.specs.Float.{binary32, binary64, float_is_finite}
 use Rattle.std.specs.Float.Ieee.{Float, to_bits}
 use Rattle.std.specs.Float.Parse.{parse_float}
@@ -17,6 +19,10 @@ IsUnsigned j n = MatchOption (as_number j) ⊥ (λ s. ParsesUnsigned {E = ℕ} 6
 -- the same of a number that may have a sign
 abbrev pub IsSigned : Json → ℤ → Type 0
 IsSigned j n = MatchOption (as_number j) ⊥ (λ s. ParsesSigned {E = ℕ} w64 10 s (Ok n))
+
+-- a number of such bytes has neither a point nor an exponent
+abbrev pub is_integer_text : List ℕ → Bool
+is_integer_text text = list_all (λ byte. byte == 45 || is_ascii_digit byte) text
 
 -- the f64 and the f32 nearest to a number, of two the even one
 abbrev pub double_of : Json → Option Float

@@ -13,6 +13,7 @@ use std::alloc::Global;
 /// The allocator, and the built-in values read so far.
 #[derive(Drop)]
 pub struct Context {
+    /// The allocator of all that is read.
     pub alloc: Global,
     builtins: IndexSet<Name>,
 }
@@ -33,12 +34,11 @@ impl Context {
         Failure::refused(self.alloc, Wanted::Value(listed(wanted)))
     }
 
-    /// Returns a number for a built-in value. Two values have the same number if and only if they
-    /// are equal.
+    /// Returns a number for a built-in value: that of an equal one that was read before, or else the next one.
     ///
     /// # Errors
     ///
-    /// `Failure::OutOfMemory` if allocation fails.
+    /// `Failure::OutOfMemory` if allocation fails, or if more than 2^32 such values are read.
     pub fn number_of(&mut self, builtin: &Value<'_>) -> Result<u32, Failure> {
         let text = format!(in self.alloc; "{builtin:?}")?;
         let (position, _) = self.builtins.insert_full(Name::from(text))?;

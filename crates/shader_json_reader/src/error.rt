@@ -43,8 +43,11 @@ pub enum ReadError {
     /// The text is JSON, but the value at the path isn't what a module has there. The path of the whole text is empty.
     #[error("`{path}`: wanted is {wanted}, and found is {found}")]
     NotModule {
+        /// The path to the value, as `functions[2].arguments`; empty for the root.
         path: String,
+        /// What may stand there.
         wanted: Wanted,
+        /// What stands there, in a few words.
         found: String,
     },
 }

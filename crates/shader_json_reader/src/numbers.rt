@@ -1,11 +1,11 @@
 //! JSON numbers as numbers of Rust.
-ghost use Rattle.std.specs.Prelude.{◌≤◌, IfSome};
+ghost use Rattle.std.specs.Prelude.{◌≡◌, ◌≤◌, IfSome};
 ghost use Rattle.json.specs.Value.{value_view};
-ghost use Rattle.shader_json_reader.specs.Numbers.{IsDouble, IsSigned, IsSingle, IsUnsigned};
+ghost use Rattle.shader_json_reader.specs.Numbers.{IsDouble, IsSigned, IsSingle, IsUnsigned, is_integer_text};
 
 use json::Value;
 
-/// Returns an integer from 0 to `most` that is written without point and exponent.
+/// Returns an integer from 0 to `most` that is written without point and exponent, or `None` for any other value.
 pub fn unsigned(value: &Value<'_>, most: u64) -> Option<u64>
     ensures value { IfSome result (λ number. IsUnsigned (value_view value.now) number) }
     ensures bound { IfSome result (λ number. number ≤ most) }
@@ -16,7 +16,7 @@ pub fn unsigned(value: &Value<'_>, most: u64) -> Option<u64>
     }
 }
 
-/// Returns a signed integer of 64 bits that is written without point and exponent. `-0` is none.
+/// Returns a signed integer of 64 bits that is written without point and exponent, or `None` for any other value, `-0` among them.
 pub fn signed(value: &Value<'_>) -> Option<i64>
     ensures { IfSome result (λ number. IsSigned (value_view value.now) number) }
 {
@@ -52,7 +52,9 @@ pub fn single_bits(value: &Value<'_>) -> Option<u32>
 }
 
 /// Returns whether a number is written without point and exponent.
-pub fn is_integer(number: &str) -> bool {
+pub fn is_integer(number: &str) -> bool
+    ensures { result ≡ is_integer_text number.now }
+{
     number
         .as_bytes()
         .iter()

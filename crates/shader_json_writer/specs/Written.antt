@@ -1,10 +1,8 @@
 -- Members of objects that are written, and values that aren't null.
 use Rattle.std.specs.Prelude.{◌≡◌, ℕ, List, [], ◌∷◌, Bool, true, ◌&&◌, not}
-use Rattle.std.proofs.Common.{subst, sym}
-use Rattle.std.proofs.lemmas.Bool.{true≢false}
+use Rattle.std.proofs.Common.{subst}
 use Rattle.std.specs.Str.{bytes_eq}
 use Rattle.json.specs.Json.{Json, null, boolean, number, string, array, object, Members}
-use Rattle.shader_json_expressions.specs.Literals.{IsHalf}
 use Rattle.shader_json_reader.specs.Shapes.{Reading, HasField, MayHaveField}
 use Rattle.shader_json_writer.specs.declared.values.Field.{Field}
 use Rattle.shader_json_writer.specs.declared.values.Field.TheVariants.{Needed, Optional}
@@ -41,7 +39,3 @@ string_not_null s e = subst IsNull e tt
 
 pub boolean_not_null : (b : Bool) → null ≡ boolean b → ⊥
 boolean_not_null b e = subst IsNull e tt
-
--- null is no number
-pub half_not_null : (bits : ℕ) → IsHalf null bits → ⊥
-half_not_null bits h = true≢false (sym h)

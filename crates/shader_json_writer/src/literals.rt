@@ -4,7 +4,6 @@ ghost use Rattle.json.specs.Tree.{HasNumbers};
 ghost use Rattle.json.specs.Value.{value_view};
 ghost use Rattle.shader_json_expressions.specs.Literals.{IsHalf, IsLiteral};
 ghost use Rattle.shader_json_reader.specs.Numbers.{IsDouble, IsSingle};
-ghost use Rattle.shader_json_writer.specs.Written.{half_not_null};
 
 use crate::error::WriteFailure;
 use crate::numbers::unsigned;
@@ -53,7 +52,7 @@ impl Write for Half {
         unsigned(out, u64::from(self.0))
     }
 
-    ghost not_null = { λ half h. half_not_null half.0 h };
+    ghost not_null = { λ _ h. h };
 }
 
 /// Writes the f64 of these bits, if it is finite.

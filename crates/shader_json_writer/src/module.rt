@@ -80,7 +80,7 @@ fn value_text(alloc: Global, value: &Value<'_>) -> Result<Vec<u8>, WriteError>
 }
 
 /// Writes a module as a JSON text, as `serde_json` prints naga's, but without what the IR lacks. Whatever reads it gets the module back, up
-/// to what no text says (`Fixed.fixed_module` of `shader_json_module`).
+/// to what the relation of the readers leaves open (`Fixed.fixed_module` of `shader_json_module`).
 ///
 /// `builtins` has the names of the built-in values that have only a number in the IR, by that number.
 ///

@@ -18,8 +18,11 @@ pub enum BuiltInName<'n> {
     Name(&'n str),
     /// The name of a variant with one field, a bool, as `Position` with `invariant`.
     Flag {
+        /// The variant's name, as `Position`.
         variant: &'n str,
+        /// The name of its field, as `invariant`.
         field: &'n str,
+        /// The field's value.
         value: bool,
     },
 }
