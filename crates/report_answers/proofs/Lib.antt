@@ -1,3 +1,4 @@
 pub mod OptionLemmas
 pub mod ReadingLemmas
 pub mod ReportLemmas
+pub mod WordLemmas

@@ -6,15 +6,15 @@ use Rattle.std.specs.Str.{IsUtf8}
 use Rattle.json.specs.Json.{Json, document}
 use Rattle.shader_analysis_spec.specs.Program.{Module}
 use Rattle.shader_passes.specs.Causes.{settings_of}
-use Rattle.shader_json_module.specs.Modules.{IsModule, IsOfValue}
+use Rattle.shader_json_module.specs.Modules.{IsModule, IsOfValue, IsTextOf}
 use Rattle.shader_json_reader.specs.declared.error.ReadError.{ReadError}
 use Rattle.shader_report_json.specs.Answers.{IsModuleAnswer}
 use Rattle.shader_report_text.specs.Verdicts.{IsVerdict}
 use Rattle.report_answers.specs.Members.{AreExtras, AreMembers, EndsWithLines, lines_of}
 use Rattle.report_answers.specs.Reading.{IsRead}
 use Rattle.report_answers.specs.Options.{capabilities_of, flags_of}
-use Rattle.report_answers.specs.Reports.{verdict, HasFlow, IsJson, IsModuleReport, IsOutputBy, IsPeople, IsRefusal, IsReport}
-use Rattle.report_answers.specs.Reports.{IsReportOn, IsRest}
+use Rattle.report_answers.specs.Reports.{verdict, HasFlow, IsDeep, IsDeepReport, IsFlowReport, IsFlowSection, IsJson, IsModuleReport}
+use Rattle.report_answers.specs.Reports.{IsOutputBy, IsPeople, IsRefusal, IsReport, IsReportOn, IsRest}
 use Rattle.report_answers.specs.declared.options.FlowCheck.{FlowCheck}
 use Rattle.report_answers.specs.declared.options.FlowCheck.TheVariants.{Defined, Naga, Off}
 use Rattle.report_answers.specs.declared.options.Options.{Options}
@@ -43,12 +43,24 @@ module _ (options : Options) (j : Json) (m : Module) where
       IsRest options j m false text → IsReportOn options j m outcome text
   refused_told outcome text e v rest = told false outcome text v (by Defined false text e (inl rest))
 
-  pub flow_told : (accepted : Bool) (outcome : Outcome) (rest text : List ℕ) → options.flow ≡ Defined → outcome ≡ verdict accepted →
-      IsRest options j m true rest → HasFlow options.is_json m accepted rest text → IsReportOn options j m outcome text
-  flow_told true outcome rest text e v otherwise flow =
-      told true outcome text v (by Defined true text e (record { rest = rest; otherwise = otherwise; flow = flow }))
-  flow_told false outcome rest text e v otherwise flow =
-      told false outcome text v (by Defined false text e (inr (record { rest = rest; otherwise = otherwise; flow = flow })))
+  with_section : (accepted : Bool) (section rest text : List ℕ) → IsRest options j m true rest →
+      IsFlowSection options.is_json m accepted section → HasFlow options.is_json accepted section rest text →
+      IsFlowReport options j m accepted text
+  with_section accepted section rest text otherwise decided flow =
+      record { rest = rest; otherwise = otherwise; section = section; decided = decided; told = flow }
+
+  told_by : (accepted : Bool) (outcome : Outcome) (text : List ℕ) → options.flow ≡ Defined → outcome ≡ verdict accepted →
+      IsFlowReport options j m accepted text → IsReportOn options j m outcome text
+  told_by true outcome text e v report = told true outcome text v (by Defined true text e report)
+  told_by false outcome text e v report = told false outcome text v (by Defined false text e (inr report))
+
+  pub flow_told : (accepted decided : Bool) (outcome : Outcome) (section rest text : List ℕ) → options.flow ≡ Defined →
+      outcome ≡ verdict accepted → accepted ≡ decided → IsRest options j m true rest →
+      IsFlowSection options.is_json m decided section → HasFlow options.is_json accepted section rest text →
+      IsReportOn options j m outcome text
+  flow_told accepted decided outcome section rest text e v same otherwise is_section flow =
+      let found = subst (λ (passes : Bool). IsFlowSection options.is_json m passes section) (sym same) is_section in
+      told_by accepted outcome text e v (with_section accepted section rest text otherwise found flow)
 
   pub json_told : (accepted : Bool) (members text : List ℕ) → AreMembers options j m members →
       IsModuleAnswer m (settings_of (flags_of options) (capabilities_of options)) members accepted text →
@@ -68,14 +80,30 @@ module _ (options : Options) (j : Json) (m : Module) where
     told = ap (λ (more : List ℕ). before ++ more) ends.told ∙ sym (append_assoc before ends.before (lines_of ends.resources));
   }
 
+  is_text : (input : List ℕ) → document input ≡ Some j → IsModule j m → IsTextOf input m
+  is_text input parses stands = subst (λ (found : Option Json). MatchOption found ⊥ (λ j. IsModule j m)) (sym parses) stands
+
+  is_document : (input : List ℕ) → document input ≡ Some j → IsSome (document input)
+  is_document input parses = subst (λ (found : Option Json). IsSome found) (sym parses) refl
+
   spelled : (input : List ℕ) (accepted : Bool) (text : List ℕ) → IsUtf8 input → document input ≡ Some j → IsModule j m →
       IsOutputBy options.flow options j m accepted text → IsModuleReport options input accepted text
   spelled input accepted text utf8 parses stands report = record {
     utf8 = utf8;
-    parses = subst (λ (found : Option Json). IsSome found) (sym parses) refl;
+    parses = is_document input parses;
     m = m;
-    stands = subst (λ (found : Option Json). MatchOption found ⊥ (λ j. IsModule j m)) (sym parses) stands;
+    stands = is_text input parses stands;
     output = record { j = j; parses = parses; told = report };
+  }
+
+  nested : (input text : List ℕ) → IsUtf8 input → document input ≡ Some j → IsModule j m → IsDeep options m text →
+      IsDeepReport options input text
+  nested input text utf8 parses stands deep = record {
+    utf8 = utf8;
+    parses = is_document input parses;
+    m = m;
+    stands = is_text input parses stands;
+    nested = deep;
   }
 
   -- the report on a module that the input spells
@@ -83,7 +111,7 @@ module _ (options : Options) (j : Json) (m : Module) where
       IsReportOn options j m outcome text → IsReport options input outcome text
   module_told input Accepted text utf8 parses stands report = spelled input true text utf8 parses stands report
   module_told input Refused text utf8 parses stands report = spelled input false text utf8 parses stands report
-  module_told input NotModule text utf8 parses stands report = inr (m, report)
+  module_told input NotModule text utf8 parses stands report = inr (nested input text utf8 parses stands report)
 
 -- the report on an input that spells no module
 pub no_module_told : (options : Options) (input : List ℕ) (j : Json) (error : ReadError) (outcome : Outcome) (text : List ℕ) →

@@ -6,3 +6,4 @@ pub mod Places
 pub mod Policies
 pub mod Reading
 pub mod Reports
+pub mod WordLaws

@@ -1,9 +1,11 @@
 -- The members of the JSON and the lines for people that words ask for.
-use Rattle.std.specs.Prelude.{◌≡◌, ◌↔◌, ◌++◌, [], ℕ, Bool, true, false, List, Option, Some, None, IfSome, IsSome, codes}
+use Rattle.std.specs.Prelude.{◌≡◌, ◌↔◌, ◌++◌, [], ℕ, Bool, true, false, List, Option, Some, None, IfSome, IsSome, codes, length}
 use Rattle.json.specs.Json.{Json}
 use Rattle.shader_analysis_spec.specs.Faults.{IsAccepted, Settings}
 use Rattle.shader_analysis_spec.specs.Program.{Module}
 use Rattle.shader_bounds.specs.declared.policies.BoundsCheckPolicies.{BoundsCheckPolicies}
+use Rattle.shader_interface.specs.Bound.{bound_first}
+use Rattle.shader_interface.specs.declared.bound.ResourceBinding.{ResourceBinding}
 use Rattle.shader_passes.specs.Causes.{settings_of}
 use Rattle.shader_report_bounds.specs.Bounds.{AreModuleBounds}
 use Rattle.shader_report_bounds.specs.Texts.{bounds_text}
@@ -12,7 +14,7 @@ use Rattle.shader_report_resources.specs.Resources.{IsFound}
 use Rattle.shader_report_resources.specs.declared.resources.Notation.{Notation}
 use Rattle.shader_report_resources.specs.declared.resources.Notation.TheVariants as notations
 use Rattle.shader_resolve.specs.WellFormed.{IsWellFormed}
-use Rattle.report_answers.specs.Options.{capabilities_of, flags_of}
+use Rattle.report_answers.specs.Options.{bounds_of, capabilities_of, flags_of}
 use Rattle.report_answers.specs.declared.options.Options.{Options}
 
 abbrev pub member_text : Option ModuleBounds → List ℕ
@@ -30,7 +32,7 @@ IsFoundFor None m settings found = found ≡ None
 
 -- nothing is found unasked
 abbrev pub IsAsked : Options → Module → Option ModuleBounds → Type 0
-IsAsked options m found = IsFoundFor options.bounds m (settings_of (flags_of options) (capabilities_of options)) found
+IsAsked options m found = IsFoundFor (bounds_of options) m (settings_of (flags_of options) (capabilities_of options)) found
 
 abbrev pub resources_text : Option (List ℕ) → List ℕ
 resources_text (Some resources) = codes ",\"resources\":" ++ resources
@@ -71,3 +73,11 @@ AreExtrasFor false options j m text = EndsWithLines options j m text
 -- what the report on a module for which the JSON stands has beside the analysis: members, or lines for people
 abbrev pub AreExtras : Options → Json → Module → List ℕ → Type 0
 AreExtras options j m text = AreExtrasFor options.is_json options j m text
+
+-- for people, where the JSON has the host bind each global variable of the module; JSON has its resources as a member of their own
+abbrev pub AreBindingsFor : Bool → Json → Module → List (Option ResourceBinding) → Type 0
+AreBindingsFor true j m bindings = bindings ≡ []
+AreBindingsFor false j m bindings = bindings ≡ bound_first j (length m.global_variables)
+
+abbrev pub AreBindings : Options → Json → Module → List (Option ResourceBinding) → Type 0
+AreBindings options j m bindings = AreBindingsFor options.is_json j m bindings

@@ -7,6 +7,7 @@ use Rattle.std.specs.String.{string_bytes}
 use Rattle.shader_info.specs.declared.flags.Capabilities.{Capabilities}
 use Rattle.shader_info.specs.declared.flags.ValidationFlags.{ValidationFlags}
 use Rattle.shader_bounds.specs.Policies.{unchecked}
+use Rattle.shader_bounds.specs.declared.policies.BoundsCheckPolicies.{BoundsCheckPolicies}
 use Rattle.report_answers.specs.Policies.{policies_of}
 use Rattle.report_answers.specs.declared.options.Flag.{Flag}
 use Rattle.report_answers.specs.declared.options.Flag.TheVariants.{Json, NagaFlow, AnyFlow, NoFlow, IndexTextures, IndexStorageTextures}
@@ -52,8 +53,8 @@ start = record {
   flow = Defined;
   indexes_textures = false;
   indexes_storage_textures = false;
-  bounds = None;
-  has_policies = false;
+  has_bounds = false;
+  policies = None;
   has_resources = false;
   drawing = None;
 }
@@ -71,11 +72,20 @@ with options IndexTextures = record options { indexes_textures = true }
 with options IndexStorageTextures = record options { indexes_storage_textures = true }
 with options IndexBoth = indexing_both options
 with options IndexBothTurned = indexing_both options
-with options Bounds = record options { bounds = Some unchecked }
-with options (Policies policies) = record options { bounds = Some policies; has_policies = true }
+with options Bounds = record options { has_bounds = true }
+with options (Policies policies) = record options { policies = Some policies }
 with options Resources = record options { has_resources = true }
 with options Drawing = record options { drawing = Some true }
 with options NoDrawing = record options { drawing = Some false }
+
+abbrev policies_or : Option BoundsCheckPolicies → Bool → Option BoundsCheckPolicies
+policies_or (Some policies) has_bounds = Some policies
+policies_or None true = Some unchecked
+policies_or None false = None
+
+-- the policies under which bounds checks are reported, if they are: those that a word sets, or else that no access is checked
+abbrev pub bounds_of : Options → Option BoundsCheckPolicies
+bounds_of options = policies_or options.policies options.has_bounds
 
 -- structs are drawn as a word says, and as the caller does where none says it
 abbrev pub drawing_if : Options → Bool → Options
@@ -99,17 +109,17 @@ is_set options IndexTextures = indexes options
 is_set options IndexStorageTextures = indexes options
 is_set options IndexBoth = indexes options
 is_set options IndexBothTurned = indexes options
-is_set options Bounds = is_some options.bounds
-is_set options (Policies policies) = options.has_policies
+is_set options Bounds = options.has_bounds
+is_set options (Policies policies) = is_some options.policies
 is_set options Resources = options.has_resources
 is_set options Drawing = is_some options.drawing
 is_set options NoDrawing = is_some options.drawing
 
-abbrev once : Bool → ℕ → Options → Result Options BadWord
+abbrev pub once : Bool → ℕ → Options → Result Options BadWord
 once true index options = Err (Twice index)
 once false index options = Ok options
 
-abbrev with_flag : Options → ℕ → Option Flag → Result Options BadWord
+abbrev pub with_flag : Options → ℕ → Option Flag → Result Options BadWord
 with_flag options index (Some flag) = once (is_set options flag) index (with options flag)
 with_flag options index None = Err (Unknown index)
 

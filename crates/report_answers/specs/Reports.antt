@@ -39,27 +39,25 @@ IsReportFor false options j m accepted text = IsPeople options j m accepted text
 abbrev pub IsRest : Options → Json → Module → Bool → List ℕ → Type 0
 IsRest options j m accepted text = IsReportFor options.is_json options j m accepted text
 
--- of a module that is accepted the text stays
-abbrev pub KeepsRest : Bool → (rest text : List ℕ) → Type 0
-KeepsRest true rest text = text ≡ rest
-KeepsRest false rest text = Unit {0}
-
 -- the section on the flow of a module, as JSON or for people
 abbrev pub IsFlowSection : Bool → Module → Bool → List ℕ → Type 0
 IsFlowSection true m accepted text = IsJsonSection m accepted text
 IsFlowSection false m accepted text = IsPeopleSection m accepted
 
--- with the verdict on that: as JSON the first member of the object, and for people the text or why the flow is refused
-abbrev pub HasFlow : Bool → Module → Bool → (rest text : List ℕ) → Type 0
-HasFlow true m accepted rest text =
-    (section : List ℕ) × IsJsonSection m accepted section × (text ≡ codes "{" ++ (section ++ (codes "," ++ drop 1 rest)))
-HasFlow false m accepted rest text = IsPeopleSection m accepted × KeepsRest accepted rest text
+-- with that section: as JSON it is the first member of the object; for people an accepted flow adds nothing, and a refused one is all
+-- that is told
+abbrev pub HasFlow : (is_json accepted : Bool) → (section rest text : List ℕ) → Type 0
+HasFlow true accepted section rest text = text ≡ codes "{" ++ (section ++ (codes "," ++ drop 1 rest))
+HasFlow false true section rest text = text ≡ rest
+HasFlow false false section rest text = text ≡ section
 
 -- flow is decided of a module that has no other fault
 pub record IsFlowReport (options : Options) (j : Json) (m : Module) (accepted : Bool) (text : List ℕ) : Type 0 where
   pub rest : List ℕ
   pub otherwise : IsRest options j m true rest
-  pub flow : HasFlow options.is_json m accepted rest text
+  pub section : List ℕ
+  pub decided : IsFlowSection options.is_json m accepted section
+  pub told : HasFlow options.is_json accepted section rest text
 
 abbrev pub IsOutputBy : FlowCheck → Options → Json → Module → Bool → List ℕ → Type 0
 IsOutputBy Defined options j m true text = IsFlowReport options j m true text
@@ -112,6 +110,14 @@ pub record IsModuleReport (options : Options) (input : List ℕ) (accepted : Boo
   pub stands : IsTextOf input m
   pub output : IsOutput options input m accepted text
 
+-- the text is on a module for which the JSON of the input stands, and says that its blocks nest too deep, as they do
+pub record IsDeepReport (options : Options) (input text : List ℕ) : Type 0 where
+  pub utf8 : IsUtf8 input
+  pub parses : IsSome (document input)
+  pub m : Module
+  pub stands : IsTextOf input m
+  pub nested : IsDeep options m text
+
 -- the text is that of an error, which says of the input what is so
 pub record IsReadRefusal (options : Options) (input text : List ℕ) : Type 0 where
   pub error : ReadError
@@ -121,4 +127,4 @@ pub record IsReadRefusal (options : Options) (input text : List ℕ) : Type 0 wh
 abbrev pub IsReport : Options → List ℕ → Outcome → List ℕ → Type 0
 IsReport options input Accepted text = IsModuleReport options input true text
 IsReport options input Refused text = IsModuleReport options input false text
-IsReport options input NotModule text = IsReadRefusal options input text ⊎ ((m : Module) × IsDeep options m text)
+IsReport options input NotModule text = IsReadRefusal options input text ⊎ IsDeepReport options input text

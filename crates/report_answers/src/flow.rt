@@ -1,6 +1,5 @@
 //! The verdict on uniform flow as part of a report.
 ghost use Rattle.std.specs.Prelude.{◌≡◌, ◌++◌, true, false, IfOk, IfSome, codes, drop, string_bytes};
-ghost use Rattle.shader_analysis_spec.specs.Program.{Module as IrModule};
 ghost use Rattle.report_answers.specs.Reports.{HasFlow, IsFlowSection};
 
 use shader_ir::Module;
@@ -77,8 +76,8 @@ pub fn flow_at_last(
 
 /// Returns the line of JSON on a module that has no other fault, with the verdict on its flow.
 fn json_with_flow(alloc: Global, section: &Section, rest: &[u8]) -> Result<Part, AllocError>
-    ensures { IfOk result (λ part. (m : IrModule) → IsFlowSection true m section.now.is_accepted (string_bytes section.now.text) →
-        HasFlow true m part.is_accepted rest.now part.text.items) }
+    ensures verdict { IfOk result (λ part. part.is_accepted ≡ section.now.is_accepted) }
+    ensures text { IfOk result (λ part. HasFlow true part.is_accepted (string_bytes section.now.text) rest.now part.text.items) }
 {
     let text = with_member(alloc, section.text.as_bytes(), rest)?;
     Ok(Part {
@@ -89,8 +88,8 @@ fn json_with_flow(alloc: Global, section: &Section, rest: &[u8]) -> Result<Part,
 
 /// Returns the text for people on such a module: what is said of it, or why its flow is refused.
 fn people_with_flow(section: Section, rest: Vec<u8>) -> Part
-    ensures { (m : IrModule) → IsFlowSection false m section.is_accepted (string_bytes section.text) →
-        HasFlow false m result.is_accepted rest.items result.text.items }
+    ensures verdict { result.is_accepted ≡ section.is_accepted }
+    ensures text { HasFlow false result.is_accepted (string_bytes section.text) rest.items result.text.items }
 {
     if section.is_accepted {
         Part {
@@ -112,8 +111,8 @@ pub fn with_flow(
     section: Section,
     rest: Vec<u8>,
 ) -> Result<Part, AllocError>
-    ensures { IfOk result (λ part. (m : IrModule) → IsFlowSection is_json m section.is_accepted (string_bytes section.text) →
-        HasFlow is_json m part.is_accepted rest.items part.text.items) }
+    ensures verdict { IfOk result (λ part. part.is_accepted ≡ section.is_accepted) }
+    ensures text { IfOk result (λ part. HasFlow is_json part.is_accepted (string_bytes section.text) rest.items part.text.items) }
 {
     if is_json {
         json_with_flow(alloc, &section, rest.as_slice())

@@ -5,6 +5,7 @@
 mod errors;
 mod flow;
 mod forms;
+pub mod laws;
 mod members;
 mod options;
 mod places;

@@ -2,8 +2,8 @@
 ghost use Rattle.std.specs.Prelude.{◌≡◌, IfOk, string_bytes};
 ghost use Rattle.std.specs.Option.{option_map};
 ghost use Rattle.json.specs.Value.{value_view};
-ghost use Rattle.report_answers.specs.Members.{AreExtras, AreMembers, AreResourcesAsked, EndsWithLines, IsAsked, lines_of, member_text};
-ghost use Rattle.report_answers.specs.Members.{resources_text};
+ghost use Rattle.report_answers.specs.Members.{AreBindings, AreExtras, AreMembers, AreResourcesAsked, EndsWithLines, IsAsked, lines_of};
+ghost use Rattle.report_answers.specs.Members.{member_text, resources_text};
 
 use crate::options::Options;
 use json::Value;
@@ -21,7 +21,7 @@ fn asked_bounds(
 ) -> Result<Option<ModuleBounds>, AllocError>
     ensures { IfOk result (IsAsked options «module».now) }
 {
-    let Some(policies) = options.bounds else {
+    let Some(policies) = options.bounds() else {
         return Ok(None);
     };
     let (flags, capabilities) = (options.flags(), options.capabilities());
@@ -146,7 +146,8 @@ impl Extras {
         root: &Value<'_>,
         module: &Module,
     ) -> Result<Extras, AllocError>
-        ensures { IfOk result (λ extras. AreExtras options (value_view root.now) «module».now (string_bytes extras.text)) }
+        ensures text { IfOk result (λ extras. AreExtras options (value_view root.now) «module».now (string_bytes extras.text)) }
+        ensures bindings { IfOk result (λ extras. AreBindings options (value_view root.now) «module».now extras.bindings.items) }
     {
         if options.is_json {
             Ok(Extras {

@@ -1,6 +1,6 @@
 //! The options of the command line.
 ghost use Rattle.std.specs.Prelude.{◌≡◌, Some};
-ghost use Rattle.report_answers.specs.Options.{capabilities_of, drawing_if, flag_of, flag_text, flags_of, indexing_both, is_set};
+ghost use Rattle.report_answers.specs.Options.{bounds_of, capabilities_of, drawing_if, flag_of, flag_text, flags_of, indexing_both, is_set};
 ghost use Rattle.report_answers.specs.Options.{named_flag, nearer, nearest, options_from, shared, start, with, with_word};
 
 use crate::policies::policies_of;
@@ -187,10 +187,10 @@ pub struct Options {
     pub indexes_textures: bool,
     /// True if arrays of storage images may be indexed by values that differ among invocations.
     pub indexes_storage_textures: bool,
-    /// The policies under which bounds checks are reported, if they are.
-    pub bounds: Option<BoundsCheckPolicies>,
-    /// True if a word has set policies.
-    pub has_policies: bool,
+    /// True if bounds checks are reported even where no word sets policies.
+    pub has_bounds: bool,
+    /// The policies under which bounds checks are reported, if a word sets some: that alone asks for them.
+    pub policies: Option<BoundsCheckPolicies>,
     /// True if resources are reported.
     pub has_resources: bool,
     /// True if the text for people has drawings of structs, where a word says so.
@@ -204,8 +204,8 @@ impl Options {
         flow: FlowCheck::Defined,
         indexes_textures: false,
         indexes_storage_textures: false,
-        bounds: None,
-        has_policies: false,
+        has_bounds: false,
+        policies: None,
         has_resources: false,
         drawing: None,
     };
@@ -226,16 +226,6 @@ impl Options {
         ensures { result ≡ record self { flow = flow } }
     {
         Options { flow, ..self }
-    }
-
-    /// Returns the options where bounds checks are reported under the policies.
-    fn with_bounds(self, policies: BoundsCheckPolicies) -> Options
-        ensures { result ≡ record self { bounds = Some policies } }
-    {
-        Options {
-            bounds: Some(policies),
-            ..self
-        }
     }
 
     /// Returns the options where structs are drawn, or aren't.
@@ -270,10 +260,13 @@ impl Options {
             },
             Flag::IndexBoth => self.indexing_both(),
             Flag::IndexBothTurned => self.indexing_both(),
-            Flag::Bounds => self.with_bounds(UNCHECKED),
+            Flag::Bounds => Options {
+                has_bounds: true,
+                ..self
+            },
             Flag::Policies(policies) => Options {
-                has_policies: true,
-                ..self.with_bounds(policies)
+                policies: Some(policies),
+                ..self
             },
             Flag::Resources => Options {
                 has_resources: true,
@@ -299,11 +292,22 @@ impl Options {
             Flag::IndexStorageTextures => indexes,
             Flag::IndexBoth => indexes,
             Flag::IndexBothTurned => indexes,
-            Flag::Bounds => self.bounds.is_some(),
-            Flag::Policies(_) => self.has_policies,
+            Flag::Bounds => self.has_bounds,
+            Flag::Policies(_) => self.policies.is_some(),
             Flag::Resources => self.has_resources,
             Flag::Drawing => self.drawing.is_some(),
             Flag::NoDrawing => self.drawing.is_some(),
+        }
+    }
+
+    /// Returns the policies under which bounds checks are reported, if they are. Where no word sets policies, no access is checked.
+    pub fn bounds(self) -> Option<BoundsCheckPolicies>
+        ensures { result ≡ bounds_of self }
+    {
+        match (self.policies, self.has_bounds) {
+            (Some(policies), _) => Some(policies),
+            (None, true) => Some(UNCHECKED),
+            (None, false) => None,
         }
     }
 

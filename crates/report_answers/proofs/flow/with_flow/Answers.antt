@@ -1,10 +1,9 @@
 use Rattle.std.proofs.Common.{Bool, string_bytes, subst, sym}
-use Rattle.report_answers.specs.Reports.{HasFlow, IsFlowSection}
+use Rattle.report_answers.specs.Reports.{HasFlow}
 use Rattle.report_answers.proofs.flow.with_flow.Goals as goal
-use Rattle.shader_analysis_spec.specs.Program.{Module}
 
-pub returns-else-is_json : goal.returns-else-is_json
-returns-else-is_json c =
-    subst (λ (b : Bool). (m : Module) → IsFlowSection b m c.args.section.is_accepted (string_bytes c.args.section.text)
-    → HasFlow b m c.people_with_flow.result.is_accepted c.args.rest.items c.people_with_flow.result.text.items)
-    (sym c.if-is_json.false) c.people_with_flow.ensures
+pub returns-else-is_json-clause-text : goal.returns-else-is_json-clause-text
+returns-else-is_json-clause-text c =
+    let part = c.people_with_flow.result in
+    subst (λ (b : Bool). HasFlow b part.is_accepted (string_bytes c.args.section.text) c.args.rest.items part.text.items)
+    (sym c.if-is_json.false) c.people_with_flow.ensures.text
