@@ -4,16 +4,14 @@ the member `bounds`, with the differences that docs/DIFFERENCES.md lists.
 POLICIES are written as on the command line: index=Restrict,buffer=ReadZeroSkipWrite, where those not named are Unchecked.
 """
 
+from answers import variant
+
 KINDS = ("index", "buffer", "image_load", "binding_array")
 ZERO = "ReadZeroSkipWrite"
 # One kind alone for each, and some together.
 ALONE = [f"{kind}={ZERO}" for kind in KINDS]
 POLICIES = [*ALONE, ",".join(ALONE), "index=Restrict,buffer=ReadZeroSkipWrite", ""]
 INTEGERS = ("U16", "U32", "U64", "I16", "I32", "I64", "AbstractInt")
-
-
-def variant(value):
-    return (value, None) if isinstance(value, str) else next(iter(value.items()))
 
 
 def policies_of(words):

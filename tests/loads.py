@@ -4,7 +4,7 @@ The expressions stand in groups of ten: a float, a vector of it, and what is mad
 """
 import json
 
-FLOAT, UINT, BOOL = ({"kind": kind, "width": width} for kind, width in (("Float", 4), ("Uint", 4), ("Bool", 1)))
+FLOAT, UINT = ({"kind": kind, "width": 4} for kind in ("Float", "Uint"))
 ABSTRACT = [{"kind": kind, "width": 8} for kind in ("AbstractFloat", "AbstractInt")]
 GROUP = 10
 

@@ -62,10 +62,22 @@ class Habits(unittest.TestCase):
         rows = {"[a](crates.txt)": 0, "[a](nowhere.md)": 1, "[a](https://nowhere)": 0, "[a](#b)": 0}
         self.assertEqual({it: said(habits.links, "a.md", it) for it in rows}, rows)
 
+    def test_dead_names(self):
+        """Finds a name in backticks that no source has, though this script has it, and not one of a source."""
+        rows = {"`nowhere_at_all`": 1, "`check_module` and `module.names_in_range`": 0, "`FILE.WORD`": 0}
+        words = habits.vocabulary()
+        self.assertEqual({it: said(lambda text: habits.dead_names(text, *words), "a.md", f"{it}\n") for it in rows}, rows)
+
     def test_words(self):
         """Finds a word that has to be unfolded and that no document names."""
         words = "unfoldable pub one : \u2115\n  unfoldable pub two : \u2115\npub three : \u2115\n"
         self.assertEqual(habits.hidden(words, "`Numbers.one`, two"), ["two"])
+
+    def test_answers(self):
+        """Finds what is printed and not told, in a text or as a token, and a row on what isn't printed."""
+        definitions = 'codes "{\\"one\\":" ++ key (codes "two") ++ text_member (codes "three") ++ codes "four" ++ "\\"Array\\""\n'
+        page = "| Member | Meaning |\n|---|---|\n| `one[].four` | `three` |\n| `five` | two |\n"
+        self.assertEqual(habits.untold(definitions, page), (["two"], ["five"]))
 
     def test_runs(self):
         """Finds a run of lines in two files, and in one, whatever its indent; not one that is shorter, nor imports."""

@@ -109,18 +109,24 @@ def answers(name, asked):
     return [(ended.get(it), outputs.get(it, b"")) for it in range(len(asked))]
 
 
+def unread(name):
+    """Says that the input can't be read, and returns the exit status."""
+    print(f"{name}: the input can't be read", file=sys.stderr)
+    return READ_FAILED
+
+
 def main():
     name, *words = sys.argv[1:]
     try:
         # Where it is closed, a file that is opened would take its number.
         os.fstat(0)
     except OSError:
-        return READ_FAILED
+        return unread(name)
     with tempfile.TemporaryFile() as source:
         try:
             is_taken = given_input(source)
         except OSError:
-            return READ_FAILED
+            return unread(name)
         return answer(name, words, source) if is_taken else past_a_try(name)
 
 
