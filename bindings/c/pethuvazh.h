@@ -36,7 +36,8 @@ enum {
     PETHUVAZH_NON_UNIFORM_TEXTURES = 2,         /* arrays of sampled textures and samplers may be indexed by non-uniform values */
     PETHUVAZH_NON_UNIFORM_STORAGE_TEXTURES = 4, /* so may arrays of storage textures */
     PETHUVAZH_FOR_PEOPLE = 8,                   /* reports in lines for people, and not by one line of JSON */
-    PETHUVAZH_NAGA_UNIFORMITY = 16,             /* decides uniform control flow as naga specifies it; --uniformity=naga */
+    PETHUVAZH_NAGA_UNIFORMITY = 16,             /* decides uniform control flow as naga specifies it; --uniformity=naga; without effect
+                                                   beside PETHUVAZH_NO_CONTROL_FLOW_UNIFORMITY */
     PETHUVAZH_DRAWING = 32,                     /* draws structs in lines for people; --drawing */
     PETHUVAZH_RESOURCES = 64,                   /* reports what entry points use and exchange; --resources */
     PETHUVAZH_BOUNDS_CHECKS = 128,              /* reports what a back end checks of indexes; --bounds-checks */

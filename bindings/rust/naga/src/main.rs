@@ -6,9 +6,12 @@ use std::io::Read;
 fn main() -> Result<(), Box<dyn Error>> {
     let mut source = String::new();
     std::io::stdin().read_to_string(&mut source)?;
-    let module = naga::front::wgsl::parse_str(&source)?;
-    let json = serde_json::to_vec(&module)?;
-    let report = pethuvazh::report_text(&json, pethuvazh::Options::default())?;
+    let mut module = naga::front::wgsl::parse_str(&source)?;
+    // The keys of this map are enums with data, of which serde_json prints no map; a list of pairs takes its place.
+    let pairs: Vec<_> = std::mem::take(&mut module.special_types.predeclared_types).into_iter().collect();
+    let mut json = serde_json::to_value(&module)?;
+    json["special_types"]["predeclared_types"] = serde_json::to_value(pairs)?;
+    let report = pethuvazh::report_text(json.to_string().as_bytes(), pethuvazh::Options::default())?;
     print!("{}", report.text);
     Ok(())
 }
