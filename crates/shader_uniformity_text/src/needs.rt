@@ -1,4 +1,6 @@
 //! The statement at a position, and what of it needs all invocations.
+ghost use Rattle.std.specs.Prelude.{◌≡◌};
+ghost use Rattle.shader_uniformity.specs.Lockstep.{needs_all};
 
 use shader_arena::{Arena, Handle, Range};
 use shader_ir::{Block, Expression, SampleLevel, Statement, mark};
@@ -68,12 +70,14 @@ pub fn statement_at(body: &Block, position: u32) -> Option<&Statement> {
     }
 }
 
-/// Checks whether an expression needs all invocations.
-fn needs_all(expression: &Expression) -> bool {
+/// Checks whether an expression needs all invocations. Derivatives and implicit levels do so only where the diagnostic filters are severe.
+fn needs_all(expression: &Expression, severe: bool) -> bool
+    ensures { result ≡ needs_all severe expression.now }
+{
     match expression {
-        Expression::Derivative { .. } => true,
+        Expression::Derivative { .. } => severe,
         Expression::ImageSample { level, .. } => match level {
-            SampleLevel::Auto | SampleLevel::Bias(_) => true,
+            SampleLevel::Auto | SampleLevel::Bias(_) => severe,
             SampleLevel::Zero | SampleLevel::Exact(_) | SampleLevel::Gradient { .. } => false,
         },
         Expression::CooperativeLoad { .. } => true,
@@ -83,14 +87,48 @@ fn needs_all(expression: &Expression) -> bool {
 }
 
 /// Returns the first expression of a range that needs all invocations.
-pub fn first_need(
+fn first_need(
     expressions: &Arena<Expression, mark::Expression>,
     range: &Range<mark::Expression>,
+    severe: bool,
 ) -> Option<Handle<mark::Expression>> {
     for handle in range.iter() {
-        if expressions.contains_handle(handle) && needs_all(&expressions[handle]) {
+        if expressions.contains_handle(handle) && needs_all(&expressions[handle], severe) {
             return Some(handle);
         }
     }
     None
+}
+
+/// What of an emitted range needs all invocations.
+#[derive(Clone, Copy)]
+pub enum EmittedNeed {
+    /// An expression that needs them under any diagnostic filter.
+    Unfiltered(Handle<mark::Expression>),
+    /// A derivative or an implicit level, whose need a diagnostic filter lifts, and nothing else.
+    Filtered(Handle<mark::Expression>),
+}
+
+impl EmittedNeed {
+    /// Returns what of a range needs all invocations, if anything does.
+    pub fn of(
+        expressions: &Arena<Expression, mark::Expression>,
+        range: &Range<mark::Expression>,
+    ) -> Option<EmittedNeed> {
+        if let Some(expression) = first_need(expressions, range, false) {
+            return Some(EmittedNeed::Unfiltered(expression));
+        }
+        match first_need(expressions, range, true) {
+            Some(expression) => Some(EmittedNeed::Filtered(expression)),
+            None => None,
+        }
+    }
+
+    /// Returns the expression.
+    pub fn expression(self) -> Handle<mark::Expression> {
+        match self {
+            EmittedNeed::Unfiltered(expression) => expression,
+            EmittedNeed::Filtered(expression) => expression,
+        }
+    }
 }

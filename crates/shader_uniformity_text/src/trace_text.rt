@@ -1,7 +1,7 @@
 //! A trace from a need back to a source as text, of each rule what it tells.
 
 use crate::names::PlaceText;
-use crate::needs::{first_need, statement_at};
+use crate::needs::{EmittedNeed, statement_at};
 use crate::verdict::{analysis_location, function_at};
 use shader_arena::Handle;
 use shader_info_text::{ChainText, LocationText, Step};
@@ -70,12 +70,12 @@ impl fmt::Display for NeedLines<'_> {
         };
         write!(f, "{} needs uniform flow\n", need_word(statement))?;
         match statement {
-            Statement::Emit(range) => match first_need(&function.expressions, range) {
-                Some(expression) => {
+            Statement::Emit(range) => match EmittedNeed::of(&function.expressions, range) {
+                Some(need) => {
                     let line = ExpressionLine {
                         module: self.module,
                         location: self.location,
-                        expression,
+                        expression: need.expression(),
                     };
                     write!(f, "{line}")
                 }
@@ -225,8 +225,8 @@ pub struct RefusalText<'a> {
 }
 
 impl<'a> RefusalText<'a> {
-    /// Checks whether an emitted expression is what needs uniform flow.
-    fn needs_expression(self) -> bool {
+    /// Checks whether a diagnostic filter lifts the need.
+    fn can_be_lifted(self) -> bool {
         let Some(rule) = self.trace.first() else {
             return false;
         };
@@ -239,7 +239,12 @@ impl<'a> RefusalText<'a> {
             position,
         };
         match need.found() {
-            Some((_, Statement::Emit(_))) => true,
+            Some((function, Statement::Emit(range))) => {
+                match EmittedNeed::of(&function.expressions, range) {
+                    Some(EmittedNeed::Filtered(_)) => true,
+                    _ => false,
+                }
+            }
             _ => false,
         }
     }
@@ -268,7 +273,7 @@ impl fmt::Display for RefusalText<'_> {
             write!(f, "    .. {} rules more ..\n", middle.len())?;
         }
         write!(f, "{}", self.part(last))?;
-        if self.needs_expression() {
+        if self.can_be_lifted() {
             f.write_str(
                 "  if that is meant, set @diagnostic(off, derivative_uniformity) on the function\n",
             )?;
