@@ -5,7 +5,9 @@
 """
 import importlib.machinery
 import importlib.util
+import pathlib
 import sys
+import tempfile
 import unittest
 
 sys.dont_write_bytecode = True
@@ -94,6 +96,21 @@ class Walkthroughs(unittest.TestCase):
 
     texts = {"crates/a/src/b.rt": "A::Old", "crates/a/specs/C.antt": "Old", "crates/c/src/d.rt": "Older"}
     arms = "    match a {\n        Kind::A | Kind::B => 1,\n        _ => 2,\n    }\n"
+
+    def test_mutants(self):
+        """Tells a mutant whose old text isn't there, and a control that fits though it is to show what doesn't; also an untried one."""
+        edits = {
+            "wrong-bodies/fits.edit": "file: src/a.rt\nold: a + 1\nnew: a\n",
+            "wrong-bodies/is_gone.edit": "file: src/a.rt\nold: a + 2\nnew: a\n",
+            "wrong-bodies/untried/stands_twice.edit": "file: src/a.rt\nold: a\nnew: b\n",
+            "wrong-bodies/controls/is_elsewhere.edit": "control: unfit\nfile: src/a.rt\nold: a + 2\nnew: a\n",
+            "wrong-bodies/controls/is_there.edit": "control: unfit\nfile: src/a.rt\nold: a + 1\nnew: a\n",
+        }
+        with tempfile.TemporaryDirectory() as room:
+            for path, text in {"src/a.rt": "fn f(a: u32) -> u32 {\n    a + 1\n}\n", **edits}.items():
+                (pathlib.Path(room) / path).parent.mkdir(parents=True, exist_ok=True)
+                (pathlib.Path(room) / path).write_text(text)
+            self.assertEqual(habits.unfit(pathlib.Path(room)), ["is_there", "is_gone", "stands_twice"])
 
     def test_lists(self):
         """Reads items below their folder, over lines, up to the next paragraph."""
