@@ -81,8 +81,8 @@ impl BoundsCheckPolicies {
     }
 }
 
-/// What is checked of a module, and what is reported. The default is all that naga's validator checks for a device with no capability, and
-/// uniform control flow after WGSL.
+/// What is checked of a module, and what is reported. By default the device has no capability, and uniform control flow is decided after
+/// WGSL. That is no validation as naga's `Validator` does it: docs/ANSWERS.md says what isn't checked.
 #[derive(Clone, Copy, Debug, Default, PartialEq, Eq, Hash)]
 pub struct Options {
     /// By which rules uniform control flow is decided.
