@@ -10,7 +10,7 @@ pub enum ReportStatus {
     Accepted = 0,
     /// The module has a fault, or a type has no layout.
     Refused = 1,
-    /// A bit is set that is no flag.
+    /// A bit is set that is no flag, or both policies of a kind are.
     BadFlags = 2,
     /// An allocation failed.
     OutOfMemory = 5,

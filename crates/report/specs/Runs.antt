@@ -28,7 +28,7 @@ outcome_status outcomes.Accepted = Accepted
 outcome_status outcomes.Refused = Refused
 outcome_status outcomes.NotModule = NotModule
 
--- the written text is the report on a module for which an input stands
+-- the written text is the report on a module, with the members or lines that the JSON of an input has beside it
 pub record IsAnswerOf (options : Options) (input : List ℕ) (m : Module) (status : Status) (written : List ℕ) : Type 0 where
   pub accepted : Bool
   pub reported : IsOutput options input m accepted written

@@ -29,6 +29,10 @@ const USAGE: &str = "usage: report [FLAG..] < FILE
                              --drawing
                              --no-drawing";
 
+/// What a word with policies says.
+const POLICIES: &str =
+    "index, buffer, image_load and binding_array are each Restrict, ReadZeroSkipWrite or Unchecked";
+
 /// Says that the word of this index is no flag and which is near, or that it says again what is said.
 fn say_bad_word(rt: &impl Eprint, words: &[String], bad: BadWord) {
     let _ = match bad {
@@ -42,11 +46,13 @@ fn say_bad_word(rt: &impl Eprint, words: &[String], bad: BadWord) {
     };
 }
 
-/// Says that a word is no flag: where the module is read, if it looks like a file, and else the nearest flag.
+/// Says that a word is no flag: the nearest flag, which policies there are, or where the module is read, by what it looks like.
 fn say_unknown(rt: &impl Eprint, word: &str) -> io::Result<()> {
     if word.starts_with('-') {
         let nearest = Flag::nearest(word.as_bytes()).word();
         eprintln!(rt; "report: `{word}` is no flag; the nearest is `{nearest}`")
+    } else if word.as_bytes().contains(&b'=') {
+        eprintln!(rt; "report: `{word}` sets no policies; {POLICIES}")
     } else {
         eprintln!(rt; "report: `{word}` is no flag; the module is read from standard input")
     }

@@ -2,6 +2,7 @@
 
 use crate::expression_kind::ExpressionAtText;
 use crate::location::LocationText;
+use crate::lookup::function_at;
 use shader_arena::Handle;
 use shader_info::AnalysisLocation;
 use shader_ir::{Module, mark};
@@ -39,6 +40,32 @@ impl fmt::Display for LocatedExpressionText<'_> {
     }
 }
 
+/// Returns what of a function differs: its result, or values of functions that it calls, where it has none.
+fn what_is_given(module: &Module, location: AnalysisLocation) -> &'static str {
+    match function_at(module, location) {
+        Some(function) if function.result.is_none() => "what it calls",
+        _ => "its result",
+    }
+}
+
+/// What of the function at a location differs.
+#[derive(Clone, Copy)]
+struct GivenText<'a> {
+    module: &'a Module,
+    location: AnalysisLocation,
+}
+
+impl fmt::Display for GivenText<'_> {
+    fn fmt<W: fmt::Write>(&self, f: &mut fmt::Formatter<W>) -> fmt::Result {
+        let what = what_is_given(self.module, self.location);
+        let location = LocationText {
+            module: self.module,
+            location: self.location,
+        };
+        write!(f, "{location}, {what}")
+    }
+}
+
 /// A step with its location.
 #[derive(Clone, Copy)]
 struct StepText<'a> {
@@ -58,11 +85,10 @@ impl fmt::Display for StepText<'_> {
                 };
                 write!(f, "{text}")
             }
-            Step::Result(location) => write!(
-                f,
-                "{}, its result",
-                LocationText { module, location }
-            ),
+            Step::Result(location) => {
+                let text = GivenText { module, location };
+                write!(f, "{text}")
+            }
         }
     }
 }

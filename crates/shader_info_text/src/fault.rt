@@ -3,13 +3,14 @@
 use crate::chain::{ChainText, Step};
 use crate::expression_kind::ExpressionAtText;
 use crate::location::LocationText;
+use crate::lookup::function_at;
 use crate::words::{CapabilitiesText, RequirementsText};
 use shader_arena::Handle;
 use shader_info::{
     AnalysisError, AnalysisLocation, Capabilities, ExpressionError, FunctionError,
     UniformityDisruptor, UniformityRequirements,
 };
-use shader_ir::{Module, mark};
+use shader_ir::{Expression, Module, mark};
 use std::fmt;
 
 /// The error of resources that are indexed by a non-uniform value, with the chain from the index to a source, and a remedy.
@@ -49,26 +50,46 @@ impl fmt::Display for CauseText<'_> {
                 write!(f, "{text}")
             }
             ExpressionError::ExpectedGlobalOrArgument => f.write_str(
-                "its image or sampler comes neither from a global nor from an argument\n  name a global or an argument there\n",
+                "an image or a sampler is neither a global, nor an element of one, nor an argument\n  name one of these there\n",
             ),
             ExpressionError::BindingArrayElement => f.write_str(
-                "indexes by value a binding array of neither images nor samplers\n  index a pointer to it\n",
+                "indexes by value a binding array of neither images nor samplers\n  index a pointer to it, or index it by a literal\n",
             ),
         }
     }
 }
 
-/// The cause of disrupted flow in the function at a location.
+/// Checks whether the function at a location takes values of functions that it calls. As in naga, its analysis tells the source of such a
+/// value by its number there, which here is that of another expression.
+fn takes_results(module: &Module, location: AnalysisLocation) -> bool {
+    let Some(function) = function_at(module, location) else {
+        return false;
+    };
+    for (_, expression) in function.expressions.iter() {
+        if let Expression::CallResult(_) = expression {
+            return true;
+        }
+    }
+    false
+}
+
+/// The cause of disrupted flow in the function at a location. It may be in a called function if that function takes any results.
 #[derive(Clone, Copy)]
 struct DisruptorText<'a> {
     module: &'a Module,
     location: AnalysisLocation,
     disruptor: UniformityDisruptor,
+    takes_results: bool,
 }
 
 impl fmt::Display for DisruptorText<'_> {
     fn fmt<W: fmt::Write>(&self, f: &mut fmt::Formatter<W>) -> fmt::Result {
         match self.disruptor {
+            UniformityDisruptor::Expression(handle) if self.takes_results => write!(
+                f,
+                "flow depends on a value that differs among invocations: expression #{} here or in a called function",
+                handle.index()
+            ),
             UniformityDisruptor::Expression(handle) => {
                 let expression = ExpressionAtText {
                     module: self.module,
@@ -101,14 +122,18 @@ struct FlowViolationText<'a> {
 impl fmt::Display for FlowViolationText<'_> {
     fn fmt<W: fmt::Write>(&self, f: &mut fmt::Formatter<W>) -> fmt::Result {
         let requirements = RequirementsText(self.requirements);
+        let takes_results = takes_results(self.module, self.location);
         let disruptor = DisruptorText {
             module: self.module,
             location: self.location,
             disruptor: self.disruptor,
+            takes_results,
         };
+        // A chain from another expression than the source would mislead.
+        let steps = if takes_results { &[] } else { self.chain };
         let chain = ChainText {
             module: self.module,
-            steps: self.chain,
+            steps,
         };
         write!(
             f,
@@ -117,7 +142,7 @@ impl fmt::Display for FlowViolationText<'_> {
         f.write_str(
             "  if that is meant, set @diagnostic(off, derivative_uniformity) on the function\n",
         )?;
-        f.write_str("  or check no flow by --no-control-flow-uniformity\n")
+        f.write_str("  no flow is checked with --uniformity=off in place of --uniformity=naga\n")
     }
 }
 

@@ -139,12 +139,21 @@ impl fmt::Display for UncountedText<'_> {
     }
 }
 
-/// The needs of a function for uniform flow, and the uniformity of its result.
+/// The needs of a function for uniform flow, and the uniformity of its result, if it has one.
 #[derive(Clone, Copy)]
 struct FlowText<'a> {
     module: &'a Module,
+    function: Option<&'a Function>,
     uniformity: Uniformity,
     chain: &'a [Step],
+}
+
+/// Checks whether a function has a result. Of one that has none, what is recorded counts values of the functions that it calls, as in naga.
+fn has_result(function: Option<&Function>) -> bool {
+    match function {
+        Some(function) => function.result.is_some(),
+        None => false,
+    }
 }
 
 impl fmt::Display for FlowText<'_> {
@@ -154,6 +163,9 @@ impl fmt::Display for FlowText<'_> {
             write!(f, "  needs uniform flow:{requirements}\n")?;
         }
         if self.uniformity.non_uniform_result.is_none() {
+            return Ok(());
+        }
+        if !has_result(self.function) {
             return Ok(());
         }
         f.write_str("  result differs among invocations\n")?;
@@ -215,6 +227,7 @@ impl fmt::Display for FunctionText<'_> {
         }
         let flow = FlowText {
             module,
+            function,
             uniformity: self.info.uniformity,
             chain: self.chain,
         };

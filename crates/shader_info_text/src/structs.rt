@@ -7,7 +7,7 @@ use crate::names::{NameText, given, type_name};
 use crate::types::TypeText;
 use shader_arena::Handle;
 use shader_ir::proc::{Layouter, TypeLayout};
-use shader_ir::{Items, Module, StructMember, TypeInner, mark};
+use shader_ir::{ArraySize, Items, Module, StructMember, TypeInner, mark};
 use std::fmt;
 
 /// Bytes of a struct that belong to no member.
@@ -116,6 +116,20 @@ fn struct_at(module: &Module, ty: Handle<mark::Type>) -> Option<(&Items<StructMe
     }
 }
 
+/// Checks whether the last member is an array whose length is known at run time, behind whose first element others stand and no hole.
+fn ends_at_run_time(module: &Module, members: &[StructMember]) -> bool {
+    let Some(last) = members.last() else {
+        return false;
+    };
+    match module.types.try_get(last.ty) {
+        Some(ty) => match &ty.inner {
+            TypeInner::Array { size, .. } => *size == ArraySize::Dynamic,
+            _ => false,
+        },
+        None => false,
+    }
+}
+
 /// The lines for the hole before a member and for the member. After the last member it is the line for the hole before the struct's end.
 #[derive(Clone, Copy)]
 struct LinesText<'a> {
@@ -130,8 +144,12 @@ impl fmt::Display for LinesText<'_> {
         let Some((members, span)) = struct_at(self.module, self.ty) else {
             return Ok(());
         };
-        let end = end_before(self.layouts, members.as_slice(), self.index);
-        let Some(member) = members.as_slice().get(self.index) else {
+        let members = members.as_slice();
+        let end = end_before(self.layouts, members, self.index);
+        let Some(member) = members.get(self.index) else {
+            if ends_at_run_time(self.module, members) {
+                return Ok(());
+            }
             return write!(f, "{}", HoleText { end, next: span });
         };
         let next = member.offset;

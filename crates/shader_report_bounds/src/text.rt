@@ -201,7 +201,7 @@ impl fmt::Display for BoundsText<'_> {
                 let name = override_name(module, *handle);
                 return write!(
                     f,
-                    "bounds: give override {name} a value first, as it sizes an array\n"
+                    "bounds: give override {name} a literal value above 0 first, as it sizes an array\n"
                 );
             }
             ModuleBounds::Found(functions, entry_points) => (functions, entry_points),

@@ -39,15 +39,33 @@ fn slot_of<'a>(layouts: &Layouter, member: &'a StructMember, position: usize) ->
     })
 }
 
-/// Returns the places of members, without those whose type has no layout.
+/// Checks whether a type is an array whose length is known at run time.
+fn is_sized_at_run_time(module: &Module, ty: Handle<mark::Type>) -> bool {
+    module.types.contains_handle(ty)
+        && matches!(
+            &module.types[ty].inner,
+            TypeInner::Array {
+                size: ArraySize::Dynamic,
+                ..
+            }
+        )
+}
+
+/// Returns the places of members of a struct of this size, without those whose type has no layout. An array whose length is known at run
+/// time takes what is left of the struct: its elements.
 fn slots_of<'a>(
     alloc: Global,
+    module: &Module,
     layouts: &Layouter,
     members: &'a [StructMember],
+    span: u32,
 ) -> Result<Vec<Slot<'a>>, AllocError> {
     let mut slots = Vec::new(alloc);
     for (position, member) in members.iter().enumerate() {
-        if let Some(slot) = slot_of(layouts, member, position) {
+        if let Some(mut slot) = slot_of(layouts, member, position) {
+            if is_sized_at_run_time(module, member.ty) && slot.offset < span {
+                slot.size = span - slot.offset;
+            }
             slots.push(slot)?;
         }
     }
@@ -101,7 +119,7 @@ fn add_nested(
     if members.len() > MOST_NESTED {
         return Ok(());
     }
-    let slots = slots_of(alloc, layouts, members)?;
+    let slots = slots_of(alloc, module, layouts, members, span)?;
     let each = if element == member.ty { "" } else { "each of " };
     let more = format!(in alloc; "    in {each}{}:\n", LabelText { slot: *slot })?;
     text.push_str(more.as_str())?;
@@ -111,16 +129,9 @@ fn add_nested(
 /// Returns whether the place of a member is the layout rules' choice alone: the member is no input or output of a shader, and its size is
 /// known.
 fn is_movable(module: &Module, member: &StructMember) -> bool {
-    if member.binding.is_some() || !module.types.contains_handle(member.ty) {
-        return false;
-    }
-    !matches!(
-        &module.types[member.ty].inner,
-        TypeInner::Array {
-            size: ArraySize::Dynamic,
-            ..
-        }
-    )
+    member.binding.is_none()
+        && module.types.contains_handle(member.ty)
+        && !is_sized_at_run_time(module, member.ty)
 }
 
 /// Adds the line on an order of the members.
@@ -167,7 +178,7 @@ fn add_drawing(
     let Some((members, span)) = struct_at(module, ty) else {
         return Ok(());
     };
-    let slots = slots_of(alloc, layouts, members)?;
+    let slots = slots_of(alloc, module, layouts, members, span)?;
     let slots = slots.as_slice();
     if slots.len() != members.len() {
         return Ok(());

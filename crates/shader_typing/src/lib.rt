@@ -1,6 +1,6 @@
-//! The typing layer at naga's paths: `arena`, `ir`, `proc`, `valid` and `front`. This crate hands on the names of the crates below it,
-//! and its `specs/` the words of their public contracts, so that a user names one crate; of its own it has one law, over all of them. No
-//! crate of the layer stands on it.
+//! The typing layer at naga's paths: `arena`, `ir`, `proc`, `valid` and `front`; and `uniformity`, which naga has not. This crate hands on
+//! the names of the crates below it, and its `specs/` the words of their public contracts, so that a user names one crate; of its own it
+//! has `laws` over several of them. No crate of the layer stands on it.
 #![tactic(auto)]
 
 pub mod front;

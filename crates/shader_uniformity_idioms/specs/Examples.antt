@@ -1,4 +1,4 @@
--- For each rule of the definition a small body on which it makes a fault, beside one that differs in what the rule asks for.
+-- For nearly each rule of the definition a small body on which it makes a fault, beside one that differs in what the rule asks for.
 use Rattle.std.specs.Prelude.{ℕ, true, false, List, [], ◌∷◌, ◌++◌, Some, None}
 use Rattle.std.specs.List.{AllByRecursion}
 use Rattle.shader_ir.specs.Body.{Step, Leaf, Nested, If, Loop, End, Call}

@@ -1,4 +1,4 @@
-//! Small functions on which each rule of uniform control flow makes a fault, beside ones on which it makes none; and idioms of shaders.
+//! Small functions on which rules of uniform control flow make a fault, beside ones on which they make none; and idioms of shaders.
 //! Each law is the contract of a function that does nothing.
 #![tactic(auto)]
 

@@ -63,7 +63,7 @@ impl fmt::Display for PlaceText<'_> {
                 };
                 write!(f, "what argument {name} points to")
             }
-            Place::Shared => f.write_str("memory that other invocations may write"),
+            Place::Shared => f.write_str("memory that may differ among invocations"),
             Place::Fixed => f.write_str("memory that nothing writes"),
         }
     }
