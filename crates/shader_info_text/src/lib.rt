@@ -22,6 +22,7 @@ pub use disruptor::differing;
 pub use fault::ErrorText;
 pub use function_text::FunctionText;
 pub use location::LocationText;
+pub use lookup::is_sized_at_run_time;
 pub use module_fault::{LayoutFaultText, ModuleFaultText};
 pub use names::{ExpressionText, NameText};
 pub use structs::{StructText, StructsText};

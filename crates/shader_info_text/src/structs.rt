@@ -2,12 +2,12 @@
 ghost use Rattle.std.specs.Prelude.{◌≡◌, ◌↔◌, ◌<◌, ◌+◌, IfSome, IsSome, slice_get};
 ghost use Rattle.std.specs.Option.{option_map};
 
-use crate::lookup::layout_at;
+use crate::lookup::{is_sized_at_run_time, layout_at};
 use crate::names::{NameText, given, type_name};
 use crate::types::TypeText;
 use shader_arena::Handle;
 use shader_ir::proc::{Layouter, TypeLayout};
-use shader_ir::{ArraySize, Items, Module, StructMember, TypeInner, mark};
+use shader_ir::{Items, Module, StructMember, TypeInner, mark};
 use std::fmt;
 
 /// Bytes of a struct that belong to no member.
@@ -118,14 +118,8 @@ fn struct_at(module: &Module, ty: Handle<mark::Type>) -> Option<(&Items<StructMe
 
 /// Checks whether the last member is an array whose length is known at run time, behind whose first element others stand and no hole.
 fn ends_at_run_time(module: &Module, members: &[StructMember]) -> bool {
-    let Some(last) = members.last() else {
-        return false;
-    };
-    match module.types.try_get(last.ty) {
-        Some(ty) => match &ty.inner {
-            TypeInner::Array { size, .. } => *size == ArraySize::Dynamic,
-            _ => false,
-        },
+    match members.last() {
+        Some(last) => is_sized_at_run_time(module, last.ty),
         None => false,
     }
 }

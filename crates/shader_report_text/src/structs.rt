@@ -2,9 +2,9 @@
 
 use layout_drawing::{DrawingText, LabelText, Order, OrderText, Slot, pieces_of, smaller_order};
 use shader_arena::Handle;
-use shader_info_text::{StructText, StructsText};
+use shader_info_text::{StructText, StructsText, is_sized_at_run_time};
 use shader_ir::proc::Layouter;
-use shader_ir::{ArraySize, Module, StructMember, TypeInner, mark};
+use shader_ir::{Module, StructMember, TypeInner, mark};
 use std::alloc::{AllocError, Global};
 
 /// The most members of a struct in whose drawing those that are structs are drawn too, and the most members of such a one.
@@ -37,18 +37,6 @@ fn slot_of<'a>(layouts: &Layouter, member: &'a StructMember, position: usize) ->
         size: layout.size,
         alignment: layout.alignment.get(),
     })
-}
-
-/// Checks whether a type is an array whose length is known at run time.
-fn is_sized_at_run_time(module: &Module, ty: Handle<mark::Type>) -> bool {
-    module.types.contains_handle(ty)
-        && matches!(
-            &module.types[ty].inner,
-            TypeInner::Array {
-                size: ArraySize::Dynamic,
-                ..
-            }
-        )
 }
 
 /// Returns the places of members of a struct of this size, without those whose type has no layout. An array whose length is known at run

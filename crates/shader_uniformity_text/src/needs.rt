@@ -1,6 +1,8 @@
 //! The statement at a position, and what of it needs all invocations.
-ghost use Rattle.std.specs.Prelude.{◌≡◌};
+ghost use Rattle.std.specs.Prelude.{◌≡◌, find};
+ghost use Rattle.shader_arena.specs.Positions.{positions_between};
 ghost use Rattle.shader_uniformity.specs.Lockstep.{needs_all};
+ghost use Rattle.shader_uniformity_text.specs.Needs.{need_of_range, need_expression, needs_at};
 
 use shader_arena::{Arena, Handle, Range};
 use shader_ir::{Block, Expression, SampleLevel, Statement, mark};
@@ -86,14 +88,30 @@ fn needs_all(expression: &Expression, severe: bool) -> bool
     }
 }
 
+/// Checks whether the expression of a handle needs all invocations. A handle that is out of range leads to none.
+fn needs_at(
+    expressions: &Arena<Expression, mark::Expression>,
+    handle: Handle<mark::Expression>,
+    severe: bool,
+) -> bool
+    ensures { result ≡ needs_at severe expressions.now handle }
+{
+    match expressions.try_get(handle) {
+        Some(expression) => needs_all(expression, severe),
+        None => false,
+    }
+}
+
 /// Returns the first expression of a range that needs all invocations.
 fn first_need(
     expressions: &Arena<Expression, mark::Expression>,
     range: &Range<mark::Expression>,
     severe: bool,
-) -> Option<Handle<mark::Expression>> {
+) -> Option<Handle<mark::Expression>>
+    ensures { result ≡ find (needs_at severe expressions.now) (positions_between range.now.0 range.now.1) }
+{
     for handle in range.iter() {
-        if expressions.contains_handle(handle) && needs_all(&expressions[handle], severe) {
+        if needs_at(expressions, handle, severe) {
             return Some(handle);
         }
     }
@@ -114,7 +132,9 @@ impl EmittedNeed {
     pub fn of(
         expressions: &Arena<Expression, mark::Expression>,
         range: &Range<mark::Expression>,
-    ) -> Option<EmittedNeed> {
+    ) -> Option<EmittedNeed>
+        ensures { result ≡ need_of_range expressions.now (positions_between range.now.0 range.now.1) }
+    {
         if let Some(expression) = first_need(expressions, range, false) {
             return Some(EmittedNeed::Unfiltered(expression));
         }
@@ -125,7 +145,9 @@ impl EmittedNeed {
     }
 
     /// Returns the expression.
-    pub fn expression(self) -> Handle<mark::Expression> {
+    pub fn expression(self) -> Handle<mark::Expression>
+        ensures { result ≡ need_expression self }
+    {
         match self {
             EmittedNeed::Unfiltered(expression) => expression,
             EmittedNeed::Filtered(expression) => expression,

@@ -239,12 +239,10 @@ impl<'a> RefusalText<'a> {
             position,
         };
         match need.found() {
-            Some((function, Statement::Emit(range))) => {
-                match EmittedNeed::of(&function.expressions, range) {
-                    Some(EmittedNeed::Filtered(_)) => true,
-                    _ => false,
-                }
-            }
+            Some((function, Statement::Emit(range))) => matches!(
+                EmittedNeed::of(&function.expressions, range),
+                Some(EmittedNeed::Filtered(_))
+            ),
             _ => false,
         }
     }
