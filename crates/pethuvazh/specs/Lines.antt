@@ -1,11 +1,15 @@
 -- How a call for answers to lines ends.
-use Rattle.std.specs.Prelude.{◌≡◌, ℕ, List}
+use Rattle.std.specs.Prelude.{◌≡◌, ◌<◌, ℕ, List, length}
 use Rattle.typer_answers.specs.Answers.{IsAnswer}
 use Rattle.typer_answers.specs.declared.answer.Outcome.{Outcome}
 use Rattle.typer_answers.specs.declared.answer.Outcome.TheVariants as outcomes
 use Rattle.pethuvazh.specs.Copies.{IsCopy, IsUntouched}
 use Rattle.pethuvazh.specs.declared.status.LinesStatus.{LinesStatus}
 use Rattle.pethuvazh.specs.declared.status.LinesStatus.TheVariants.{Done, BadLine, OutOfMemory, TooLong}
+
+-- the most bytes that lines may have
+abbrev most_bytes : ℕ
+most_bytes = 1048576
 
 abbrev pub lines_code : LinesStatus → ℕ
 lines_code Done = 0
@@ -27,7 +31,7 @@ abbrev pub EndsWith : List ℕ → List ℕ → List ℕ → ℕ → LinesStatus
 EndsWith lines before after told Done = IsCopiedAnswer lines before after told outcomes.Done
 EndsWith lines before after told BadLine = IsCopiedAnswer lines before after told outcomes.BadLine
 EndsWith lines before after told OutOfMemory = IsUntouched before after told
-EndsWith lines before after told TooLong = IsUntouched before after told
+EndsWith lines before after told TooLong = (most_bytes < length lines) × IsUntouched before after told
 
 -- the number is that of the outcome
 pub record IsEnd (lines before after : List ℕ) (told : ℕ) (code : ℕ) : Type 0 where

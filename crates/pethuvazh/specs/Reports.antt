@@ -1,5 +1,5 @@
 -- How a call for a report ends.
-use Rattle.std.specs.Prelude.{◌≡◌, ℕ, List, Option, Some, None}
+use Rattle.std.specs.Prelude.{◌≡◌, ℕ, List, Option, Some, None, IsSome}
 use Rattle.report_answers.specs.Reports.{IsReport}
 use Rattle.report_answers.specs.declared.options.Options.{Options}
 use Rattle.report_answers.specs.declared.reports.Outcome.{Outcome}
@@ -34,7 +34,7 @@ Ends asked json before after told Accepted = IsCopiedReport asked json before af
 Ends asked json before after told Refused = IsCopiedReport asked json before after told outcomes.Refused
 Ends asked json before after told NotModule = IsCopiedReport asked json before after told outcomes.NotModule
 Ends asked json before after told BadFlags = (asked ≡ None) × IsUntouched before after told
-Ends asked json before after told OutOfMemory = IsUntouched before after told
+Ends asked json before after told OutOfMemory = IsSome asked × IsUntouched before after told
 
 abbrev pub EndsWith : ℕ → List ℕ → List ℕ → List ℕ → ℕ → ReportStatus → Type 0
 EndsWith flags json before after told status = Ends (options_of flags) json before after told status

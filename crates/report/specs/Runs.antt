@@ -64,6 +64,16 @@ OnNotModule WriteFailed P = Unit {0}
 OnNotModule OutOfMemory P = Unit {0}
 OnNotModule NotModule P = P
 
+-- a clause about all statuses but 6
+abbrev pub UnlessNotModule : Status → Type 0 → Type 0
+UnlessNotModule Accepted P = P
+UnlessNotModule Refused P = P
+UnlessNotModule BadUsage P = P
+UnlessNotModule ReadFailed P = P
+UnlessNotModule WriteFailed P = P
+UnlessNotModule OutOfMemory P = P
+UnlessNotModule NotModule P = Unit {0}
+
 -- a clause about status 4
 abbrev pub OnWriteFailed : Status → Type 0 → Type 0
 OnWriteFailed Accepted P = Unit {0}
@@ -84,8 +94,9 @@ is_told_apart options outcomes.Accepted = false
 is_told_apart options outcomes.Refused = false
 is_told_apart options outcomes.NotModule = not options.is_json
 
--- as JSON an error is written to the output, and nothing beside it; for people it is written beside it alone, unless that fails
+-- as JSON an error is written to the output, and nothing beside it; for people it is written beside it alone, or a beginning of it where
+-- that fails
 abbrev pub IsTold : Bool → Bool → List ℕ → Option (List ℕ) → Option (List ℕ) → Option (List ℕ) → Option (List ℕ) → Type 0
 IsTold true failed text old new errors told = Appends old new text × Keeps errors told
 IsTold false false text old new errors told = Keeps old new × Appends errors told text
-IsTold false true text old new errors told = Keeps old new
+IsTold false true text old new errors told = Keeps old new × IsBegun text errors told

@@ -7,7 +7,7 @@ ghost use Rattle.shader_analysis_spec.specs.Program.{Module};
 ghost use Rattle.shader_json_module.specs.Modules.{IsTextOf};
 ghost use Rattle.report_answers.specs.Reports.{IsRefusal, IsReport};
 ghost use Rattle.report.specs.Runs.{IsAnswerOf, IsBegun, IsTold, OnAnswered, OnNotModule, OnUnanswered, OnWriteFailed};
-ghost use Rattle.report.specs.Runs.{is_told_apart, outcome_status};
+ghost use Rattle.report.specs.Runs.{UnlessNotModule, is_told_apart, outcome_status};
 
 use crate::status::Status;
 use program_io::{Failed, InputError, Sink, Source, read_input, write_all};
@@ -41,6 +41,9 @@ pub fn run<R: Source, W: Sink, E: Sink, P: Progress>(
         × IfSome (R.remaining reader.old) (λ input. IsReport options input Outcome.NotModule text)
         × IsTold options.is_json (E.has_failed errors.new) text (W.contents writer.old) (W.contents writer.new)
         (E.contents errors.old) (E.contents errors.new)) }
+
+    // Beside it nothing is told with any other status.
+    ensures apart { UnlessNotModule result (Keeps (E.contents errors.old) (E.contents errors.new)) }
 
     // With statuses 3 and 5 nothing was written, with 4 a beginning of the report on the input.
     ensures nothing { OnUnanswered result (Keeps (W.contents writer.old) (W.contents writer.new)) }
@@ -84,6 +87,7 @@ fn refuse<W: Sink, E: Sink, P: Progress>(
     ensures refusal { OnNotModule result ((text : List ℕ) × IsRefusal options [] ReadError.TooLong text
         × IsTold options.is_json (E.has_failed errors.new) text (W.contents writer.old) (W.contents writer.new)
         (E.contents errors.old) (E.contents errors.new)) }
+    ensures apart { UnlessNotModule result (Keeps (E.contents errors.old) (E.contents errors.new)) }
     ensures nothing { OnUnanswered result (Keeps (W.contents writer.old) (W.contents writer.new)) }
     ensures beginning { OnWriteFailed result ((text : List ℕ) × IsRefusal options [] ReadError.TooLong text
         × IsBegun text (W.contents writer.old) (W.contents writer.new)) }
@@ -111,6 +115,7 @@ fn write_report<W: Sink, E: Sink, P: Progress>(
     ensures refusal { OnNotModule result ((result ≡ outcome_status report.now.outcome)
         × IsTold options.is_json (E.has_failed errors.new) report.now.text.items (W.contents writer.old) (W.contents writer.new)
         (E.contents errors.old) (E.contents errors.new)) }
+    ensures apart { UnlessNotModule result (Keeps (E.contents errors.old) (E.contents errors.new)) }
     ensures nothing { OnUnanswered result (Keeps (W.contents writer.old) (W.contents writer.new)) }
     ensures beginning { OnWriteFailed result (IsBegun report.now.text.items (W.contents writer.old) (W.contents writer.new)) }
     ensures failed { (result ≡ Status.WriteFailed) ↔ IsTrue (W.has_failed writer.new) }

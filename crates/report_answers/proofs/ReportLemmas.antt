@@ -1,8 +1,9 @@
 -- The report on a module by the flow that the options have decided.
 use Rattle.std.proofs.Common.{refl, ◌≡◌, ◌∙◌, ◌++◌, ap, append_assoc, sym, subst, inl, inr, ℕ, Bool, true, false, List, Option, Some}
 use Rattle.std.proofs.Common.{IsSome}
-use Rattle.std.specs.Prelude.{MatchOption}
+use Rattle.std.specs.Prelude.{MatchOption, String, string_bytes}
 use Rattle.std.specs.Str.{IsUtf8}
+use Rattle.std.proofs.lemmas.Str.{IsUtf8-string_bytes}
 use Rattle.json.specs.Json.{Json, document}
 use Rattle.shader_analysis_spec.specs.Program.{Module}
 use Rattle.shader_passes.specs.Causes.{settings_of}
@@ -10,6 +11,7 @@ use Rattle.shader_json_module.specs.Modules.{IsModule, IsOfValue, IsTextOf}
 use Rattle.shader_json_reader.specs.declared.error.ReadError.{ReadError}
 use Rattle.shader_report_json.specs.Answers.{IsModuleAnswer}
 use Rattle.shader_report_text.specs.Verdicts.{IsVerdict}
+use Rattle.shader_uniformity_text.specs.Sections.{IsPeopleSection}
 use Rattle.report_answers.specs.Members.{AreExtras, AreMembers, EndsWithLines, lines_of}
 use Rattle.report_answers.specs.Reading.{IsRead}
 use Rattle.report_answers.specs.Options.{capabilities_of, flags_of}
@@ -67,9 +69,14 @@ module _ (options : Options) (j : Json) (m : Module) where
       IsJson options j m accepted text
   json_told accepted members text are answer = record { members = members; are = are; answer = answer }
 
-  pub people_told : (accepted : Bool) (text : List ℕ) → IsVerdict m (settings_of (flags_of options) (capabilities_of options)) accepted →
-      EndsWithLines options j m text → IsPeople options j m accepted text
-  people_told accepted text verdict lines = record { verdict = verdict; lines = lines }
+  pub people_told : {Z : Type 0} (accepted : Bool) (string : String Z) (text : List ℕ) → text ≡ string_bytes string →
+      IsVerdict m (settings_of (flags_of options) (capabilities_of options)) accepted → EndsWithLines options j m text →
+      IsPeople options j m accepted text
+  people_told accepted string text same verdict lines = record {
+    utf8 = subst (λ (told : List ℕ). IsUtf8 told) (sym same) (IsUtf8-string_bytes string);
+    verdict = verdict;
+    lines = lines;
+  }
 
   -- a text that ends with the lines still does behind another one
   pub still_ends : (before text : List ℕ) → EndsWithLines options j m text → EndsWithLines options j m (before ++ text)
@@ -112,6 +119,12 @@ module _ (options : Options) (j : Json) (m : Module) where
   module_told input Accepted text utf8 parses stands report = spelled input true text utf8 parses stands report
   module_told input Refused text utf8 parses stands report = spelled input false text utf8 parses stands report
   module_told input NotModule text utf8 parses stands report = inr (nested input text utf8 parses stands report)
+
+-- for people the section is any text on the verdict
+pub section_told : {Z : Type 0} (is_json : Bool) (m : Module) (accepted : Bool) (string : String Z) → is_json ≡ false →
+    IsPeopleSection m accepted → IsFlowSection is_json m accepted (string_bytes string)
+section_told is_json m accepted string is decided =
+    subst (λ (json : Bool). IsFlowSection json m accepted (string_bytes string)) (sym is) (IsUtf8-string_bytes string, decided)
 
 -- the report on an input that spells no module
 pub no_module_told : (options : Options) (input : List ℕ) (j : Json) (error : ReadError) (outcome : Outcome) (text : List ℕ) →

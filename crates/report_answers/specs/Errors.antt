@@ -42,6 +42,14 @@ object_tokens (NotModule path wanted found) = path_tokens (string_bytes path) (w
 abbrev pub object_text : ReadError → List ℕ
 object_text error = print (object_tokens error) ++ 10 ∷ []
 
+-- the line of JSON for an error of the input; that memory was refused is none
+abbrev pub IsObjectText : ReadError → List ℕ → Type 0
+IsObjectText OutOfMemory text = ⊥
+IsObjectText TooLong text = text ≡ object_text TooLong
+IsObjectText (NotJson byte) text = text ≡ object_text (NotJson byte)
+IsObjectText (TooDeep byte) text = text ≡ object_text (TooDeep byte)
+IsObjectText (NotModule path wanted found) text = text ≡ object_text (NotModule path wanted found)
+
 -- the line of JSON for blocks that nest too deep
 abbrev pub nesting_object : List ℕ
 nesting_object = print (path_tokens [] (codes "blocks that nest at most 4,000 deep")) ++ 10 ∷ []

@@ -11,7 +11,7 @@ use Rattle.shader_report_json.specs.Answers.{IsModuleAnswer}
 use Rattle.shader_resolve.specs.Nesting.{NestsWithin}
 use Rattle.shader_report_text.specs.Verdicts.{IsVerdict}
 use Rattle.shader_uniformity_text.specs.Sections.{IsJsonSection, IsPeopleSection}
-use Rattle.report_answers.specs.Errors.{IsErrorText, nesting_object, nesting_text, object_text}
+use Rattle.report_answers.specs.Errors.{IsErrorText, IsObjectText, nesting_object, nesting_text}
 use Rattle.report_answers.specs.Members.{AreMembers, EndsWithLines}
 use Rattle.report_answers.specs.Options.{capabilities_of, flags_of}
 use Rattle.report_answers.specs.declared.options.FlowCheck.{FlowCheck}
@@ -28,6 +28,7 @@ pub record IsJson (options : Options) (j : Json) (m : Module) (accepted : Bool) 
 
 -- for people it explains the verdict, and no clause says in which words; it ends with the resources that words ask for
 pub record IsPeople (options : Options) (j : Json) (m : Module) (accepted : Bool) (text : List ℕ) : Type 0 where
+  pub utf8 : IsUtf8 text
   pub verdict : IsVerdict m (settings_of (flags_of options) (capabilities_of options)) accepted
   pub lines : EndsWithLines options j m text
 
@@ -42,7 +43,7 @@ IsRest options j m accepted text = IsReportFor options.is_json options j m accep
 -- the section on the flow of a module, as JSON or for people
 abbrev pub IsFlowSection : Bool → Module → Bool → List ℕ → Type 0
 IsFlowSection true m accepted text = IsJsonSection m accepted text
-IsFlowSection false m accepted text = IsPeopleSection m accepted
+IsFlowSection false m accepted text = IsUtf8 text × IsPeopleSection m accepted
 
 -- with that section: as JSON it is the first member of the object; for people an accepted flow adds nothing, and a refused one is all
 -- that is told
@@ -77,7 +78,7 @@ verdict false = Refused
 
 -- the text of an error of the input, as JSON or for people
 abbrev IsErrorFor : Bool → List ℕ → ReadError → List ℕ → Type 0
-IsErrorFor true input error text = text ≡ object_text error
+IsErrorFor true input error text = IsObjectText error text
 IsErrorFor false input error text = IsErrorText input error text
 
 abbrev pub IsRefusal : Options → List ℕ → ReadError → List ℕ → Type 0
@@ -118,7 +119,7 @@ pub record IsDeepReport (options : Options) (input text : List ℕ) : Type 0 whe
   pub stands : IsTextOf input m
   pub nested : IsDeep options m text
 
--- the text is that of an error, which says of the input what is so
+-- the text is that of an error that is accurate of the input
 pub record IsReadRefusal (options : Options) (input text : List ℕ) : Type 0 where
   pub error : ReadError
   pub accurate : IsAccurate input error

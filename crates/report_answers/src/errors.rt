@@ -1,8 +1,9 @@
 //! Errors of the input as text: the line of JSON, and the lines for people.
 ghost use Rattle.std.specs.Prelude.{◌≡◌, ◌∷◌, ◌++◌, [], IfOk, Some, codes, string_bytes};
 ghost use Rattle.json.specs.Print.{print};
-ghost use Rattle.report_answers.specs.Errors.{IsErrorText, byte_tokens, nesting_object, nesting_text, not_json_text, not_module_text};
-ghost use Rattle.report_answers.specs.Errors.{input_text, object_text, path_tokens, telling_text, too_deep_text, value_text, wanted_text};
+ghost use Rattle.report_answers.specs.Errors.{IsErrorText, IsObjectText, byte_tokens, input_text, nesting_object, nesting_text};
+ghost use Rattle.report_answers.specs.Errors.{not_json_text, not_module_text, path_tokens, telling_text, too_deep_text, value_text};
+ghost use Rattle.report_answers.specs.Errors.{wanted_text};
 ghost use Rattle.report_answers.specs.Forms.{form_in};
 ghost use Rattle.report_answers.specs.Places.{place_in, place_text};
 
@@ -74,7 +75,7 @@ impl Display for WantedText<'_> {
 ///
 /// `AllocError` if an allocation fails, or if that is the reason.
 pub fn error_object(alloc: Global, error: &ReadError) -> Result<Vec<u8>, AllocError>
-    ensures { IfOk result (λ text. text.items ≡ object_text error.now) }
+    ensures { IfOk result (λ text. IsObjectText error.now text.items) }
 {
     match error {
         ReadError::OutOfMemory => Err(AllocError),

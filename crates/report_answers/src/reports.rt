@@ -125,7 +125,6 @@ impl Report {
     }
 
     /// Returns the same as text for people.
-    #[tactic(auto, using(crate::proofs::ReportLemmas::people_told, crate::proofs::ReportLemmas::still_ends))]
     fn text_of(
         alloc: Global,
         options: Options,
