@@ -90,13 +90,6 @@ class Habits(unittest.TestCase):
         self.assertEqual(habits.runs(two(run.partition("\n")[2])), [])
         self.assertEqual(habits.runs(two(run.replace("line", "use line"))), [])
 
-
-class Walkthroughs(unittest.TestCase):
-    """What a list has, and what it must have."""
-
-    texts = {"crates/a/src/b.rt": "A::Old", "crates/a/specs/C.antt": "Old", "crates/c/src/d.rt": "Older"}
-    arms = "    match a {\n        Kind::A | Kind::B => 1,\n        _ => 2,\n    }\n"
-
     def test_mutants(self):
         """Tells a mutant whose old text isn't there, and a control that fits though it is to show what doesn't; also an untried one."""
         edits = {
@@ -111,6 +104,13 @@ class Walkthroughs(unittest.TestCase):
                 (pathlib.Path(room) / path).parent.mkdir(parents=True, exist_ok=True)
                 (pathlib.Path(room) / path).write_text(text)
             self.assertEqual(habits.unfit(pathlib.Path(room)), ["is_there", "is_gone", "stands_twice"])
+
+
+class Walkthroughs(unittest.TestCase):
+    """What a list has, and what it must have."""
+
+    texts = {"crates/a/src/b.rt": "A::Old", "crates/a/specs/C.antt": "Old", "crates/c/src/d.rt": "Older"}
+    arms = "    match a {\n        Kind::A | Kind::B => 1,\n        _ => 2,\n    }\n"
 
     def test_lists(self):
         """Reads items below their folder, over lines, up to the next paragraph."""
