@@ -138,7 +138,7 @@ fn threads_may_call_at_once() {
     let cases: Vec<_> = modules.iter().map(|line| case(line)).collect();
     let report = |(module, options): &(&str, Options)| report_json(module.as_bytes(), *options);
     let wanted: Vec<Result<Report, Error>> = cases.iter().map(report).collect();
-    // Eight threads, each with twenty times 53 calls.
+    // Eight threads, each with twenty times a call for each line.
     std::thread::scope(|scope| {
         for _ in 0..8 {
             scope.spawn(|| {
