@@ -145,7 +145,7 @@ pub enum Error {
     NotModule(String),
     /// The lines have more than 1,048,576 bytes.
     TooLong,
-    /// An allocation failed.
+    /// An allocation of the library failed. The buffer for its text is a `Vec`: where that can't be allocated, the process aborts.
     OutOfMemory,
 }
 
