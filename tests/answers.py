@@ -1,7 +1,7 @@
 """Compares the JSON that the program `report` answers with an answer of naga's own code.
 
-Left free is which of several causes of the first faulty place is named, which origin of non-uniformity, and which fault of a module
-that isn't well formed: what is named has to be one of those that hold.
+Left free is which of several causes of the first faulty place is named, and which origin of non-uniformity: what is named has to be one of
+those that hold.
 """
 import json
 

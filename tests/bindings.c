@@ -1,5 +1,6 @@
-// Tries the calls of pethuvazh.h on buffers of all sizes and with memory that is refused: tests/bindings links it over the archive with
-// --wrap for malloc, realloc and free, and gives it a module on standard input. It prints a line 'passed' or 'failed WHAT' for each check.
+// Tries the calls of pethuvazh.h on buffers of seven sizes about that of the text and with memory that is refused: tests/bindings links it
+// over the archive with --wrap for malloc, realloc and free, and gives it a module on standard input. It prints a line 'passed' or
+// 'failed WHAT' for each check.
 #include "pethuvazh.h"
 #include <stdio.h>
 #include <stdlib.h>
@@ -84,16 +85,17 @@ static void try_refusals(long flags) {
     uint32_t status = call(flags, sizeof buffer, &wanted);
     memcpy(whole, buffer, wanted);
     long request = 0;
-    for (was_refused = 1; was_refused;) {
+    int is_fine = 1;
+    for (was_refused = 1; was_refused && is_fine;) {
         was_refused = 0;
         left = ++request;
         uint32_t ended = call(flags, sizeof buffer, &length);
         left = 0;
         int is_whole = ended == status && length == wanted && memcmp(buffer, whole, wanted) == 0;
         int is_none = ended == PETHUVAZH_OUT_OF_MEMORY && length == 0 && is_untouched(0, sizeof buffer);
-        if (live != 0 || !(was_refused ? is_none || is_whole : is_whole)) break;
+        is_fine = live == 0 && (is_whole || (was_refused && is_none));
     }
-    check(!was_refused && request > 1 && live == 0, "a refused request", (unsigned long)request);
+    check(is_fine && request > 1, "a refused request", (unsigned long)request);
 }
 
 static void try_flags(void) {

@@ -18,12 +18,12 @@ EDIT = re.compile(r"crates/(\w+)/wrong-bodies/(\w+)\.edit")
 
 
 def git(*words):
-    """Returns the lines that a command of git prints, none where it fails."""
+    """Returns the lines that a command of git prints, None where it fails."""
     try:
         ran = subprocess.run(["git", *words], cwd=TOP, capture_output=True, text=True)
     except OSError:
-        return []
-    return ran.stdout.splitlines() if ran.returncode == 0 else []
+        return None
+    return ran.stdout.splitlines() if ran.returncode == 0 else None
 
 
 def commit_before(lines, seconds=LATELY):
@@ -48,14 +48,14 @@ class Choice:
 
     def __init__(self, crates, is_all):
         self.crates, self.always = set(crates), names_in(ALWAYS.read_text())
-        lines = git("log", "--format=%H %ct") if not crates and not is_all else []
+        lines = (git("log", "--format=%H %ct") if not crates and not is_all else None) or []
         self.since = commit_before(lines) if lines else None
-        self.takes_all = self.since is None
-        self.turn, self.changed, self.edits = len(lines) % PARTS, set(), set()
-        if self.since:
-            files = [*git("diff", "--name-only", self.since), *git("ls-files", "--others", "--exclude-standard")]
-            self.changed = {it[1] for it in map(SOURCE.match, files) if it}
-            self.edits = {f"{it[1]}/{it[2]}" for it in map(EDIT.match, files) if it}
+        told = [git("diff", "--name-only", self.since), git("ls-files", "--others", "--exclude-standard")] if self.since else []
+        self.takes_all = self.since is None or None in told
+        files = [it for of in told for it in of or ()]
+        self.turn = len(lines) % PARTS
+        self.changed = {it[1] for it in map(SOURCE.match, files) if it}
+        self.edits = {f"{it[1]}/{it[2]}" for it in map(EDIT.match, files) if it}
 
     def takes(self, crate, name):
         which = f"{crate}/{name}"

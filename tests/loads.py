@@ -175,7 +175,7 @@ def globals_by_calls(size):
 
 
 def pairs_up_callers(size):
-    """Some size pairs of an image and a sampler that one function samples together, and so many functions that each call the one before."""
+    """Returns a module in which one function samples about `size` pairs of an image and a sampler, and as many call the one before."""
     side = round(size**0.5)
     images, samplers = list(range(side)), list(range(side, 2 * side))
     coordinate = [{"Literal": {"F32": 0}}, {"Splat": {"size": "Bi", "value": 2 * side}}]

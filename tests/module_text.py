@@ -6,6 +6,7 @@ from statement_text import Blocks
 from type_text import TextError, Types, binding, flags, need, parts, scalar, values
 
 OPTIONS = {"clamp", "comparison", "committed", "row_major"}
+VALUES = {"depth", "gather", "index", "offset", "result"}
 STAGES = {"vertex", "fragment", "compute", "mesh", "task"}
 GLOBALS = {
     "Function", "Private", "WorkGroup", "Uniform", "Handle", "Immediate", "TaskPayload", "RayPayload", "IncomingRayPayload",
@@ -56,6 +57,7 @@ class Clause:
             self.options.add(word)
         elif "=" in word:
             key, _, value = word.partition("=")
+            need(key in VALUES, f"{key} behind {self.name} is no option")
             self.values[key] = value
         else:
             self.operands.append(None if word == "-" else word)

@@ -1,7 +1,10 @@
 """Tests whether a program of crates/, of a library that of its tests, is built, or a static library: tests/programs.py NAME.
 
-Exit status 0 where it is built, and nothing that it is built from is newer; 1 where it isn't.
+Exit status 0 where it is built, and nothing that it is built from is newer; 1 where it isn't. The scripts that run these programs also
+share what finds samples and other scripts.
 """
+import importlib.machinery
+import importlib.util
 import os
 import sys
 
@@ -16,6 +19,21 @@ def program_of(name):
     if listed()[name][0].startswith(f"{name} staticlib"):
         return folder / "out" / f"lib{name}.a"
     return folder / "out" / (name if (folder / "src/main.rt").exists() else f"{name}_tests")
+
+
+def script(name):
+    """Returns a script of tests/ as a module."""
+    loader = importlib.machinery.SourceFileLoader(name.replace("-", "_"), str(TOP / "tests" / name))
+    found = importlib.util.module_from_spec(importlib.util.spec_from_loader(loader.name, loader))
+    loader.exec_module(found)
+    return found
+
+
+def files_of(folder):
+    """Returns the modules of a folder of samples in their order. A folder without any would try nothing."""
+    found = sorted(folder.glob("*.json"))
+    assert found, f"{folder} has no module"
+    return found
 
 
 def sources_of(name):

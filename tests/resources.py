@@ -129,7 +129,7 @@ class Resources:
         """What is bound: a value, or each member of a struct."""
         inner = self.module["types"][ty]["inner"]
         if "Struct" in inner:
-            return [it for of in inner["Struct"]["members"] for it in [self.bound(of.get("name"), of["ty"], of.get("binding"))]]
+            return [self.bound(of.get("name"), of["ty"], of.get("binding")) for of in inner["Struct"]["members"]]
         return [self.bound(name, ty, binding)]
 
     def bound(self, name, ty, binding):

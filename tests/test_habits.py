@@ -3,24 +3,13 @@
 
     tests/test_habits.py
 """
-import importlib.machinery
-import importlib.util
 import pathlib
 import sys
 import tempfile
 import unittest
 
 sys.dont_write_bytecode = True
-from crates import TOP
-
-
-def script(name):
-    """Returns a script of tests/ as a module."""
-    loader = importlib.machinery.SourceFileLoader(name, str(TOP / "tests" / name))
-    module = importlib.util.module_from_spec(importlib.util.spec_from_loader(name, loader))
-    loader.exec_module(module)
-    return module
-
+from programs import script
 
 habits, walkthroughs = script("habits"), script("walkthroughs")
 
