@@ -20,7 +20,7 @@ VARYING_RESULTS = ("LocalVariable", "AtomicResult", "RayQueryProceedResult", "Su
 
 
 def variant(value):
-    """The name and the data of an enum's value."""
+    """Returns the name and the data of an enum's value."""
     return (value, None) if isinstance(value, str) else next(iter(value.items()))
 
 
@@ -44,7 +44,7 @@ def operands(expression):
 
 
 def statements(block):
-    """The names and the data of the statements at any depth."""
+    """Yields the names and the data of the statements at any depth."""
     for statement in block:
         name, data = variant(statement)
         yield name, data
@@ -62,7 +62,7 @@ def statements(block):
 
 
 def is_source(module, function, name, data):
-    """Whether what the expression gives may differ among invocations by itself."""
+    """Returns whether what the expression gives may differ among invocations by itself."""
     if name == "FunctionArgument":
         arguments = function["arguments"]
         binding = arguments[data].get("binding") if data < len(arguments) else None
@@ -75,7 +75,7 @@ def is_source(module, function, name, data):
 
 
 def origins(module):
-    """For each function, then each entry point: the origins of each expression and of the result, as sets of handles."""
+    """Returns for each function, then each entry point, the origins of each expression and of the result, as sets of handles."""
     found, reached = [], []
     for place, function in enumerate(module["functions"] + [it["function"] for it in module["entry_points"]]):
         each, own, called = [], set(), {}
@@ -129,7 +129,8 @@ def first_difference(told, wanted, path=""):
 
 
 def difference(told, wanted, module, causes):
-    """None where what is told is the wanted answer but for what is free; `causes` are those that stand at the first faulty place."""
+    """Returns None where what is told is the wanted answer but for what is free, else where it differs; `causes` are those that stand at
+    the first faulty place."""
     try:
         if "refused" in wanted and told["refused"]["cause"] in (causes or []):
             told["refused"]["cause"] = wanted["refused"]["cause"]

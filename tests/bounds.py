@@ -35,7 +35,7 @@ class Checks:
         return value if kind in INTEGERS and 0 <= value < 1 << 32 else None
 
     def known(self, expressions, handle):
-        """The known value of an index: a literal, or that of a constant or an override."""
+        """Returns the known value of an index: a literal, or that of a constant or an override, None where none is known."""
         name, data = variant(expressions[handle])
         if name in ("Constant", "Override"):
             declared = self.module[f"{name.lower()}s"][data]
@@ -72,7 +72,7 @@ class Checks:
         return self.policies["buffer" if space in ("Storage", "Uniform") else "index"]
 
     def check(self, access):
-        """The base, the index, its known value and the length of an access that needs a check."""
+        """Returns the base, the index, known or an expression, the length and the policy of an access that needs a check, else None."""
         name, data = variant(self.function["expressions"][access])
         if name not in ("Access", "AccessIndex"):
             return None
@@ -122,7 +122,7 @@ class Checks:
 
 
 def bounds(module, info, words, statements_of):
-    """The member `bounds`, given the member `info` of the answer and what walks the statements of a body."""
+    """Returns the member `bounds`, given the member `info` of the answer and what walks the statements of a body."""
     policies = policies_of(words)
     sizes = Checks(module, None, {"expressions": []}, policies)
     for it in module["types"]:

@@ -29,7 +29,7 @@ QUERIES = {"ImageNumLevels": "NumLevels", "ImageNumLayers": "NumLayers", "ImageN
 
 
 def literal(clause):
-    """A literal: 0 or false where nothing stands behind the name."""
+    """Returns a literal: 0 or false where nothing stands behind the name."""
     name = clause.name.removeprefix("Literal") or "U32"
     word = clause.word(0) if clause.has(0) else "false" if name == "Bool" else "0"
     clause.most(1)
@@ -58,7 +58,7 @@ def derivative(clause):
 
 
 def sample(clause):
-    """An image, a sampler, a coordinate and what the level needs."""
+    """Returns the fields of a sample: an image, a sampler, a coordinate, what the level needs, and the options."""
     name = clause.name.removeprefix("Sample")
     found = clause.fields("image", "sampler", "coordinate", *LEVELS[name])
     given = [found.pop(it) for it in LEVELS[name]]
@@ -75,7 +75,7 @@ def tile(clause, first):
 
 
 def cooperative_load(clause):
-    """A matrix of 8 by 8 and role A where no option says otherwise."""
+    """Returns the fields of a cooperative load: a matrix of 8 by 8 and role A where no operand says otherwise."""
     sizes = [it for it in clause.operands if "x" in it] or ["8x8"]
     roles = [it for it in clause.operands if it in "abc"] or ["a"]
     columns, rows = (SIZES[int(it)] for it in sizes[0].split("x"))
@@ -84,7 +84,7 @@ def cooperative_load(clause):
 
 
 def operation(clause):
-    """The operation on operands, None where it is none."""
+    """Returns the operation on operands that the clause tells, None where it tells none."""
     name = clause.name
     if name in UNARY:
         return {"Unary": {"op": name, **clause.fields("expr")}}
@@ -100,7 +100,7 @@ def operation(clause):
 
 
 def of_image(clause):
-    """The expression of an image that the clause tells, None where it tells none."""
+    """Returns the expression of an image that the clause tells, None where it tells none."""
     name = clause.name
     if name.removeprefix("Sample") in LEVELS and name.startswith("Sample"):
         return {"ImageSample": sample(clause)}
@@ -113,7 +113,7 @@ def of_image(clause):
 
 
 def composed(clause):
-    """The expression with operands of several kinds that the clause tells, None where it tells none."""
+    """Returns the expression with operands of several kinds that the clause tells, None where it tells none."""
     name = clause.name
     if name == "Compose":
         return {name: {"ty": clause.ty(0), "components": [clause.number(it) for it in range(1, len(clause.operands))]}}
@@ -127,7 +127,7 @@ def composed(clause):
 
 
 def expression(clause):
-    """The expression that the clause tells, None where it tells none."""
+    """Returns the expression that the clause tells, None where it tells none."""
     name = clause.name
     if re.fullmatch(r"Literal([A-Z]\w*)?", name):
         return {"Literal": literal(clause)}

@@ -10,12 +10,12 @@ GROUP = 10
 
 
 def binary(op, left, right):
-    """An operation on two expressions."""
+    """Returns an operation on two expressions."""
     return {"Binary": {"op": op, "left": left, "right": right}}
 
 
 def math(fun, first, second):
-    """A call of a built-in function on two expressions."""
+    """Returns a call of a built-in function on two expressions."""
     return {"Math": {"fun": fun, "arg": first, "arg1": second, "arg2": None, "arg3": None}}
 
 
@@ -28,7 +28,7 @@ LAST = {
 
 
 def group(mix, at):
-    """The ten expressions of a group whose first is at a place."""
+    """Returns the ten expressions of a group whose first is at a place."""
     scalar, vector, total, test = at, at + 1, at + 2, at + 4
     return [
         {"Literal": {"F32": 0}},
@@ -44,7 +44,7 @@ def group(mix, at):
 
 
 def function(expressions, body, arguments=(), result=None):
-    """A function; each argument and the result is the handle of a type."""
+    """Returns a function; each argument and the result is the handle of a type."""
     return {
         "arguments": [{"ty": it} for it in arguments],
         "result": None if result is None else {"ty": result},
@@ -56,7 +56,7 @@ def function(expressions, body, arguments=(), result=None):
 
 
 def module(functions=(), types=(), global_variables=(), diagnostic_filters=()):
-    """A module as text."""
+    """Returns a module as text."""
     empty = {name: [] for name in ("constants", "overrides", "global_expressions", "entry_points")}
     return json.dumps(
         {
@@ -71,7 +71,7 @@ def module(functions=(), types=(), global_variables=(), diagnostic_filters=()):
 
 
 def emits(count):
-    """A body that emits so many expressions in groups, every second group in a block of its own."""
+    """Returns a body that emits so many expressions in groups, every second group in a block of its own."""
     body = []
     for at in range(0, count, GROUP):
         emit = {"Emit": {"start": at, "end": min(at + GROUP, count)}}
@@ -80,28 +80,28 @@ def emits(count):
 
 
 def of_expressions(mix, count):
-    """A function of so many expressions."""
+    """Returns a function of so many expressions."""
     expressions = [it for at in range(0, count, GROUP) for it in group(mix, at)][:count]
     return function(expressions, emits(len(expressions)))
 
 
 def one_function(mix):
-    """What makes a module of one function of a mix."""
+    """Returns what makes a module of one function of a mix."""
     return lambda size: module([of_expressions(mix, size)])
 
 
 def functions_of(count):
-    """What makes a module of functions that have so many expressions each, and as many expressions in all as is asked for."""
+    """Returns what makes a module of functions that have so many expressions each, and as many expressions in all as is asked for."""
     return lambda size: module([of_expressions("without_lists", count)] * (size // count))
 
 
 def calls(callee, result=None):
-    """A call of a function, whose result is an expression where one is given."""
+    """Returns a call of a function, whose result is an expression where one is given."""
     return {"Call": {"function": callee, "arguments": [], "result": result}}
 
 
 def chained_calls(size):
-    """Functions of which each gives back the sum of a number and of what the one before gives back."""
+    """Returns a module of functions of which each gives back the sum of a number and of what the one before gives back."""
     first = function([{"Literal": {"U32": 1}}], [{"Return": {"value": 0}}], result=0)
     expressions = [{"Literal": {"U32": 1}}, None, binary("Add", 0, 1)]
 
@@ -113,19 +113,19 @@ def chained_calls(size):
 
 
 def condition(_size):
-    """A function whose first expression is a condition, for blocks that the program nests."""
+    """Returns a module of a function whose first expression is a condition, for blocks that the program nests."""
     return module([function([{"Literal": {"Bool": True}}], [])])
 
 
 def shares(size):
-    """So many loads of one local variable, each stored again."""
+    """Returns the expressions and the body of so many loads of one local variable, each stored again."""
     expressions = [{"LocalVariable": 0}, {"Literal": {"F32": 0}}, *({"Load": {"pointer": 0}} for _ in range(size))]
     steps = [({"Emit": {"start": it, "end": it + 1}}, {"Store": {"pointer": 0, "value": it}}) for it in range(2, size + 2)]
     return expressions, [{"Store": {"pointer": 0, "value": 1}}, *(step for pair in steps for step in pair)]
 
 
 def shared_local(size, loops=0):
-    """A function of those, within so many loops in one another, each of one round."""
+    """Returns a module of a function with so many loads and stores of one local variable, within so many nested loops of one round each."""
     expressions, body = shares(size)
     for _ in range(loops):
         body = [{"Loop": {"body": [*body, "Break"], "continuing": [], "break_if": None}}]
@@ -138,7 +138,7 @@ def looped_local(size):
 
 
 def chained_locals(size):
-    """So many local variables in a Loop, each of which is given what the one behind it holds, and the last of all an argument."""
+    """Returns a module of so many local variables in a Loop, each given what the one behind it holds, and the last of all an argument."""
     variables = [{"LocalVariable": it} for it in range(size)]
     loads = [{"Load": {"pointer": it + 2}} for it in range(size - 1)]
     steps = [({"Emit": {"start": it, "end": it + 1}}, {"Store": {"pointer": it - size, "value": it}}) for it in range(size + 1, 2 * size)]
@@ -148,17 +148,17 @@ def chained_locals(size):
 
 
 def variable(ty, space):
-    """A global of a type in a space."""
+    """Returns a global of a type in a space."""
     return {"space": space, "ty": ty}
 
 
 def storage(ty):
-    """A global of a type in a storage buffer."""
+    """Returns a global of a type in a storage buffer."""
     return variable(ty, {"Storage": {"access": "LOAD | STORE"}})
 
 
 def globals_by_functions(size):
-    """Ten times as many globals as functions, of which each reads one, writes another and calls the one before."""
+    """Returns a module of ten times as many globals as functions, of which each reads one, writes another and calls the one before."""
 
     def one(at):
         expressions = [{"GlobalVariable": 10 * at}, {"GlobalVariable": 10 * at + 5}, {"Load": {"pointer": 0}}]
@@ -169,7 +169,7 @@ def globals_by_functions(size):
 
 
 def globals_by_calls(size):
-    """As many globals as calls of one function, which reads the first."""
+    """Returns a module of as many globals as calls of one function, which reads the first."""
     callee = function([{"GlobalVariable": 0}, {"Load": {"pointer": 0}}], [{"Emit": {"start": 1, "end": 2}}])
     return module([callee, function([], [calls(0)] * size)], [{"Scalar": UINT}], [storage(0)] * size)
 
@@ -196,7 +196,7 @@ def pairs_up_callers(size):
 
 
 def filters_by_functions(size):
-    """A chain of filters of another rule, and as many functions under the last of them."""
+    """Returns a module of a chain of filters of another rule, and as many functions under the last of them."""
     rule = {"User": ["a", "b"]}
     filters = [
         {"inner": {"new_severity": "Off", "triggering_rule": rule}, "parent": None if it == 0 else it - 1} for it in range(size)
@@ -205,14 +205,14 @@ def filters_by_functions(size):
 
 
 def cases(size):
-    """A switch of so many empty cases."""
+    """Returns a module with a switch of so many empty cases."""
     each = [{"value": {"U32": it}, "body": [], "fall_through": False} for it in range(size)]
     last = {"value": "Default", "body": [], "fall_through": False}
     return module([function([{"Literal": {"U32": 1}}], [{"Switch": {"selector": 0, "cases": [*each, last]}}])])
 
 
 def all_types(size):
-    """So many types: scalars and vectors, then arrays, pointers and structs over earlier types."""
+    """Returns a module of so many types: scalars, vectors and matrices, and pointers, arrays and structs over earlier types."""
     texts, found = set(), []
     for place in range(4 * size):
         inner = type_at(place)
@@ -224,7 +224,7 @@ def all_types(size):
 
 
 def type_at(place):
-    """The type of a place, over one of the half of it."""
+    """Returns the type of a place, over the one of half that place."""
     base = place // 2
     return [
         {"Scalar": FLOAT},
@@ -239,7 +239,7 @@ def type_at(place):
 
 
 def leaves():
-    """What is compared and converted: scalars, vectors, matrices and a pointer over each."""
+    """Returns a module of what is compared and converted: scalars, and a vector, a matrix and a pointer over each."""
     found = []
     for scalar in (FLOAT, ABSTRACT[0], UINT, ABSTRACT[1]):
         found.append({"Scalar": scalar})

@@ -24,7 +24,7 @@ TOKEN = re.compile(r"'[^']*'|\S+")
 
 
 def tokens(text):
-    """The words of a text, among which ; { and } stand by themselves but inside of types."""
+    """Returns the words of a text, which blanks outside of quotes separate, as they do { and }; a ; outside of types stands by itself."""
     words = []
     for word in TOKEN.findall(text):
         start = depth = 0
@@ -84,7 +84,7 @@ class Clause:
         return self.types.mentioned(self.word(place))
 
     def fields(self, *names, first=0):
-        """The operands from a place on by their names: a type where that is ty, absent or a number where it ends in ?, an option with !."""
+        """Returns the operands from a place on by name: a type where it is ty, absent or a number where it ends in ?, an option with !."""
         found, place = {}, first
         for name in names:
             if name.endswith("!"):
@@ -100,7 +100,7 @@ class Clause:
 
 
 def clauses(words, types):
-    """The clauses of a part, and the braces between them."""
+    """Yields the clauses of a part, and the braces between them."""
     clause = None
     for word in words:
         if word in "{}" or (word[0].isupper() and word not in ("AbstractInt", "AbstractFloat")):
@@ -130,7 +130,7 @@ def global_of(clause):
 
 
 def predeclared(clause):
-    """The argument of a built-in function that gives two values."""
+    """Returns the argument of a built-in function that gives two values, under the name of its result."""
     word = clause.word(0)
     if word.startswith("vec"):
         return {clause.name: values(*parts(word))["Vector"]}
@@ -243,7 +243,7 @@ class Function:
 
 
 def module_of(text):
-    """The module that the text tells, as JSON's objects."""
+    """Returns the module that the text tells, as JSON's objects."""
     try:
         return Module().read(text)
     except (IndexError, KeyError, ValueError) as error:

@@ -17,7 +17,7 @@ TRUE = {"Literal": {"Bool": True}}
 
 
 def module_of(**fields):
-    """A module that is empty but for these fields."""
+    """Returns a module that is empty but for these fields."""
     lists = ("types", "constants", "overrides", "global_variables", "global_expressions", "functions", "entry_points", "diagnostic_filters")
     return {**{name: [] for name in lists}, "special_types": {"predeclared_types": {}}, **fields}
 
@@ -27,12 +27,12 @@ def function_of(expressions):
 
 
 def refusal_of(error, name):
-    """The refusal of expression 1 of function 0 for operands that its operation doesn't take, by the operation's name."""
+    """Returns the refusal of expression 1 of function 0 for operands that its operation doesn't take, by the operation's name."""
     return {"place": {"Function": 0}, "cause": {"Expression": {"handle": 1, "error": {"ResolveError": {error: name}}}}}
 
 
 def refused(functions):
-    """Operations on what none of them takes: the name of each, its module and its refusal. No built-in function takes a bool."""
+    """Yields operations on what none of them takes: the name of each, its module and its refusal. No built-in function takes a bool."""
     for name in functions:
         call = {"Math": {"fun": name, "arg": 0}}
         yield name, module_of(functions=[function_of([TRUE, call])]), refusal_of("BuiltinArgumentsInvalid", name)
@@ -44,13 +44,13 @@ def refused(functions):
 
 
 def scalar_of(name):
-    """What a texel of the storage format is made of."""
+    """Returns what a texel of the storage format is made of."""
     kind = next((kind for kind in INTEGERS if name.endswith(kind)), "Float")
     return {"kind": kind, "width": 8 if name == "R64Uint" else 4}
 
 
 def loads():
-    """A module that loads from an image of each storage format, and of each load its name, its expression and its type."""
+    """Returns a module that loads from an image of each storage format, and of each load its name, its expression and its type."""
     images = [{"Image": {"dim": "D1", "arrayed": False, "class": {"Storage": {"format": name, "access": "LOAD"}}}} for name in FORMATS]
     expressions, wanted = [{"Literal": {"I32": 0}}], []
     for place, name in enumerate(FORMATS):
@@ -63,7 +63,7 @@ def loads():
 
 
 def logical():
-    """The same of what makes a bool of two."""
+    """Returns a module with the operations that make a bool of two, and of each its name, its expression and its type."""
     operations = [{"Binary": {"op": name, "left": 0, "right": 0}} for name in ("LogicalAnd", "LogicalOr")]
     wanted = {"Value": {"Scalar": {"kind": "Bool", "width": 1}}}
     module = module_of(functions=[function_of([TRUE, *operations])])

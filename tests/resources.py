@@ -126,7 +126,7 @@ class Resources:
             yield {"name": it.get("name"), "id": it.get("id"), **self.typed(it["ty"]), "default": self.default(it.get("init"))}
 
     def value(self, name, ty, binding):
-        """What is bound: a value, or each member of a struct."""
+        """Returns what is bound: a value, or each member of a struct."""
         inner = self.module["types"][ty]["inner"]
         if "Struct" in inner:
             return [self.bound(of.get("name"), of["ty"], of.get("binding")) for of in inner["Struct"]["members"]]
@@ -229,7 +229,7 @@ class Lines:
             yield f"  {way} {told}{self.typed(of)}"
 
     def positions(self, ty, position):
-        """The numbers of the values that one of this type is bound as."""
+        """Returns the numbers of the values that one of this type is bound as."""
         inner = self.module["types"][ty]["inner"]
         return range(len(inner["Struct"]["members"])) if "Struct" in inner else [position]
 
@@ -305,7 +305,7 @@ def entry_point(name, arguments=(), result=None, overrides=None):
 
 
 def hostile():
-    """Each name where one may stand, and two bindings at the ends of 32 bits."""
+    """Returns a module with each hostile name where one may stand, and with a group and a binding at the ends of 32 bits."""
     types = [named(None, FLOAT), *(named(name, struct(4, (name, 0, 0, None))) for name in HOSTILE)]
     variables = [variable(name, at, "Uniform", (0, (1 << 32) - 1)) for at, name in enumerate(HOSTILE, 1)]
     overrides = [{"name": name, "id": 65535, "ty": 0, "init": None} for name in HOSTILE]
@@ -315,12 +315,12 @@ def hostile():
 
 
 def empty():
-    """A struct without members, and no entry point."""
+    """Returns a module with two structs without members, and no entry point."""
     return module([named("Empty", struct(0)), named(None, struct(0))], [variable(None, 0, "Uniform", (1, 2)), variable("e", 1)])
 
 
 def nested():
-    """Arrays of structs in one another, sized by a number, by an override and at run time, and arrays 20 deep."""
+    """Returns a module with arrays of structs in one another, sized by a number, by an override and at run time, and arrays 20 deep."""
     types = [named(None, FLOAT), named("Inner", struct(8, ("a", 0, 0, None), ("b", 0, 4, None))), named(None, array(1, {"Constant": 3}, 8))]
     types += [named("Outer", struct(32, ("inners", 2, 0, None), (None, 0, 24, None))), named(None, array(3, {"Constant": 2}, 32))]
     types += [named(None, array(4, {"Pending": 0}, 64)), named(None, array(4, {"Pending": 1}, 64)), named(None, array(4, "Dynamic", 64))]
@@ -335,7 +335,7 @@ def nested():
 
 
 def kinds():
-    """Types of each kind that a global may have, with all their words."""
+    """Returns a module with types of each kind that a global of the space Handle may have, with all their words."""
     texel = {"kind": "Sint", "multi": False}
     classes = [{"Sampled": texel}, {"Sampled": {"kind": "Float", "multi": True}}, {"Depth": {"multi": False}}, {"Depth": {"multi": True}}]
     classes += ["External", {"Storage": {"format": "Rg11b10Ufloat", "access": "LOAD | STORE"}}]
@@ -348,7 +348,7 @@ def kinds():
 
 
 def many():
-    """10,000 globals, and an entry point that uses none of them."""
+    """Returns a module with 10,000 globals, and an entry point that uses none of them."""
     return module([named(None, FLOAT)], [variable(f"g{at}", 0, "Private") for at in range(10_000)], (), (), [entry_point("main")])
 
 

@@ -22,7 +22,7 @@ CASE = re.compile(r"(Falling)?(Case|CaseU32|CaseI32|Default)")
 
 
 def atomic(clause):
-    """An atomic statement on memory or on an image."""
+    """Returns an atomic statement on memory or on an image."""
     on_image, fun = ATOMIC.fullmatch(clause.name).groups()
     compare = ["compare?"] if fun == "Exchange" else []
     names = ["image", "coordinate", "value", "array_index?"] if on_image else ["pointer", "value", "result"]
@@ -38,7 +38,7 @@ def call(clause):
 
 
 def ray_query(clause):
-    """A step of a ray query: the query, and what the step needs."""
+    """Returns a step of a ray query: the query, and what the step needs."""
     name = clause.name
     found = clause.fields("query", *RAY_QUERY[name].split())
     query = found.pop("query")
@@ -46,7 +46,7 @@ def ray_query(clause):
 
 
 def subgroup(clause):
-    """The statement of a subgroup that the clause tells, None where it tells none."""
+    """Returns the statement of a subgroup that the clause tells, None where it tells none."""
     name = clause.name
     if name == "BroadcastFirst" or name in SWAPS:
         mode = {"QuadSwap": SWAPS[name]} if name in SWAPS else name
@@ -62,7 +62,7 @@ def subgroup(clause):
 
 
 def other(clause):
-    """The statement with operands of several kinds that the clause tells, None where it tells none."""
+    """Returns the statement with operands of several kinds that the clause tells, None where it tells none."""
     name = clause.name
     if name == "CooperativeStore":
         return {name: {"target": clause.number(0), "data": tile(clause, 1)}}
@@ -76,7 +76,7 @@ def other(clause):
 
 
 def statement(clause):
-    """The statement without blocks that the clause tells, None where it tells none."""
+    """Returns the statement without blocks that the clause tells, None where it tells none."""
     name = clause.name
     if name in UNITS:
         clause.most(0)
@@ -114,13 +114,13 @@ class Blocks:
             self.open.pop()
 
     def last(self, name, head):
-        """What the statement before has, which has to be of this name."""
+        """Returns what the statement before has, which has to be of this name."""
         last = self.open[-1][-1] if self.open[-1] else None
         need(isinstance(last, dict) and name in last, f"{head} stands behind no {name}")
         return last[name]
 
     def begun(self, head):
-        """The block that the head begins, empty, where it belongs."""
+        """Adds the block that the head begins, empty, where it belongs, and returns it."""
         name, within, block = head.name, self.open[-1], []
         if name == "Block":
             within.append({"Block": block})

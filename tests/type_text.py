@@ -34,7 +34,7 @@ def number(word):
 
 
 def split(text, mark=","):
-    """The parts of a text between marks that stand outside of all brackets."""
+    """Returns the parts of a text between marks that stand outside of all brackets."""
     parts, depth = [""], 0
     for letter in text:
         depth += (letter in "<{") - (letter in ">}")
@@ -56,7 +56,7 @@ def scalar(word):
 
 
 def flags(word):
-    """Flags from +A+B."""
+    """Returns the flags A | B from +A+B."""
     need(word.startswith("+"), f"{word} isn't of flags")
     return " | ".join(word[1:].split("+")) if word != "+" else ""
 
@@ -73,20 +73,20 @@ def space(word, flag_words):
 
 
 def binding(word):
-    """A binding from @location3 or @Position, without its first letter."""
+    """Returns a binding from @location3 or @Position, without its first letter."""
     located = re.fullmatch(r"location(\d+)", word)
     return {"Location": {"location": int(located[1])}} if located else {"BuiltIn": BUILTINS.get(word, word)}
 
 
 def storage_format(word):
-    """The name of a storage format, as Rgba8Sint, from its lower-case letters."""
+    """Returns the name of a storage format, as Rgba8Sint, from its lower-case letters."""
     found = FORMAT.fullmatch(word)
     need(found, f"{word} is no storage format")
     return "".join(it.capitalize() for it in found.groups())
 
 
 def image(word, given):
-    """The image of this name, with what stands between its brackets."""
+    """Returns the image of this name, with what stands between its brackets."""
     if word == "texture_external":
         return {"Image": {"dim": "D2", "arrayed": False, "class": "External"}}
     found = IMAGE.fullmatch(word)
@@ -105,7 +105,7 @@ def image(word, given):
 
 
 def values(word, given):
-    """What is made of scalars alone, None for what isn't."""
+    """Returns what is made of scalars alone, a sampler, an acceleration structure or a ray query, None for what is none of these."""
     matrix = re.fullmatch(r"(coop_)?mat(\d+)x(\d+)", word)
     if matrix:
         columns, rows = (SIZES[int(it)] for it in matrix.groups()[1:])
@@ -128,7 +128,7 @@ def value_pointer(where, pointed, *flag_words):
 
 
 def parts(text):
-    """The name of a type and what stands between its brackets."""
+    """Returns the name of a type and what stands between its brackets."""
     name, opened, inside = text.partition("<")
     need(not opened or inside.endswith(">"), f"{text} lacks its end")
     return name, split(inside[:-1])
@@ -145,7 +145,7 @@ class Types:
         self.items = []
 
     def layout(self, handle):
-        """The size and the alignment of a type, 0 and 1 of what has none."""
+        """Returns the size and the alignment of a type, 0 and 1 of what has none."""
         (kind, held), = self.items[handle]["inner"].items() if handle < len(self.items) else ((None, None),)
         if kind in ("Scalar", "Atomic"):
             return held["width"], held["width"]
@@ -185,7 +185,7 @@ class Types:
         return {"Struct": {"members": [self.member(it) for it in split(members)], "span": number(span)}}
 
     def inner(self, text):
-        """The type that a text is, once those that it names are there."""
+        """Returns the type that a text is, once those that it names are there."""
         if text.startswith("struct{"):
             return self.struct(text)
         if text in SCALARS or text.startswith("scalar<"):
@@ -203,7 +203,7 @@ class Types:
         self.items.append({"name": name, "inner": self.inner(text)})
 
     def mentioned(self, text):
-        """The handle of the type that the text names, which is added where it isn't there."""
+        """Returns the handle of the type that the text names, which is added where it isn't there."""
         if text.isdecimal():
             return int(text)
         if text.startswith("#"):

@@ -10,7 +10,7 @@ UNRECORDED = "AtomicCompareExchangeWeakResult"
 
 
 def is_covered(written, read, name=None):
-    """Whether each member of a value that is written stands in the one of this name that was read, where null may be absent."""
+    """Returns whether each member of a value that is written stands in the one of this name that was read, where null may be absent."""
     if name in FLOATS and isinstance(written, (int, float)):
         return isinstance(read, (int, float)) and struct.pack(FLOATS[name], written) == struct.pack(FLOATS[name], read)
     if written == OTHER_RULE:
