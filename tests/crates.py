@@ -27,7 +27,7 @@ def listed():
     uses = {name: [it for it in re.findall(r"\w+", row.partition(":")[2]) if it in rows] for name, row in rows.items()}
 
     def below(name):
-        """The crates that it names and those below them, each once and before those that use it."""
+        """Returns the crates that it names and those below them, each once and before those that use it."""
         found = []
         for use in uses[name]:
             found += [it for it in (*below(use), use) if it not in found]
@@ -120,7 +120,7 @@ class Edit:
 
     def __init__(self, path, crate):
         self.name, self.path, self.control = path.stem, path, ""
-        self.file, self.pairs, self.asks, old = "", [], [], ""
+        self.file, self.pairs, self.asks, old = "", [], [], None
         for line in path.read_text().splitlines():
             word, _, text = line.partition(": ")
             if word == "file":
@@ -129,10 +129,15 @@ class Edit:
                 self.asks.append(text)
             elif word == "control":
                 self.control = text
-            elif word == "old":
+            elif word == "old" and old is None:
                 old = text
-            elif word == "new":
+            elif word == "new" and old is not None:
                 self.pairs.append((old, text))
+                old = None
+            elif line.strip():
+                raise ValueError(f"{path}: `{line}` is no line of an edit, or not at its place")
+        if old is not None:
+            raise ValueError(f"{path}: the last text has no new one")
         text = (crate / self.file).read_text()
         self.fits = self.fits_in(text)
         lines = text.split("\n")
