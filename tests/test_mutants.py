@@ -9,8 +9,8 @@ named after it with 'without' is of it without the answers that failed, and 'rig
 import sys
 import unittest
 
-from chosen import PARTS, Choice, commit_before, names_in, part_of
-from crates import TOP
+from chosen import PARTS, Choice, commit_before, files_in, names_in, parts_of
+from crates import TOP, listed
 from verdicts import Said, clause_of, without
 
 SAMPLES = TOP / "tests/samples/mutants"
@@ -133,9 +133,16 @@ class Chosen(unittest.TestCase):
         self.assertEqual(names_in("# a\n\nb/c\n"), {"b/c"})
 
     def test_parts(self):
-        """Tries all edits in eight commits in a row, and the same on every machine."""
-        self.assertEqual({part_of("shader_arena", f"edit_{it}") for it in range(200)}, set(range(PARTS)))
-        self.assertEqual([part_of("shader_arena", it) for it in ("a", "b", "c")], [7, 1, 3])
+        """Tries all crates in eight commits in a row."""
+        self.assertEqual(parts_of("# a: b\n\nc: d e\nf\n"), {"c": 0, "f": 1})
+        parts = parts_of((TOP / "crates.txt").read_text())
+        self.assertEqual((parts.keys(), set(parts.values())), (listed().keys(), set(range(PARTS))))
+
+    def test_files(self):
+        """Finds the files of which code or a definition changed, was added or is gone, and none that changed in comments alone."""
+        told = ["--- a/code", "+++ b/code", "@@ -1 +1 @@", "<old", ">// new", "--- a/said", "+++ b/said", "<    /// old", ">-- new", ">"]
+        told += ["--- /dev/null", "+++ b/new", ">line", "--- a/gone", "+++ /dev/null", "<line"]
+        self.assertEqual(files_in(told), {"code", "new", "gone"})
 
     def test_since(self):
         """Finds the newest commit that is a day older, and none in a history that is shorter."""
