@@ -86,17 +86,43 @@ fn describe_rules(
     requires { rules_in left.now ≢ [] }
 {
     let mut text = String::new(alloc);
-    let rules = left.overload_list(alloc, ctx)?;
-    let least = left.min_arguments();
-    let greatest = left.max_arguments();
-    let rules = RulesText(rules.as_slice());
-    write!(text, "{rules} | {least}..{greatest}")?;
-    for i in 0..=greatest {
-        let allowed = left.allowed_args(alloc, i, ctx)?;
-        write!(text, " |")?;
-        if !allowed.is_empty() {
-            write!(text, " {}", ArgumentsText(allowed.as_slice()))?;
-        }
+    add_rules(alloc, &mut text, left, ctx)?;
+    for i in 0..=left.max_arguments() {
+        add_allowed(alloc, &mut text, left, i, ctx)?;
     }
     Ok(text)
+}
+
+/// Adds the rules of a set that isn't empty, and the counts of their arguments.
+fn add_rules(
+    alloc: Global,
+    text: &mut String,
+    left: &AnyOverloadSet,
+    ctx: GlobalCtx<'_>,
+) -> Result<(), AllocError>
+    requires { rules_in left.now ≢ [] }
+{
+    let least = left.min_arguments();
+    let greatest = left.max_arguments();
+    let rules = left.overload_list(alloc, ctx)?;
+    write!(
+        text,
+        "{} | {least}..{greatest}",
+        RulesText(rules.as_slice())
+    )
+}
+
+/// Adds the types that the rules of a set allow at an argument.
+fn add_allowed(
+    alloc: Global,
+    text: &mut String,
+    left: &AnyOverloadSet,
+    i: usize,
+    ctx: GlobalCtx<'_>,
+) -> Result<(), AllocError> {
+    let allowed = left.allowed_args(alloc, i, ctx)?;
+    if allowed.is_empty() {
+        return write!(text, " |");
+    }
+    write!(text, " | {}", ArgumentsText(allowed.as_slice()))
 }
