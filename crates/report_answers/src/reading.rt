@@ -1,16 +1,19 @@
 //! What a report reads of its input, which needn't be there afterwards.
-ghost use Rattle.std.specs.Prelude.{◌≡◌, IfOk, false};
+ghost use Rattle.std.specs.Prelude.{◌≡◌, IfOk, Some, false};
+ghost use Rattle.std.specs.Str.{IsUtf8};
+ghost use Rattle.json.specs.Json.{document};
 ghost use Rattle.json.specs.Value.{value_view};
 ghost use Rattle.report_answers.specs.Reading.{IsReading};
 ghost use Rattle.shader_json_module.specs.Parts.{AreModuleParts};
+ghost use Rattle.shader_json_reader.specs.Errors.{IsAccurate};
 
 use crate::members::Extras;
 use crate::options::Options;
 use crate::progress::{Progress, Stage};
 use crate::reports::Report;
-use json::Scratch;
+use json::{Scratch, Value};
 use shader_ir::Module;
-use shader_json_module::{ModuleParts, parse_bytes, read_parts, read_value};
+use shader_json_module::{ModuleParts, ReadError, parse_bytes, read_parts, read_value};
 use std::alloc::{AllocError, Global};
 
 /// A module that was read, and what the report on it has beside the analysis.
@@ -43,28 +46,67 @@ impl Reading {
         ensures { IfOk result (λ reading. IsReading options input.now reading) }
     {
         let ModuleParts { module, rest } = parts;
-        let extras = Extras::of(alloc, options, &rest, &module)?;
-        Ok(Reading::Module(ReadModule { module, extras }))
+        let extras = Extras::of(alloc, options, &rest, &module);
+        drop(rest);
+        match extras {
+            Ok(extras) => Ok(Reading::Module(ReadModule { module, extras })),
+            Err(error) => {
+                drop(module);
+                Err(error)
+            }
+        }
+    }
+
+    /// Returns the reading of an input from which no module can be read, for the reason.
+    fn of_error(
+        alloc: Global,
+        options: Options,
+        input: &[u8],
+        error: &ReadError,
+    ) -> Result<Reading, AllocError>
+        requires { IsAccurate input.now error.now }
+        ensures { IfOk result (λ reading. IsReading options input.now reading) }
+    {
+        let report = Report::on_error(alloc, options, input, error)?;
+        Ok(Reading::Refused(report))
+    }
+
+    /// Reads the JSON value of an input.
+    #[tactic(auto, using(crate::proofs::ReadingLemmas::whole_read))]
+    fn of_value(
+        alloc: Global,
+        options: Options,
+        input: &[u8],
+        root: &Value<'_>,
+    ) -> Result<Reading, AllocError>
+        requires utf8 { IsUtf8 input.now }
+        requires parses { document input.now ≡ Some (value_view root.now) }
+        ensures { IfOk result (λ reading. IsReading options input.now reading) }
+    {
+        match read_value(alloc, root) {
+            Ok(module) => match Extras::of(alloc, options, root, &module) {
+                Ok(extras) => Ok(Reading::Module(ReadModule { module, extras })),
+                Err(error) => {
+                    drop(module);
+                    Err(error)
+                }
+            },
+            Err(error) => Reading::of_error(alloc, options, input, &error),
+        }
     }
 
     /// Reads an input as one JSON value.
-    #[tactic(auto, using(crate::proofs::ReadingLemmas::whole_read, crate::proofs::ReadingLemmas::no_module_read))]
     fn of_whole(alloc: Global, options: Options, input: &[u8]) -> Result<Reading, AllocError>
         ensures { IfOk result (λ reading. IsReading options input.now reading) }
     {
         let mut scratch = Scratch::new(alloc);
-        let root = match parse_bytes(alloc, input, &mut scratch) {
-            Ok(root) => root,
-            Err(error) => {
-                return Ok(Reading::Refused(Report::on_error(alloc, options, input, &error)?));
+        match parse_bytes(alloc, input, &mut scratch) {
+            Ok(root) => {
+                let reading = Reading::of_value(alloc, options, input, &root);
+                drop(root);
+                reading
             }
-        };
-        match read_value(alloc, &root) {
-            Ok(module) => {
-                let extras = Extras::of(alloc, options, &root, &module)?;
-                Ok(Reading::Module(ReadModule { module, extras }))
-            }
-            Err(error) => { Ok(Reading::Refused(Report::on_error(alloc, options, input, &error)?)) }
+            Err(error) => Reading::of_error(alloc, options, input, &error),
         }
     }
 
