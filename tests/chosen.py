@@ -1,10 +1,10 @@
 """Chooses which edits of crates/*/wrong-bodies a run tries, by what git tells of the commit.
 
-Those of a crate are all tried where its src/ or specs/ changed since the newest commit that is a day older than HEAD, by more than
-comments, and so is an edit that changed itself. Of the other crates every eighth is tried, in the order of crates.txt: the number of
-commits on HEAD tells where that begins, so that any eight commits in a row try all. A crate's edits are tried together, since each check
-first reads all that is below it. Those in tests/mutants-always.txt are tried in every run. Where git doesn't tell, as in a clone without
-the history, all are.
+Those of a crate are all tried where its src/ or specs/ changed since the newest commit that is a day older than HEAD, and so is an edit
+that changed itself. Of the other crates every eighth is tried, in the order of crates.txt: the number of commits on HEAD tells where that
+begins, so that eight commits in a row try all, as long as no crate changes its place there. A crate's edits are tried together, since each
+check first reads all that is below it. Those in tests/mutants-always.txt are tried in every run. Where git doesn't tell, as in a clone
+without the history, all are.
 """
 import re
 import subprocess
@@ -16,17 +16,12 @@ PARTS = 8
 LATELY = 24 * 60 * 60
 SOURCE = re.compile(r"crates/(\w+)/(?:src|specs)/")
 EDIT = re.compile(r"crates/(\w+)/wrong-bodies/(\w+)\.edit")
-# A line of code or of definitions that says nothing to the prover.
-COMMENT = re.compile(r"\s*(//|--|$)")
-# A diff whose lines can't be taken for its headers, whatever is set for git.
-DIFF = ("diff", "--no-renames", "--no-ext-diff", "--no-color", "--unified=0", "--src-prefix=a/", "--dst-prefix=b/")
-DIFF += ("--output-indicator-old=<", "--output-indicator-new=>")
 
 
 def git(*words):
     """Returns the lines that a command of git prints, None where it fails."""
     try:
-        ran = subprocess.run(["git", *words], cwd=TOP, capture_output=True, text=True, errors="replace")
+        ran = subprocess.run(["git", *words], cwd=TOP, capture_output=True, text=True)
     except OSError:
         return None
     return ran.stdout.splitlines() if ran.returncode == 0 else None
@@ -37,17 +32,6 @@ def commit_before(lines, seconds=LATELY):
     rows = [(int(time), name) for name, _, time in (it.partition(" ") for it in lines)]
     found = [it for it in rows if it[0] <= rows[0][0] - seconds]
     return max(found, key=lambda it: it[0])[1] if found else None
-
-
-def files_in(lines):
-    """Returns the files that a diff changes by more than comments and empty lines."""
-    found, file = set(), None
-    for line in lines:
-        if line.startswith(("--- a/", "+++ b/")):
-            file = line[len("--- a/") :]
-        elif line.startswith(("<", ">")) and not COMMENT.match(line[1:]):
-            found.add(file)
-    return found
 
 
 def parts_of(text):
@@ -67,10 +51,9 @@ class Choice:
         self.crates, self.always = set(crates), names_in(ALWAYS.read_text())
         lines = (git("log", "--format=%H %ct") if not crates and not is_all else None) or []
         self.since = commit_before(lines) if lines else None
-        changes = git(*DIFF, self.since, "--", "crates") if self.since else None
-        others = git("ls-files", "--others", "--exclude-standard")
-        self.takes_all = changes is None or others is None
-        files = set() if self.takes_all else files_in(changes).union(others)
+        told = [git("diff", "--name-only", self.since), git("ls-files", "--others", "--exclude-standard")] if self.since else []
+        self.takes_all = self.since is None or None in told
+        files = [it for of in told for it in of or ()]
         self.parts, self.turn = parts_of((TOP / "crates.txt").read_text()), len(lines) % PARTS
         self.changed = {it[1] for it in map(SOURCE.match, files) if it}
         self.edits = {f"{it[1]}/{it[2]}" for it in map(EDIT.match, files) if it}

@@ -9,7 +9,7 @@ named after it with 'without' is of it without the answers that failed, and 'rig
 import sys
 import unittest
 
-from chosen import PARTS, Choice, commit_before, files_in, names_in, parts_of
+from chosen import PARTS, Choice, commit_before, names_in, parts_of
 from crates import TOP, listed
 from verdicts import Said, clause_of, without
 
@@ -133,16 +133,14 @@ class Chosen(unittest.TestCase):
         self.assertEqual(names_in("# a\n\nb/c\n"), {"b/c"})
 
     def test_parts(self):
-        """Tries all crates in eight commits in a row."""
+        """Tries the mutants of each crate in just one of eight commits in a row, where none changed."""
         self.assertEqual(parts_of("# a: b\n\nc: d e\nf\n"), {"c": 0, "f": 1})
-        parts = parts_of((TOP / "crates.txt").read_text())
-        self.assertEqual((parts.keys(), set(parts.values())), (listed().keys(), set(range(PARTS))))
-
-    def test_files(self):
-        """Finds the files of which code or a definition changed, was added or is gone, and none that changed in comments alone."""
-        told = ["--- a/code", "+++ b/code", "@@ -1 +1 @@", "<old", ">// new", "--- a/said", "+++ b/said", "<    /// old", ">-- new", ">"]
-        told += ["--- /dev/null", "+++ b/new", ">line", "--- a/gone", "+++ /dev/null", "<line"]
-        self.assertEqual(files_in(told), {"code", "new", "gone"})
+        choice = Choice((), False)
+        choice.takes_all, choice.changed, choice.edits, choice.always = False, set(), set(), set()
+        tried = []
+        for choice.turn in range(PARTS):
+            tried += [it for it in listed() if choice.takes(it, "edit")]
+        self.assertEqual(sorted(tried), sorted(listed()))
 
     def test_since(self):
         """Finds the newest commit that is a day older, and none in a history that is shorter."""

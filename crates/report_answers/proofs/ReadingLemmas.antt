@@ -4,17 +4,12 @@ use Rattle.std.specs.Str.{IsUtf8}
 use Rattle.json.specs.Json.{Json, document, object}
 use Rattle.shader_analysis_spec.specs.Faults.{Settings}
 use Rattle.shader_analysis_spec.specs.Program.{Module}
-use Rattle.shader_json_module.specs.Modules.{IsModule, IsOfValue}
+use Rattle.shader_json_module.specs.Modules.{IsModule}
 use Rattle.shader_json_module.specs.Parts.{AreModuleParts}
-use Rattle.shader_json_reader.specs.declared.error.ReadError.{ReadError}
 use Rattle.shader_report_resources.specs.declared.resources.Notation.{Notation}
 use Rattle.report_answers.specs.Members.{AreExtras, AreExtrasFor, AreResourcesAsked, AreResourcesFor}
 use Rattle.report_answers.specs.Reading.{IsRead}
-use Rattle.report_answers.specs.Reports.{IsRefusal, IsReport}
 use Rattle.report_answers.specs.declared.options.Options.{Options}
-use Rattle.report_answers.specs.declared.reports.Outcome.{Outcome}
-use Rattle.report_answers.specs.declared.reports.Outcome.TheVariants.{NotModule}
-use Rattle.report_answers.proofs.ReportLemmas.{no_module_told}
 
 none_found : (has : Bool) (notation : Notation) (j k : Json) (m : Module) (settings : Settings) (found : Option (List ℕ)) → has ≡ false
     → AreResourcesFor has notation j m settings found → AreResourcesFor has notation k m settings found
@@ -57,8 +52,3 @@ module _ (options : Options) (input : List ℕ) where
   pub whole_read : (j : Json) (m : Module) (extras : List ℕ) → IsUtf8 input → document input ≡ Some j → IsModule j m
       → AreExtras options j m extras → IsRead options input m extras
   whole_read j m extras utf8 parses stands are = record { utf8 = utf8; j = j; parses = parses; stands = stands; are = are }
-
-  pub no_module_read : (j : Json) (error : ReadError) (outcome : Outcome) (text : List ℕ) → IsUtf8 input → document input ≡ Some j
-      → IsOfValue j error → outcome ≡ NotModule → IsRefusal options input error text → IsReport options input outcome text
-  no_module_read j error outcome text utf8 parses of e refusal =
-      no_module_told options input j error outcome text utf8 parses of e refusal

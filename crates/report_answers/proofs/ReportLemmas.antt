@@ -7,8 +7,7 @@ use Rattle.std.proofs.lemmas.Str.{IsUtf8-string_bytes}
 use Rattle.json.specs.Json.{Json, document}
 use Rattle.shader_analysis_spec.specs.Program.{Module}
 use Rattle.shader_passes.specs.Causes.{settings_of}
-use Rattle.shader_json_module.specs.Modules.{IsModule, IsOfValue, IsTextOf}
-use Rattle.shader_json_reader.specs.declared.error.ReadError.{ReadError}
+use Rattle.shader_json_module.specs.Modules.{IsModule, IsTextOf}
 use Rattle.shader_report_json.specs.Answers.{IsModuleAnswer}
 use Rattle.shader_report_text.specs.Verdicts.{IsVerdict}
 use Rattle.shader_uniformity_text.specs.Sections.{IsPeopleSection}
@@ -16,7 +15,7 @@ use Rattle.report_answers.specs.Members.{AreExtras, AreMembers, EndsWithLines, l
 use Rattle.report_answers.specs.Reading.{IsRead}
 use Rattle.report_answers.specs.Options.{capabilities_of, flags_of}
 use Rattle.report_answers.specs.Reports.{verdict, HasFlow, IsDeep, IsDeepReport, IsFlowReport, IsFlowSection, IsJson, IsModuleReport}
-use Rattle.report_answers.specs.Reports.{IsOutputBy, IsPeople, IsRefusal, IsReport, IsReportOn, IsRest}
+use Rattle.report_answers.specs.Reports.{IsOutputBy, IsPeople, IsReport, IsReportOn, IsRest}
 use Rattle.report_answers.specs.declared.options.FlowCheck.{FlowCheck}
 use Rattle.report_answers.specs.declared.options.FlowCheck.TheVariants.{Defined, Naga, Off}
 use Rattle.report_answers.specs.declared.options.Options.{Options}
@@ -125,14 +124,6 @@ pub section_told : {Z : Type 0} (is_json : Bool) (m : Module) (accepted : Bool) 
     IsPeopleSection m accepted → IsFlowSection is_json m accepted (string_bytes string)
 section_told is_json m accepted string is decided =
     subst (λ (json : Bool). IsFlowSection json m accepted (string_bytes string)) (sym is) (IsUtf8-string_bytes string, decided)
-
--- the report on an input that spells no module
-pub no_module_told : (options : Options) (input : List ℕ) (j : Json) (error : ReadError) (outcome : Outcome) (text : List ℕ) →
-    IsUtf8 input → document input ≡ Some j → IsOfValue j error → outcome ≡ NotModule → IsRefusal options input error text →
-    IsReport options input outcome text
-no_module_told options input j error outcome text utf8 parses of e refusal =
-    subst (λ (o : Outcome). IsReport options input o text) (sym e)
-    (inl (record { error = error; accurate = of input utf8 parses; refusal = refusal }))
 
 -- the report on a module that was read of an input
 pub read_told : (options : Options) (input : List ℕ) (m : Module) (extras : List ℕ) (outcome : Outcome) (text : List ℕ)
