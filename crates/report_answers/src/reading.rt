@@ -1,9 +1,10 @@
 //! What a report reads of its input, which needn't be there afterwards.
-ghost use Rattle.std.specs.Prelude.{◌≡◌, IfOk, Some, false};
+ghost use Rattle.std.specs.Prelude.{◌≡◌, ℕ, IfOk, List, Some, false};
 ghost use Rattle.std.specs.Str.{IsUtf8};
 ghost use Rattle.json.specs.Json.{document};
 ghost use Rattle.json.specs.Value.{value_view};
-ghost use Rattle.report_answers.specs.Reading.{IsReading};
+ghost use Rattle.report_answers.specs.Members.{AreExtras};
+ghost use Rattle.report_answers.specs.Reading.{IsRead, IsReading};
 ghost use Rattle.shader_json_module.specs.Parts.{AreModuleParts};
 ghost use Rattle.shader_json_reader.specs.Errors.{IsAccurate};
 
@@ -33,6 +34,27 @@ pub enum Reading {
 }
 
 impl Reading {
+    /// Returns the reading of a module, with the extras of the report on it that this JSON value gives.
+    fn of_module(
+        alloc: Global,
+        options: Options,
+        input: &[u8],
+        json: &Value<'_>,
+        module: Module,
+    ) -> Result<Reading, AllocError>
+        requires enough { (extras : List ℕ) → AreExtras options (value_view json.now) «module» extras
+            → IsRead options input.now «module» extras }
+        ensures { IfOk result (λ reading. IsReading options input.now reading) }
+    {
+        match Extras::of(alloc, options, json, &module) {
+            Ok(extras) => Ok(Reading::Module(ReadModule { module, extras })),
+            Err(error) => {
+                drop(module);
+                Err(error)
+            }
+        }
+    }
+
     /// Reads an input in parts, of which none but the rest is a JSON value as a whole.
     #[tactic(auto, using(crate::proofs::ReadingLemmas::parts_read))]
     fn of_parts(
@@ -46,15 +68,9 @@ impl Reading {
         ensures { IfOk result (λ reading. IsReading options input.now reading) }
     {
         let ModuleParts { module, rest } = parts;
-        let extras = Extras::of(alloc, options, &rest, &module);
+        let reading = Reading::of_module(alloc, options, input, &rest, module);
         drop(rest);
-        match extras {
-            Ok(extras) => Ok(Reading::Module(ReadModule { module, extras })),
-            Err(error) => {
-                drop(module);
-                Err(error)
-            }
-        }
+        reading
     }
 
     /// Returns the reading of an input from which no module can be read, for the reason.
@@ -84,13 +100,7 @@ impl Reading {
         ensures { IfOk result (λ reading. IsReading options input.now reading) }
     {
         match read_value(alloc, root) {
-            Ok(module) => match Extras::of(alloc, options, root, &module) {
-                Ok(extras) => Ok(Reading::Module(ReadModule { module, extras })),
-                Err(error) => {
-                    drop(module);
-                    Err(error)
-                }
-            },
+            Ok(module) => Reading::of_module(alloc, options, input, root, module),
             Err(error) => Reading::of_error(alloc, options, input, &error),
         }
     }
