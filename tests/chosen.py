@@ -51,9 +51,10 @@ class Choice:
         self.crates, self.always = set(crates), names_in(ALWAYS.read_text())
         lines = (git("log", "--format=%H %ct") if not crates and not is_all else None) or []
         self.since = commit_before(lines) if lines else None
-        told = [git("diff", "--name-only", self.since), git("ls-files", "--others", "--exclude-standard")] if self.since else []
-        self.takes_all = self.since is None or None in told
-        files = [it for of in told for it in of or ()]
+        changed = git("diff", "--name-only", "--no-renames", self.since) if self.since else None
+        others = git("ls-files", "--others", "--exclude-standard")
+        self.takes_all = changed is None or others is None
+        files = [] if self.takes_all else [*changed, *others]
         self.parts, self.turn = parts_of((TOP / "crates.txt").read_text()), len(lines) % PARTS
         self.changed = {it[1] for it in map(SOURCE.match, files) if it}
         self.edits = {f"{it[1]}/{it[2]}" for it in map(EDIT.match, files) if it}

@@ -94,6 +94,22 @@ class Habits(unittest.TestCase):
                 (pathlib.Path(room) / path).write_text(text)
             self.assertEqual(habits.unfit(pathlib.Path(room)), ["is_there", "is_gone", "stands_twice"])
 
+    def test_controls(self):
+        """Tells mutants without a harmless edit beside them, for which none that fits no file stands in."""
+        texts = {
+            "src/a.rt": "fn f(a: u32) -> u32 {\n    a + 1\n}\n",
+            "wrong-bodies/is_less.edit": "file: src/a.rt\nold: a + 1\nnew: a\n",
+            "wrong-bodies/controls/is_gone.edit": "control: unfit\nfile: src/a.rt\nold: a + 2\nnew: a\n",
+            "wrong-bodies/controls/is_turned.edit": "control: harmless\nfile: src/a.rt\nold: a + 1\nnew: 1 + a\n",
+        }
+        with tempfile.TemporaryDirectory() as room:
+            folder, found = pathlib.Path(room), []
+            for path, text in texts.items():
+                (folder / path).parent.mkdir(parents=True, exist_ok=True)
+                (folder / path).write_text(text)
+                found.append(habits.is_controlled(folder))
+            self.assertEqual(found, [True, False, False, True])
+
 
 class Walkthroughs(unittest.TestCase):
     """What a list has, and what it must have."""
