@@ -3,7 +3,7 @@
 
     tests/test_mutants.py
 
-Each text in tests/samples/mutants is what a check printed, without the lines that no judgement reads. The first is of an edit, the one
+Each text in tests/data/prover_output is what a check printed, without the lines that no judgement reads. The first is of an edit, the one
 named after it with 'without' is of it without the answers that failed, and 'right' is of the right body without them.
 """
 import sys
@@ -13,7 +13,7 @@ from chosen import PARTS, Choice, commit_before, names_in, parts_of
 from crates import TOP, listed
 from verdicts import Said, clause_of, without
 
-SAMPLES = TOP / "tests/samples/mutants"
+SAMPLES = TOP / "tests/data/prover_output"
 
 
 def said(name):
@@ -128,7 +128,7 @@ class Chosen(unittest.TestCase):
     def test_always(self):
         """Finds each edit that every run tries."""
         always = Choice((), False).always
-        paths = [TOP / "crates" / crate / f"wrong-bodies/{name}.edit" for crate, _, name in (it.partition("/") for it in always)]
+        paths = [TOP / "crates" / crate / f"mutants/{name}.edit" for crate, _, name in (it.partition("/") for it in always)]
         self.assertEqual([it for it in paths if not it.exists()], [])
         self.assertEqual(names_in("# a\n\nb/c\n"), {"b/c"})
 

@@ -1,4 +1,4 @@
-//! Reports on the modules of `tests/samples/json`, beside what naga's own code found. That the bytes are those of the program `report` is
+//! Reports on the modules of `tests/data/modules`, beside what naga's own code found. That the bytes are those of the program `report` is
 //! for `tests/bindings` to say, which builds that.
 
 use pethuvazh::{answer_lines, report_json, report_text, BoundsCheckPolicies, BoundsCheckPolicy};
@@ -7,7 +7,7 @@ use std::fs;
 use std::path::PathBuf;
 
 fn samples() -> PathBuf {
-    PathBuf::from(env!("CARGO_MANIFEST_DIR")).join("../../tests/samples")
+    PathBuf::from(env!("CARGO_MANIFEST_DIR")).join("../../tests/data/lines")
 }
 
 fn lines(name: &str) -> Vec<String> {

@@ -1,4 +1,4 @@
-//! The program `bench`, for measurements alone: repeats a public call whose instructions `tests/speed` counts.
+//! The program `bench`, for measurements alone: repeats a public call whose instructions `scripts/measure_calls` counts.
 //!
 //! The first line of the input is `CALL ROUNDS [LEVELS]`: the call, the number of repetitions, and the number of nested `If`s to build,
 //! since no text nests so deep. The rest is a module as JSON, or a line `NAME TYPE..` for each call of a built-in function. The output is a

@@ -1,4 +1,4 @@
-//! Tests of `shader_ir` through its public items alone: allocation failures, and whatever no row of `tests/samples/rows` covers.
+//! Tests of `shader_ir` through its public items alone: allocation failures, and whatever no row of `tests/data/rows` covers.
 #![tactic(auto)]
 
 #[cfg(test)]

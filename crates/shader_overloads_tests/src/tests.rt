@@ -1,4 +1,4 @@
-//! One module for each kind of test, and their helpers. The narrowing of sets is tested line by line (tests/samples/call.in, narrow.in and
+//! One module for each kind of test, and their helpers. The narrowing of sets is tested line by line (tests/data/lines/call.in, narrow.in and
 //! rules.in).
 mod calls;
 mod conclusions;

@@ -1,4 +1,4 @@
-//! Tests of runs over memory. The rows of lines are in tests/samples, and the runs on real devices in tests/statuses.
+//! Tests of runs over memory. The rows of lines are in tests/data/lines, and the runs on real devices in tests/exit_statuses.
 
 use crate::program::run;
 use crate::status::Status;

@@ -1,4 +1,4 @@
-//! Tests of policies that no row of `tests/samples/rows` can express.
+//! Tests of policies that no row of `tests/data/rows` can express.
 use crate::tests::infos::{OUT_OF_MEMORY, info};
 use shader_arena::{Handle, UniqueArena};
 use shader_bounds::{BoundsCheckPolicies, BoundsCheckPolicy};
