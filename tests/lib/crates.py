@@ -10,7 +10,7 @@ import subprocess
 import sys
 import time
 
-TOP = pathlib.Path(__file__).resolve().parent.parent
+TOP = pathlib.Path(__file__).resolve().parents[2]
 FUNCTION = re.compile(r"( *)(?:pub(?:\(\w+\))? )?(?:final |const )*fn (\w+)")
 # What else an edit may change: a constant, a derive.
 ITEM = re.compile(r" *(pub(\(\w+\))? )?(const|static|struct|enum|impl|trait|type|mod|use|ghost use|macro_rules!)\b(?! fn)")
@@ -211,7 +211,7 @@ def constants_within(folder):
 
 
 def edits_of(crate):
-    return [Edit(it, crate) for it in sorted((crate / "wrong-bodies").glob("*.edit"))]
+    return [Edit(it, crate) for it in sorted((crate / "mutants").glob("*.edit"))]
 
 
 def controls_of(crate):
