@@ -14,7 +14,7 @@ import document_lists
 import documents
 from programs import script
 
-lint, lint_additions = script("scripts/lint"), script("scripts/lint_additions")
+lint, lint_additions = script("../scripts/lint"), script("../scripts/lint_additions")
 
 
 def found(rule, path, text):
@@ -176,4 +176,4 @@ class Additions(unittest.TestCase):
 
 
 if __name__ == "__main__":
-    sys.exit(check.unit_tests(sys.modules[__name__]))
+    sys.exit(check.run_tests(__doc__))

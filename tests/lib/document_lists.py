@@ -2,7 +2,8 @@
 import json
 import re
 
-from crates import FUNCTION, TOP, listed
+from crates import TOP, listed
+from mutants import FUNCTION
 
 # What a document names in backticks occurs in a source, or is one of these, of naga, of the standard library and of tools.
 TICKED = re.compile(r"`([^`\n]+)`")
