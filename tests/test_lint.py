@@ -43,6 +43,12 @@ class Rules(unittest.TestCase):
         self.assertEqual(found(lint.functions, "a.rt", within), 1)
         self.assertEqual(found(lint.functions, "a.rt", "trait A {\n    fn f(&self);\n" + "    type B;\n" * 50 + "}\n"), 0)
 
+    def test_comments(self):
+        """Finds a roundabout word in a comment, not in code, and a function whose comment begins with no verb in the third person."""
+        rows = {"// All but for one.\n": 1, "let told = but_for;\n": 0, "/// Returns a.\n#[inline]\npub fn f() {\n": 0, "/// The a.\nfn f() {\n": 1}
+        rows.update({"/// The a.\nstruct A;\nfn f() {\n": 0, "    /// Adds a.\n    ///\n    /// But b.\n    fn f() {\n": 0})
+        self.assertEqual({it: found(lint.comments, "a.rt", it) for it in rows}, rows)
+
     def test_formats(self):
         """Finds blanks, ends of files, holes and folders of a machine."""
         rows = {"a\n": 0, "": 0, "a": 1, "a \n": 1, "a\tb\n": 1, "a\n\n": 1, "law = ?\n": 1, "in /ho" + "me/me/x\n": 1, "/dev/null\n": 0}
