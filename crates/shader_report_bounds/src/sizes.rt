@@ -20,7 +20,7 @@ fn pending_override(inner: &TypeInner) -> Option<Handle<mark::Override>>
     }
 }
 
-/// Returns the override that sizes a type and gives it no size.
+/// Returns the override that sizes a type, if its value is no valid size.
 fn unresolved(module: &Module, inner: &TypeInner) -> Option<Handle<mark::Override>>
     ensures { result ≡ unresolved «module».now inner.now }
 {
@@ -30,7 +30,7 @@ fn unresolved(module: &Module, inner: &TypeInner) -> Option<Handle<mark::Overrid
     }
 }
 
-/// Returns the override that sizes the first type that has no size by it.
+/// Returns the override of the first type that an override sizes whose value is no valid size.
 fn find_unsized(module: &Module) -> Option<Handle<mark::Override>>
     ensures { result ≡ first_unsized «module».now }
 {
