@@ -48,7 +48,7 @@ fn what_is_given(module: &Module, location: AnalysisLocation) -> &'static str {
     }
 }
 
-/// A function with its value that differs.
+/// The function at a location, and its value that differs.
 #[derive(Clone, Copy)]
 struct GivenText<'a> {
     module: &'a Module,

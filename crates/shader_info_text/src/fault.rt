@@ -59,8 +59,8 @@ impl fmt::Display for CauseText<'_> {
     }
 }
 
-/// Returns whether the function at a location uses a call result. As in naga, the analysis then records a handle of the callee, which must
-/// not be printed as the caller's.
+/// Returns whether the function at a location uses a call result. As in naga, the analysis then may record a handle of the callee, which
+/// must not be printed as the caller's.
 fn takes_results(module: &Module, location: AnalysisLocation) -> bool {
     let Some(function) = function_at(module, location) else {
         return false;

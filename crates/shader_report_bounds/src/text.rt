@@ -170,7 +170,7 @@ impl fmt::Display for FunctionText<'_> {
     }
 }
 
-/// The name of an override.
+/// Returns the name of an override.
 fn override_name(module: &Module, handle: Handle<mark::Override>) -> NameText<'_> {
     let name = if module.overrides.contains_handle(handle) {
         match &module.overrides[handle].name {
