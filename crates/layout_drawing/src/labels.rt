@@ -1,20 +1,20 @@
-//! What members are called in drawings.
+//! The labels of members in drawings.
 ghost use Rattle.std.specs.Prelude.{◌≤◌};
 
 use crate::pieces::Slot;
 use std::fmt;
 
-/// The most bytes of a name that stands in a drawing.
+/// The greatest number of bytes of a name that is drawn.
 const MOST_NAME: usize = 60;
 
-/// Returns whether a name can stand in a drawing: short, and of visible ASCII characters, each of which takes one column.
+/// Returns whether a name can be drawn: short, and of visible ASCII characters, each of which takes one column.
 fn is_plain(name: &str) -> bool {
     !name.is_empty()
         && name.len() <= MOST_NAME
         && name.as_bytes().iter().all(|byte| byte.is_ascii_graphic())
 }
 
-/// Returns how many columns the digits of a number below 100,000 take, and of a greater one more than there are.
+/// Returns the number of columns that a number below 100,000 takes. For a greater one, returns more columns than a row has.
 fn digits(number: usize) -> usize
     ensures { result ≤ 1000 }
 {
@@ -28,7 +28,7 @@ fn digits(number: usize) -> usize
     }
 }
 
-/// The name of a member where it is short and plain, and its number after a `#` elsewhere.
+/// The name of a member if it is short and plain, otherwise its number after a `#`.
 #[derive(Clone, Copy)]
 pub struct LabelText<'a> {
     pub slot: Slot<'a>,

@@ -1,4 +1,4 @@
-//! Structs as people look at them: their bytes in rows of 16, and an order of their members that takes less room.
+//! Draws structs, their bytes in rows of 16, and finds an order of their members that takes fewer bytes.
 #![tactic(auto)]
 
 mod labels;

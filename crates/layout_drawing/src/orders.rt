@@ -1,4 +1,4 @@
-//! An order of a struct's members in which they take less room.
+//! Finds an order of a struct's members in which they take fewer bytes.
 ghost use Rattle.std.specs.Prelude.{◌≡◌, ◌<◌, ◌≤◌, IfOk, IfSome, OnOk, fold, length};
 ghost use Rattle.std.specs.List.Sorted.{IsPermutation};
 ghost use Rattle.layout_drawing.specs.Orders.{IsSmaller, end_after, greatest_alignment, span_of};
@@ -8,7 +8,7 @@ use crate::pieces::Slot;
 use std::alloc::{AllocError, Global};
 use std::fmt;
 
-/// The most members of a struct for which another order is looked for.
+/// The greatest number of members of a struct for which another order is looked for.
 pub const MOST_ORDERED: usize = 64;
 
 /// The members of a struct in another order.
@@ -19,7 +19,7 @@ pub struct Order<'a> {
     pub span: u32,
 }
 
-/// Returns the end of a member that is placed at the next multiple of its alignment, unless it isn't below 2 ^ 32.
+/// Returns the end of a member that is placed at the next multiple of its alignment, if it is below 2 ^ 32.
 fn end_after(end: u32, slot: &Slot<'_>) -> Option<u32>
     ensures { IfSome result (λ next. next ≡ end_after end slot.now) }
 {
@@ -56,8 +56,8 @@ fn end_of(slots: &[Slot<'_>]) -> Option<u32>
     Some(end)
 }
 
-/// Returns the size in bytes of a struct whose members are placed in this order, each at the next multiple of its alignment, unless an end
-/// isn't below 2 ^ 32 or an alignment is 0.
+/// Returns the size in bytes of a struct whose members are placed in this order, each at the next multiple of its alignment. Returns
+/// `None` if an end isn't below 2 ^ 32 or an alignment is 0.
 pub fn span_of(slots: &[Slot<'_>]) -> Option<u32>
     ensures { IfSome result (λ span. span ≡ span_of slots.now) }
 {
@@ -68,7 +68,7 @@ pub fn span_of(slots: &[Slot<'_>]) -> Option<u32>
     }
 }
 
-/// Returns how little a member suits a place: first the padding before it, then how small its alignment is, then its size.
+/// Returns how badly a member fits at an offset: first by the padding before it, then by a small alignment, then by a small size.
 fn unfitness(slot: &Slot<'_>, end: u32) -> (u32, u32, u32) {
     let padding = match end.checked_next_multiple_of(slot.alignment) {
         Some(start) => start - end,
@@ -77,7 +77,7 @@ fn unfitness(slot: &Slot<'_>, end: u32) -> (u32, u32, u32) {
     (padding, u32::MAX - slot.alignment, u32::MAX - slot.size)
 }
 
-/// Returns the position, from a first one on, of the member that suits a place best.
+/// Returns the position, from `first` on, of the member that fits best at the offset `end`.
 fn best_from(slots: &[Slot<'_>], first: usize, end: u32) -> usize
     requires { first < length slots.now }
     ensures { result < length slots.now }
@@ -91,7 +91,7 @@ fn best_from(slots: &[Slot<'_>], first: usize, end: u32) -> usize
     best
 }
 
-/// Puts at each position the member that suits the end of those before it best.
+/// Puts at each position the member that fits best at the end of those before it.
 fn arrange(slots: &mut [Slot<'_>])
     ensures { IsPermutation slots.old slots.new }
 {
@@ -105,7 +105,7 @@ fn arrange(slots: &mut [Slot<'_>])
 
 /// Returns an order of the members in which the struct takes fewer bytes than it does, if one is found.
 ///
-/// None is looked for in a struct that isn't as large as the layout rules make it, as by attributes, nor among more than `MOST_ORDERED`
+/// Returns `None` if the struct isn't as large as the layout rules make it, e.g. because of attributes, or has more than `MOST_ORDERED`
 /// members.
 ///
 /// # Errors

@@ -4,7 +4,7 @@ ghost use Rattle.layout_drawing.specs.Pieces.{AreTiles, Fits, hole, member_piece
 
 use std::alloc::{AllocError, Global};
 
-/// The place of a member in a struct, in bytes.
+/// A member of a struct: its number, its name, and its offset, size and alignment in bytes.
 #[derive(Clone, Copy, Debug)]
 pub struct Slot<'a> {
     /// The number of the member, from 0.
@@ -25,7 +25,7 @@ pub struct Piece<'a> {
     pub end: u32,
 }
 
-/// Adds the hole between two places, if they differ.
+/// Adds the hole between two offsets, if the first is below the second.
 fn add_hole<'a>(pieces: &mut Vec<Piece<'a>>, start: u32, end: u32) -> Result<(), AllocError>
     ensures { OnOk result (pieces.new.items ≡ pieces.old.items ++ hole start end) }
 {
@@ -58,7 +58,7 @@ fn add_member<'a>(
     Ok(())
 }
 
-/// Returns the end of a member that begins at a place or later and ends at the struct's end or earlier.
+/// Returns the end of a member if it begins at `at` or later and ends at the struct's end or earlier.
 fn end_within(slot: &Slot<'_>, at: u32, span: u32) -> Option<u32>
     ensures found { IsSome result ↔ ((at ≤ slot.now.offset) × (slot.now.offset + slot.now.size ≤ span)) }
     ensures end { IfSome result (λ end. end ≡ slot.now.offset + slot.now.size) }

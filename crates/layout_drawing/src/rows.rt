@@ -1,7 +1,7 @@
 //! The rows of a drawing.
 //!
-//! A byte takes four columns. A member begins with a bar, and its name follows where it fits; of a hole each column but that of the bar has
-//! a dot. A row ends with a bar.
+//! A byte takes four columns. A member begins with a bar, and its name follows if it fits. Each column of a hole after its bar has a dot.
+//! A row ends with a bar.
 use crate::LabelText;
 use crate::pieces::Piece;
 use std::fmt;
@@ -28,7 +28,7 @@ impl fmt::Display for Columns {
     }
 }
 
-/// The columns of a piece's bytes behind its bar.
+/// The columns of a piece's bytes after its bar.
 #[derive(Clone, Copy)]
 struct CellText<'a> {
     piece: Piece<'a>,
@@ -86,7 +86,7 @@ impl fmt::Display for RunText<'_> {
 }
 
 /// A piece: its bytes in the row where it begins, in the rows that are all its own, and in the row where it ends. Of two or more rows of
-/// its own only the end is told.
+/// its own only the end is printed.
 #[derive(Clone, Copy)]
 struct PieceText<'a> {
     drawing: DrawingText<'a>,

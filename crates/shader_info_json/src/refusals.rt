@@ -57,7 +57,7 @@ impl fmt::Display for ResolveErrorText<'_> {
     }
 }
 
-/// An error of an operand as a whole, or what `AccessErrorText` prints.
+/// An error of an operand as a whole, or one that `AccessErrorText` prints.
 #[derive(Clone, Copy)]
 struct OperandErrorText<'a>(&'a ResolveError);
 

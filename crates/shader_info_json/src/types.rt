@@ -139,7 +139,7 @@ impl fmt::Display for InnerText<'_> {
     }
 }
 
-/// A matrix, or what `PointerText` prints.
+/// A matrix, or a type that `PointerText` prints.
 #[derive(Clone, Copy)]
 struct MatrixText<'a>(&'a TypeInner);
 
@@ -178,7 +178,7 @@ impl fmt::Display for MatrixText<'_> {
     }
 }
 
-/// A pointer, an array, or what `ResourceText` prints.
+/// A pointer, an array, or a type that `ResourceText` prints.
 #[derive(Clone, Copy)]
 struct PointerText<'a>(&'a TypeInner);
 

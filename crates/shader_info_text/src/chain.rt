@@ -1,4 +1,4 @@
-//! The chain from a value to a source that makes it differ among invocations, as text.
+//! Prints the trace from a value to a source that makes it differ among invocations.
 
 use crate::expression_kind::ExpressionAtText;
 use crate::location::LocationText;
@@ -8,7 +8,7 @@ use shader_info::AnalysisLocation;
 use shader_ir::{Module, mark};
 use std::fmt;
 
-/// One step of a chain.
+/// One step of a trace.
 #[derive(Clone, Copy, Debug)]
 pub enum Step {
     /// An expression of the function or entry point at a location.
@@ -40,7 +40,7 @@ impl fmt::Display for LocatedExpressionText<'_> {
     }
 }
 
-/// Returns what of a function differs: its result, or values of functions that it calls, where it has none.
+/// Returns the name of the value that differs: the result of a function, or, if it has none, values of functions that it calls.
 fn what_is_given(module: &Module, location: AnalysisLocation) -> &'static str {
     match function_at(module, location) {
         Some(function) if function.result.is_none() => "what it calls",
@@ -48,7 +48,7 @@ fn what_is_given(module: &Module, location: AnalysisLocation) -> &'static str {
     }
 }
 
-/// What of the function at a location differs.
+/// The function at a location, and its value that differs.
 #[derive(Clone, Copy)]
 struct GivenText<'a> {
     module: &'a Module,
@@ -113,10 +113,10 @@ impl fmt::Display for StepsText<'_> {
     }
 }
 
-/// The most steps that are printed of a chain of which the beginning alone is given.
+/// The greatest number of steps that `BeginningText` prints.
 pub const MOST_STEPS: usize = 20;
 
-/// The first steps of a chain, one a line, with a line more if it has more steps than are printed.
+/// The first steps of a trace, one a line, and a line that says so if there are more.
 #[derive(Clone, Copy)]
 pub struct BeginningText<'a> {
     pub module: &'a Module,
@@ -139,8 +139,7 @@ impl fmt::Display for BeginningText<'_> {
 /// The number of steps that are printed at either end of a long chain.
 const STEPS_AT_END: usize = 50;
 
-/// The steps, one a line, with the source last. Of a long chain the middle is given as a number of
-/// steps.
+/// The steps of a trace, one a line, with the source last. The middle of a long trace is printed as a number of steps.
 #[derive(Clone, Copy)]
 pub struct ChainText<'a> {
     pub module: &'a Module,

@@ -20,8 +20,8 @@ fn index_at(
     }
 }
 
-/// Returns the expression that causes the error because it differs among invocations: what the flow depends on, or the index of resources.
-/// Returns `None` for any other error.
+/// Returns the expression that causes the error because it differs among invocations: the one on which flow depends, or the index of
+/// resources. Returns `None` for any other error.
 pub fn differing(module: &Module, error: &AnalysisError) -> Option<Handle<mark::Expression>>
     ensures { result ≡ differing «module».now error.now }
 {

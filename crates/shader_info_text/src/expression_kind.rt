@@ -1,4 +1,4 @@
-//! Short words for kinds of expressions.
+//! Short names for kinds of expressions.
 
 use crate::lookup::function_at;
 use crate::names::{ExpressionText, argument_name, function_name, global_name, local_name};
@@ -7,7 +7,7 @@ use shader_info::AnalysisLocation;
 use shader_ir::{Expression, Function, Module, mark};
 use std::fmt;
 
-/// Returns the word for an expression that computes.
+/// Returns the name of the kind of an expression that computes.
 fn computed_word(expression: &Expression) -> &'static str {
     match expression {
         Expression::ImageSample { .. } => "image sample",
@@ -26,7 +26,7 @@ fn computed_word(expression: &Expression) -> &'static str {
     }
 }
 
-/// Returns the word for the result of a statement, for an expression that composes or accesses values, or for one that computes.
+/// Returns the name of the kind of an expression: a result of a statement, or an expression that composes, accesses or computes values.
 fn form_word(expression: &Expression) -> &'static str {
     match expression {
         Expression::Literal(_) => "literal",

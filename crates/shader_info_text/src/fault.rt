@@ -13,7 +13,7 @@ use shader_info::{
 use shader_ir::{Expression, Module, mark};
 use std::fmt;
 
-/// The error of resources that are indexed by a non-uniform value, with the chain from the index to a source, and a remedy.
+/// The error of resources that are indexed by a non-uniform value, with the trace from the index to a source, and a remedy.
 #[derive(Clone, Copy)]
 struct IndexedText<'a> {
     chain: ChainText<'a>,
@@ -59,8 +59,8 @@ impl fmt::Display for CauseText<'_> {
     }
 }
 
-/// Checks whether the function at a location takes values of functions that it calls. As in naga, its analysis tells the source of such a
-/// value by its number there, which here is that of another expression.
+/// Returns whether the function at a location uses a call result. As in naga, the analysis then may record a handle of the callee, which
+/// must not be printed as the caller's.
 fn takes_results(module: &Module, location: AnalysisLocation) -> bool {
     let Some(function) = function_at(module, location) else {
         return false;
@@ -73,7 +73,7 @@ fn takes_results(module: &Module, location: AnalysisLocation) -> bool {
     false
 }
 
-/// The cause of disrupted flow in the function at a location. It may be in a called function if that function takes any results.
+/// The cause of disrupted flow in the function at a location. It may be in a called function if that function uses a call result.
 #[derive(Clone, Copy)]
 struct DisruptorText<'a> {
     module: &'a Module,
@@ -129,7 +129,7 @@ impl fmt::Display for FlowViolationText<'_> {
             disruptor: self.disruptor,
             takes_results,
         };
-        // A chain from another expression than the source would mislead.
+        // A trace from another expression than the recorded source would mislead.
         let steps = if takes_results { &[] } else { self.chain };
         let chain = ChainText {
             module: self.module,
@@ -148,7 +148,7 @@ impl fmt::Display for FlowViolationText<'_> {
 
 /// The reason why the analysis refuses a module: the function, the expression and its error, with a remedy if there is an obvious one.
 ///
-/// `chain` leads from the expression that `differing` returns to a source. It is empty if that returns none.
+/// `chain` leads from the expression that `differing` returns to a source. It is empty if that returns `None`.
 #[derive(Clone, Copy)]
 pub struct ErrorText<'a> {
     pub module: &'a Module,

@@ -16,7 +16,7 @@ use shader_interface::{AttributesText, ResourceBinding};
 use shader_ir::{Function, Module};
 use std::fmt;
 
-/// Returns where the host binds the global at a position, if that is known.
+/// Returns the binding of the global at a position, if it is known.
 fn bound_at(bindings: &[Option<ResourceBinding>], position: usize) -> Option<ResourceBinding>
     ensures { result ≡ option_and_then (λ bound. bound) (slice_get bindings.now position) }
 {
@@ -148,7 +148,7 @@ struct FlowText<'a> {
     chain: &'a [Step],
 }
 
-/// Checks whether a function has a result. Of one that has none, what is recorded counts values of the functions that it calls, as in naga.
+/// Checks whether a function has a result. For one without, the recorded source is that of a value of a called function, as in naga.
 fn has_result(function: Option<&Function>) -> bool {
     match function {
         Some(function) => function.result.is_some(),
@@ -186,9 +186,9 @@ impl fmt::Display for FlowText<'_> {
 /// The analysis results for the function or entry point at a location.
 ///
 /// The sets of an info are given as slices in the order of printing: `pairs` are the positions of a global image and of a global sampler,
-/// and `sampling` the pairs with an argument. `bindings` has where the host binds each global, by position, as far as that is known.
-/// `chain` leads from the function's result, its first step, to a source; its first `MOST_STEPS + 2` steps do, since no more than
-/// `MOST_STEPS` behind the first are printed. It is empty if it isn't known.
+/// and `sampling` the pairs with an argument. `bindings` has the binding of each global, by position, as far as it is known.
+/// `chain` leads from the function's result, its first step, to a source. Its first `MOST_STEPS + 2` steps suffice, since at most
+/// `MOST_STEPS` are printed after the first. It is empty if it isn't known.
 #[derive(Clone, Copy)]
 pub struct FunctionText<'a> {
     pub module: &'a Module,

@@ -1,4 +1,4 @@
-//! Analysis results as text for people: structs with their holes, functions with their infos, and the reason why a module is refused.
+//! Prints analysis results as text output: structs with their holes, functions with their infos, and the reason why a module is refused.
 //!
 //! An item is printed by its name, or by its number in the module if it has none, as `#3`. Any input can be printed: a handle that leads
 //! nowhere is printed as its number.

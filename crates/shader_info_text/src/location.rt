@@ -5,7 +5,7 @@ use shader_info::AnalysisLocation;
 use shader_ir::{Module, ShaderStage};
 use std::fmt;
 
-/// Returns the word for a stage.
+/// Returns the name of a stage.
 fn stage_word(stage: ShaderStage) -> &'static str {
     match stage {
         ShaderStage::Vertex => "vertex",

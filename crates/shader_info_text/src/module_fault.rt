@@ -72,7 +72,7 @@ fn expression_at(module: &Module, location: ModuleLocation) -> Option<LocatedExp
     })
 }
 
-/// Returns the words after a function's name for a location that is its statements.
+/// Returns the text after a function's name, which is empty unless the location is its statements.
 fn part_word(location: &ModuleLocation) -> &'static str {
     match location {
         ModuleLocation::FunctionBody(_) => ", its statements",

@@ -26,11 +26,11 @@ fn may_have_control(name: &str) -> bool
         .any(|byte| byte.is_ascii_control() || *byte == 0xC2)
 }
 
-/// The most bytes of a name that are printed, so that a text doesn't grow by a long name at each place that it is named.
+/// The greatest number of bytes of a name that are printed, so that a long name doesn't lengthen the text each time it occurs.
 const MOST_BYTES: usize = 200;
 
-/// A name, quoted and escaped if it may have control characters, or the number after a `#` if it is empty. Of a name of more than 200 bytes
-/// the characters that begin it stand before its length.
+/// A name, quoted and escaped if it may have control characters, or the number after a `#` if it is empty. A name of more than 200 bytes is
+/// cut, and followed by its length.
 #[derive(Clone, Copy)]
 pub struct NameText<'a> {
     pub name: &'a str,

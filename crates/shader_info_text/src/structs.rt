@@ -116,7 +116,7 @@ fn struct_at(module: &Module, ty: Handle<mark::Type>) -> Option<(&Items<StructMe
     }
 }
 
-/// Checks whether the last member is an array whose length is known at run time, behind whose first element others stand and no hole.
+/// Checks whether the last member is a runtime-sized array. Its further elements follow, and no hole.
 fn ends_at_run_time(module: &Module, members: &[StructMember]) -> bool {
     match members.last() {
         Some(last) => is_sized_at_run_time(module, last.ty),

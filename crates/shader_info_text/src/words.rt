@@ -1,11 +1,11 @@
-//! Words for sets of flags, each after a space.
+//! Prints the names of the flags of a set, each after a space.
 ghost use Rattle.std.specs.Prelude.{◌≡◌, [], false, IsTrue};
 
 use bitflags::Flags;
 use shader_info::{Capabilities, GlobalUse, UniformityRequirements};
 use std::fmt;
 
-/// Returns the word if the flag holds, or an empty text.
+/// Returns the name if the flag is set, or an empty text.
 fn word_if(holds: bool, word: &'static str) -> &'static str
     ensures word { IsTrue holds → result.now ≡ word.now }
     ensures none { holds ≡ false → result.now ≡ [] }

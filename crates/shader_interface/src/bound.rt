@@ -1,4 +1,4 @@
-//! Where the host binds a resource.
+//! The bind group of a resource and its number there.
 ghost use Rattle.std.specs.Prelude.{Some};
 ghost use Rattle.shader_interface.specs.Bound.{attributes};
 
@@ -11,7 +11,7 @@ pub struct ResourceBinding {
     pub binding: u32,
 }
 
-/// The attributes of a global in WGSL, each with a space behind it, or nothing of one that isn't bound.
+/// The attributes of a global in WGSL, each followed by a space, or an empty text if the global isn't bound.
 #[derive(Clone, Copy)]
 pub struct AttributesText(pub Option<ResourceBinding>);
 

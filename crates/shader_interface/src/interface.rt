@@ -40,7 +40,7 @@ impl<'v, 'a> Interface<'v, 'a> {
         integer(member(self.resource_binding(global), "binding"))
     }
 
-    /// Returns where the host binds a global variable.
+    /// Returns the binding of a global variable, if the JSON has both its bind group and its number there.
     pub fn bound(self, global: usize) -> Option<ResourceBinding>
         ensures { result ≡ bound_at (value_view self.entry.0.now) global }
     {
@@ -50,7 +50,7 @@ impl<'v, 'a> Interface<'v, 'a> {
         }
     }
 
-    /// Returns where the host binds the first so many global variables.
+    /// Returns the bindings of the first `count` global variables.
     ///
     /// # Errors
     ///
@@ -87,7 +87,7 @@ impl<'v, 'a> Interface<'v, 'a> {
         }
     }
 
-    /// Returns the number or bool that an override is without a pipeline's value, as the JSON spells it. It is `None` if the initial value
+    /// Returns the number or bool that an override has if the pipeline sets none, as the JSON spells it. It is `None` if the initial value
     /// is no literal, and for an f16, of which naga writes the bits.
     pub fn override_default(self, position: usize) -> Option<&'a str>
         ensures { option_map (λ text. text.now) result ≡ override_default_of (value_view self.entry.0.now) position }
@@ -102,8 +102,8 @@ impl<'v, 'a> Interface<'v, 'a> {
         item(self.0.get("entry_points"), entry)
     }
 
-    /// Returns the number of invocations of a work group along an axis, from 0 to 2. naga writes 0 for stages without work groups, and
-    /// where `workgroup_override` says otherwise.
+    /// Returns the number of invocations of a work group along an axis, from 0 to 2, which counts unless `workgroup_override` has an
+    /// expression for it. naga writes 0 for stages without work groups.
     pub fn workgroup_size(self, entry: usize, axis: usize) -> Option<u32>
         ensures { result ≡ workgroup_size_of (value_view self.entry.0.now) entry axis }
     {

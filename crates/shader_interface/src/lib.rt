@@ -1,5 +1,5 @@
-//! What a module declares to its host and to other stages, and the IR leaves out: groups and bindings, ids of overrides, work group sizes,
-//! and the bindings of arguments, results and members. It is looked up in the module's JSON by handle.
+//! Looks up in a module's JSON, by handle, its declarations to the host and to other stages that the IR leaves out: groups and bindings,
+//! ids of overrides, work group sizes, and the bindings of arguments, results and members.
 #![tactic(auto)]
 
 mod binding;

@@ -84,7 +84,7 @@ pub fn variant<'a>(found: Option<&Value<'a>>) -> Option<&'a str>
     }
 }
 
-/// Returns what a literal holds, unless it is an f16, of which naga writes the bits.
+/// Returns the value of a literal, unless it is an f16, of which naga writes the bits.
 fn payload_from<'v, 'a>(value: &'v Value<'a>) -> Option<&'v Value<'a>>
     ensures { seen result ≡ payload_of (value_view value.now) }
 {
@@ -115,7 +115,7 @@ fn spelled_from<'a>(value: &Value<'a>) -> Option<&'a str>
     }
 }
 
-/// Returns what a literal holds, as it is spelled.
+/// Returns the value of a literal, as it is spelled.
 pub fn spelled<'a>(literal: Option<&Value<'a>>) -> Option<&'a str>
     ensures { option_map (λ text. text.now) result ≡ option_and_then spelled (option_and_then payload_of (seen literal.entry)) }
 {

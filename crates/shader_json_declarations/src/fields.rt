@@ -132,8 +132,8 @@ impl<'v, 'a> Fields<'v, 'a> {
         }
     }
 
-    /// Returns what was read of a field. The path of a failure, which so far begins at the object, then begins at the value that is read:
-    /// at the enum, where the object is a variant's payload.
+    /// Returns the result of reading a field. The path of a failure, which begins at the object so far, then begins at the value that is
+    /// read: at the enum if the object is a variant's payload.
     pub fn seen<T>(self, read: Result<T, Failure>) -> Result<T, Failure>
         ensures { IfOk result (λ x. read ≡ Ok x) }
     {
@@ -165,7 +165,7 @@ impl<'v, 'a> Fields<'v, 'a> {
 /// The payload of a variant.
 #[derive(Clone, Copy)]
 pub struct Data<'v, 'a> {
-    /// The value that stands for it.
+    /// The JSON value of the payload.
     pub value: &'v Value<'a>,
 }
 
@@ -248,9 +248,9 @@ impl<'v, 'a> Data<'v, 'a> {
 /// A value that is read as an enum: the name of a variant, and its payload.
 #[derive(Clone, Copy)]
 pub struct Variant<'v, 'a> {
-    /// The variant's name, of which nothing is known yet.
+    /// The variant's name, which may be unknown.
     pub name: &'a str,
-    /// Its payload, none for a name alone.
+    /// The payload, or `None` for a name alone.
     pub payload: Option<Data<'v, 'a>>,
 }
 

@@ -1,4 +1,4 @@
-//! Reads the contents of functions besides expressions and statements.
+//! Reads the contents of functions except expressions and statements.
 ghost use Rattle.std.specs.Prelude.{IfSome};
 ghost use Rattle.json.specs.Json.{number};
 ghost use Rattle.shader_json_declarations.specs.Declarations.{IsArgument, IsLocal, IsResult, IsStage};

@@ -1,5 +1,5 @@
-//! The declarations of modules from JSON: types, globals, constants and filters, with the trait `Read` that all reading goes by. The trait
-//! stands here, since an implementation for a type of the IR has to stand beside the trait.
+//! Reads the declarations of modules from JSON: types, globals, constants and filters. The trait `Read`, which all readers implement, is
+//! here because its implementations for types of the IR have to be in its crate.
 #![tactic(auto)]
 
 mod fields;

@@ -1,4 +1,4 @@
-//! Values that are names of a table.
+//! Reads values that are names in a table.
 ghost use Rattle.std.specs.Prelude.{◌≡◌, ◌≢◌, ℕ, List, IfErr, IfOk, IfSome, IsTrue};
 ghost use Rattle.json.specs.Json.{string};
 ghost use Rattle.json.specs.Value.{value_view};

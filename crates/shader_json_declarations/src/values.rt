@@ -14,7 +14,7 @@ use shader_json_reader::{Context, Failure, Wanted, signed, unsigned, within};
 
 /// A type that can be read from a JSON value.
 pub trait Read: Sized {
-    /// The values that stand for it.
+    /// The JSON values that denote this value.
     ghost reads: { Json → Self → Type 0 };
 
     /// Reads a value.

@@ -35,7 +35,7 @@ fn fill(
     Ok(())
 }
 
-/// Fills an empty function with what these fields declare beside its code.
+/// Fills an empty function with all that these fields declare except its code.
 fn fill_declarations(
     context: &mut Context,
     fields: Fields<'_, '_>,

@@ -13,11 +13,11 @@ use shader_ir::{Expression, Items};
 use shader_json_expressions::read_expression;
 use shader_json_reader::{Context, Failure};
 
-/// A type that can be read from what is next in a text.
+/// A type that can be read from the next value of a text.
 ///
-/// Its failures have no path: a text that can't be read so is read as one JSON value, which tells what is wrong and where.
+/// Its failures have no path: if one occurs, `read_module` reads the text again as one JSON value and reports the error from that.
 pub trait ReadNext: Sized {
-    /// The values that stand for it.
+    /// The JSON values that denote this value.
     ghost stands: { Json → Self → Type 0 };
 
     /// Reads the next value of a text. Arrays and objects may nest `depth` deep in it.
@@ -48,7 +48,7 @@ pub(crate) fn next_value<'a>(
     }
 }
 
-/// Takes the bracket that opens an array, inside which arrays and objects may nest one level less deep.
+/// Takes the bracket that opens an array. Returns how deep arrays and objects may nest inside the array.
 fn open_array(context: &Context, reader: &mut Reader<'_>, depth: usize) -> Result<usize, Failure>
     ensures { IfOk result (λ inside. Opens token.begin_array depth reader.old reader.new inside) }
 {
@@ -58,7 +58,7 @@ fn open_array(context: &Context, reader: &mut Reader<'_>, depth: usize) -> Resul
     }
 }
 
-/// Takes the brace that opens an object, inside which arrays and objects may nest one level less deep.
+/// Takes the brace that opens an object. Returns how deep arrays and objects may nest inside the object.
 pub(crate) fn open_object(
     context: &Context,
     reader: &mut Reader<'_>,

@@ -1,4 +1,4 @@
-//! Reads an object from a text so that two of its members, which may be large, are no JSON values as a whole.
+//! Reads an object from a text and decodes two of its members, which may be large, while reading.
 ghost use Rattle.std.specs.Prelude.{◌≡◌, IfOk, Some, false, option_map};
 ghost use Rattle.std.specs.Str.{bytes_eq};
 ghost use Rattle.json.specs.Json.{read_key};
@@ -9,14 +9,14 @@ use crate::next::{ReadNext, next_value, open_object};
 use json::{Reader, Value};
 use shader_json_reader::{Context, Failure};
 
-/// An object: what two of its members stand for, and the object without these two.
+/// An object of which two members were decoded while reading; `rest` holds the others.
 #[derive(Drop)]
 pub struct Parts<'a, A: Drop, B: Drop> {
-    /// What the first of the two members stands for.
+    /// The first of the two members, decoded.
     pub first: A,
-    /// What the second one stands for.
+    /// The second one, decoded.
     pub second: B,
-    /// The object without them.
+    /// The object without these two members.
     pub rest: Value<'a>,
 }
 
@@ -31,7 +31,7 @@ fn next_name<'a>(context: &Context, reader: &mut Reader<'a>) -> Result<Option<&'
 }
 
 impl<'a, A: ReadNext + Drop, B: ReadNext + Drop> Parts<'a, A, B> {
-    /// Reads the next value of a text, in which these two names occur once.
+    /// Reads the next value of a text, an object that has each of these two names once.
     ///
     /// # Errors
     ///

@@ -55,8 +55,7 @@ impl ReadNext for Body {
     }
 }
 
-/// The expression that stands for the old value of an atomic. Naga may omit it, but a module here
-/// has to have it.
+/// The expression whose value is the old value of an atomic. naga may omit it, but the IR here requires it.
 #[derive(Drop)]
 struct OldValue(Handle<mark::Expression>);
 

@@ -1,7 +1,7 @@
-//! What the JSON of a module determines.
+//! The law that a JSON text determines its module.
 ghost use Rattle.shader_json_module.specs.Fixed.{TextDeterminesModule};
 
-/// States that two modules for which one text stands are equal, but for what the text leaves open (`Fixed.fixed_module`).
+/// States that a text denotes one module at most, except for numbers of built-in values and bits of f16 (`Fixed.fixed_module`).
 pub fn text_determines_module()
     ensures { TextDeterminesModule }
 {}

@@ -33,7 +33,7 @@ fn fill(context: &mut Context, fields: Fields<'_, '_>, module: &mut Module) -> R
     Ok(())
 }
 
-/// Fills an empty module with what these fields declare outside functions.
+/// Fills an empty module with special types, constants, overrides, global variables and diagnostic filters.
 fn fill_declarations(
     context: &mut Context,
     fields: Fields<'_, '_>,
@@ -49,7 +49,7 @@ fn fill_declarations(
     Ok(())
 }
 
-/// Fills an empty module with all that these fields have beside functions and entry points.
+/// Fills an empty module with all that these fields have except functions and entry points.
 pub(crate) fn fill_beside_code(
     context: &mut Context,
     fields: Fields<'_, '_>,
@@ -75,7 +75,7 @@ fn module(context: &mut Context, value: &Value<'_>) -> Result<Module, Failure>
     Ok(module)
 }
 
-/// Parses bytes as a JSON value, as `read_module` does first.
+/// Parses bytes as a JSON value, as `read_module` does if `read_parts` returns `None`.
 ///
 /// # Errors
 ///
@@ -101,8 +101,8 @@ pub fn parse_bytes<'a>(
     }
 }
 
-/// Reads a module from the JSON value of a text, as `read_module` does then. The value isn't copied, so it may be asked what the module
-/// lacks.
+/// Reads a module from the JSON value of a text, as `read_module` does after `parse_bytes`. The value is borrowed, so a caller can look up
+/// members in it that the IR lacks.
 ///
 /// # Errors
 ///

@@ -1,4 +1,4 @@
-//! Reads a module from a text so that its functions and entry points, which may be large, are no JSON values as a whole.
+//! Reads a module from a text and decodes its functions and entry points, which may be large, while reading.
 ghost use Rattle.std.specs.Prelude.{◌≡◌, IfOk, IfSome, codes};
 ghost use Rattle.json.specs.Json.{max_depth};
 ghost use Rattle.json.specs.Token as token;
@@ -15,12 +15,12 @@ use shader_json_reader::{Context, Failure, MOST_BYTES};
 use std::alloc::{AllocError, Global};
 use std::str;
 
-/// A module that was read from a text, with the part of the text's JSON that the module may lack.
+/// A module that was read from a text, with the rest of the text's JSON, which may have members that the IR lacks.
 #[derive(Drop)]
 pub struct ModuleParts<'a> {
     /// The module.
     pub module: Module,
-    /// The object that stands for the module, without its members `functions` and `entry_points`.
+    /// The JSON object of the module, without its members `functions` and `entry_points`.
     pub rest: Value<'a>,
 }
 
@@ -52,9 +52,9 @@ fn next_module<'a>(
     Ok(ModuleParts { module, rest })
 }
 
-/// Reads a module from a text an expression and a statement at a time, in less memory than all of them as JSON values would take.
+/// Reads a module from a text one expression or statement at a time, which takes less memory than one JSON value of the whole text.
 ///
-/// Returns `None` where that isn't possible; `parse_bytes` and `read_value` then tell why, unless they read the module.
+/// Returns `None` if that isn't possible: then `parse_bytes` and `read_value` return the reason, unless they read the module.
 ///
 /// # Errors
 ///

@@ -1,4 +1,4 @@
-//! The state of reading besides the current value.
+//! The state of reading, except the current value.
 ghost use Rattle.std.specs.Prelude.{◌≢◌};
 ghost use Rattle.shader_json_reader.specs.declared.failure.Failure.TheVariants.{OutOfMemory};
 
@@ -27,7 +27,7 @@ impl Context {
         }
     }
 
-    /// Returns the failure that rejects the current value. What is wanted is told with all names that may stand there.
+    /// Returns the failure that rejects the current value. Its text lists all names that are allowed there.
     pub fn refused(&self, wanted: &'static str) -> Failure
         ensures { result ≢ OutOfMemory }
     {

@@ -10,7 +10,7 @@ pub const MOST_BYTES: usize = 268_435_456;
 /// The requirement on a module's JSON that a value fails.
 #[derive(Debug, Drop, Error)]
 pub enum Wanted {
-    /// A value as these words describe it.
+    /// A value of this description.
     #[error("{0}")]
     Value(&'static str),
     /// An integer from the first to the second.
@@ -30,7 +30,7 @@ pub enum ReadError {
     /// The text has more than `MOST_BYTES` bytes.
     #[error("the text has more than 268,435,456 bytes")]
     TooLong,
-    /// The text from this byte on, counted from 0, is no JSON.
+    /// The text isn't JSON from this byte on, counted from 0.
     #[error("byte {byte}: what begins here isn't JSON")]
     NotJson {
         byte: usize,
@@ -40,14 +40,14 @@ pub enum ReadError {
     TooDeep {
         byte: usize,
     },
-    /// The text is JSON, but the value at the path isn't what a module has there. The path of the whole text is empty.
+    /// The text is JSON, but a module has another value at the path. The path of the whole text is empty.
     #[error("`{path}`: wanted is {wanted}, and found is {found}")]
     NotModule {
         /// The path to the value, as `functions[2].arguments`; empty for the root.
         path: String,
-        /// What may stand there.
+        /// The value that is required there.
         wanted: Wanted,
-        /// What stands there, in a few words.
+        /// A short description of the value that is there.
         found: String,
     },
 }

@@ -19,10 +19,10 @@ pub enum Failure {
     Refused(Refusal),
 }
 
-/// The requirement that a rejected value fails, with the way to the value.
+/// The requirement that a rejected value fails, with the path to the value.
 #[derive(Drop)]
 pub struct Refusal {
-    // The indexes of the items or members on the way down to the value, the last one first.
+    // The indexes of the items or members on the path down to the value, the last one first.
     steps: Vec<usize>,
     wanted: Wanted,
 }
@@ -51,7 +51,7 @@ impl Failure {
         }
     }
 
-    /// Returns the error for a failure that is seen from the root. This allocates the path and words for what is there.
+    /// Returns the error for a failure that is seen from the root. This allocates the path and a description of the value.
     pub fn into_read_error(self, alloc: Global, root: &Value<'_>) -> ReadError
         ensures memory { self ≡ OutOfMemory → result ≡ error.OutOfMemory }
         ensures module { (result ≡ error.OutOfMemory) ⊎ IsOfModule result }
@@ -92,7 +92,7 @@ impl<T: Drop> From<AllocFailed<T>> for Failure {
     }
 }
 
-/// Returns what was read of the item or member of this index, with its failure as seen from the array or object.
+/// Returns the result of reading the item or member of this index, with a failure as seen from the array or object.
 pub fn within<T>(index: usize, read: Result<T, Failure>) -> Result<T, Failure>
     ensures ok { OnOk read (result ≡ read) }
     ensures err { OnErr read (OnOk result ⊥) }

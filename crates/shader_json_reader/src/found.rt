@@ -1,12 +1,12 @@
-//! What a value is, in words, where another one is wanted.
+//! Describes the value that was found instead of the required one.
 
 use json::Value;
 use std::alloc::{AllocError, Global};
 
-/// The most bytes of a text that is told whole.
+/// The greatest number of bytes of a text that is quoted in full.
 const MOST_BYTES_TOLD: usize = 60;
 
-/// Returns what a value is: itself, if it is short and has no values in it, and else its kind.
+/// Describes a value: by its text if it is short and contains no values, otherwise by its kind and size.
 pub fn found_words(alloc: Global, value: &Value<'_>) -> Result<String, AllocError> {
     match value {
         Value::Null => "null".to_string(alloc),
@@ -21,7 +21,7 @@ pub fn found_words(alloc: Global, value: &Value<'_>) -> Result<String, AllocErro
     }
 }
 
-/// Returns what an object is: with its name, if it has one alone.
+/// Describes an object: by its field if it has only one, with a short name, otherwise by their number.
 fn object_words(alloc: Global, members: &[(&str, Value<'_>)]) -> Result<String, AllocError> {
     match members {
         [member] if member.0.len() <= MOST_BYTES_TOLD => {
@@ -31,7 +31,7 @@ fn object_words(alloc: Global, members: &[(&str, Value<'_>)]) -> Result<String, 
     }
 }
 
-/// Returns what has so many parts, in words.
+/// Describes a value with this number of parts.
 fn counted(alloc: Global, what: &str, part: &str, count: usize) -> Result<String, AllocError> {
     match count {
         0 => format!(in alloc; "{what} without {part}s"),

@@ -1,4 +1,4 @@
-//! What reading a module from JSON stands on: texts, numbers and names, and errors with the path to the value that is meant.
+//! The basis of reading a module from JSON: texts, numbers, names, and errors with the path to the rejected value.
 #![tactic(auto)]
 
 mod context;

@@ -1,6 +1,6 @@
-//! The names of which one is wanted, where the words for that stand for a list.
+//! The lists of names that descriptions of required values abbreviate.
 
-/// Words for what is wanted, and the same with all names that may stand there.
+/// Descriptions of required values, each with the same description that lists all allowed names.
 const LISTS: [(&str, &str); 21] = [
     (
         "an address space",
@@ -110,7 +110,7 @@ const LISTS: [(&str, &str); 21] = [
     ),
 ];
 
-/// Returns words for what is wanted, with all names that may stand there, if they are those of a list.
+/// Adds the allowed names to the description of a required value, if it is one of `LISTS`.
 pub fn listed(words: &'static str) -> &'static str {
     for row in &LISTS {
         if row.0 == words {

@@ -13,7 +13,7 @@ use std::alloc::Global;
 ///
 /// # Errors
 ///
-/// A text that is no JSON or nests more than 128 deep, with the byte where that shows; or an allocation failure.
+/// A text that is no JSON or nests more than 128 deep, with the byte at which that shows; or an allocation failure.
 pub fn parse<'a>(
     alloc: Global,
     text: &'a str,

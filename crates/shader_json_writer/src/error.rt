@@ -10,7 +10,7 @@ pub enum WriteError {
     /// Allocation failed.
     #[error("out of memory")]
     OutOfMemory,
-    /// A literal is infinite or no number, which JSON can't say.
+    /// A literal is infinite or no number, which JSON can't represent.
     #[error("a literal isn't finite")]
     NotFinite,
     /// The caller gave no name for the built-in value of this number.
@@ -22,7 +22,7 @@ pub enum WriteError {
     /// A set of flags has a bit that no flag has.
     #[error("a set of flags has a bit without a name")]
     UnnamedFlag,
-    /// Arrays and objects nest more than 128 deep, as blocks do in blocks.
+    /// Arrays and objects nest more than 128 deep, e.g. because of nested blocks.
     #[error("arrays and objects nest more than 128 deep")]
     TooDeep,
     /// The text has more than `MOST_BYTES` bytes.

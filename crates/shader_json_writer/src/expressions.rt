@@ -342,7 +342,7 @@ fn choice<'o>(out: Output<'o, '_>, expression: &Expression) -> Result<Value<'o>,
     }
 }
 
-/// Writes an expression that stands for the result of a statement or the state of a ray query.
+/// Writes an expression whose value is the result of a statement or the state of a ray query.
 fn returned<'o>(out: Output<'o, '_>, expression: &Expression) -> Result<Value<'o>, WriteFailure>
     requires { IsResult expression.now }
     ensures value { IfOk result (λ value. IsExpression (value_view value) expression.now) }

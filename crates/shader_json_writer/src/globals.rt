@@ -1,4 +1,4 @@
-//! Writes a module's declarations besides types, and those of functions.
+//! Writes a module's declarations except types, and those of functions.
 ghost use Rattle.shader_json_declarations.specs.Declarations.{IsArgument, IsConstant, IsGlobal, IsLocal, IsOverride, IsResult};
 ghost use Rattle.shader_json_declarations.specs.Filters.{IsFilter, IsFilterNode, IsRule};
 
@@ -105,7 +105,7 @@ impl Write for LocalVariable {
 impl Write for DiagnosticRule {
     ghost writes = { λ j rule. IsRule j rule };
 
-    /// Writes a rule. What another one is called isn't known, so it is an unknown one.
+    /// Writes a rule. The IR has no name for another rule, so that is written as the unknown rule `other`.
     fn write<'o>(&self, out: Output<'o, '_>) -> Result<Value<'o>, WriteFailure> {
         match self {
             DiagnosticRule::DerivativeUniformity => {

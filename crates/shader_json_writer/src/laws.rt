@@ -1,4 +1,4 @@
-//! What is read from a text that was written.
+//! The law that a written text is read as the module that was written.
 ghost use Rattle.std.specs.Prelude.{◌≡◌, IfOk};
 ghost use Rattle.shader_json_module.specs.Fixed.{fixed_module};
 ghost use Rattle.shader_json_module.specs.Modules.{IsTextOf};
@@ -7,7 +7,7 @@ use shader_ir::Module;
 use shader_json_module::{ReadError, read_module, text_determines_module};
 use std::alloc::Global;
 
-/// Reads a module from the text of another one, as `module_text` writes it. What is read is that module, but for what no text says.
+/// Reads a module from a text of `written`, as `module_text` returns it. The two are equal, except for the parts that a text leaves open.
 ///
 /// # Errors
 ///

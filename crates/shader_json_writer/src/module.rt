@@ -79,8 +79,8 @@ fn value_text(alloc: Global, value: &Value<'_>) -> Result<Vec<u8>, WriteError>
     Ok(text)
 }
 
-/// Writes a module as a JSON text, as `serde_json` prints naga's, but without what the IR lacks. Whatever reads it gets the module back, up
-/// to what the relation of the readers leaves open (`Fixed.fixed_module` of `shader_json_module`).
+/// Writes a module as a JSON text, as `serde_json` prints naga's, but without the members that the IR lacks. A module that is read from it
+/// is equal, except for the parts that a text leaves open (`Fixed.fixed_module` of `shader_json_module`).
 ///
 /// `builtins` has the names of the built-in values that have only a number in the IR, by that number.
 ///

@@ -1,4 +1,4 @@
-//! Writes the variants that have no payload and are spelled as in the code, of enums that have no others.
+//! Writes enums whose variants all have no payload, by the names of the variants in the code.
 ghost use Rattle.shader_json_declarations.specs.Declarations.{IsStage};
 ghost use Rattle.shader_json_declarations.specs.Filters.{IsSeverity};
 ghost use Rattle.shader_json_declarations.specs.Names.{cooperative_name, dimension_name, format_name, kind_name, role_name, severity_name};

@@ -1,4 +1,4 @@
-//! The trait of what can be written as a JSON value, and what writing stands on.
+//! The trait of types that can be written as JSON values, and the basis of writing.
 ghost use Rattle.std.specs.Prelude.{◌≡◌, IfOk};
 ghost use Rattle.json.specs.Json.{Json, member, no_members, null, string};
 ghost use Rattle.json.specs.Tree.{HasNumbers};
@@ -27,7 +27,7 @@ pub enum BuiltInName<'n> {
     },
 }
 
-/// Where values are written: the allocator, the texts of numbers and names, from which values borrow, and the names of built-in values.
+/// The output of writing: the allocator, the texts of numbers and names, from which values borrow, and the names of built-in values.
 #[derive(Clone, Copy)]
 pub(crate) struct Output<'o, 'n> {
     pub alloc: Global,
@@ -35,30 +35,30 @@ pub(crate) struct Output<'o, 'n> {
     pub builtins: &'n [BuiltInName<'n>],
 }
 
-/// A type that can be written as a JSON value, which a reader takes for an equal one.
+/// A type whose values can be written as JSON values.
 pub(crate) trait Write {
-    /// The values that stand for it, as in reading.
+    /// The JSON values that denote this value, by the relation of the readers.
     ghost writes: { Json → Self → Type 0 };
 
     /// Writes a value.
     ///
     /// # Errors
     ///
-    /// An allocation failure, or a part that JSON can't say.
+    /// An allocation failure, or a part that JSON can't represent.
     fn write<'o>(&self, out: Output<'o, '_>) -> Result<Value<'o>, WriteFailure>
         ensures writes { IfOk result (λ value. writes (value_view value) self.now) }
         ensures numbers { IfOk result (λ value. HasNumbers (value_view value)) };
 
-    /// Null doesn't stand for it, so that null can stand for none.
+    /// `null` never denotes this type, so an `Option` may use it.
     ghost not_null: { (x : Self) → writes null x → ⊥ };
 }
 
-/// A member of an object that is written: its name, and what it stands for.
+/// A member of an object that is written: its name and its value.
 #[derive_where(Clone, Copy)]
 pub(crate) enum Field<'a, T> {
     /// A member that each such object has.
     Needed(&'static str, &'a T),
-    /// A member that is null for none.
+    /// A member that is null for `None`.
     Optional(&'static str, &'a Option<T>),
 }
 

@@ -25,7 +25,7 @@ pub enum AccessIndex {
 pub struct AccessCheck {
     /// The position of the access, an `Access` or an `AccessIndex`.
     pub access: usize,
-    /// The position of what is accessed.
+    /// The position of the expression that is accessed.
     pub base: usize,
     pub index: AccessIndex,
     /// The length with which the index has to be compared.
@@ -128,8 +128,8 @@ fn add(checks: &mut Vec<AccessCheck>, check: Option<AccessCheck>) -> Result<(), 
 /// Returns the accesses of a function that need a check, ascending, each with the length with which its index has to be compared and the
 /// policy that applies.
 ///
-/// An access to a member of a struct needs none, and neither has one whose base has no length; with types that the analysis records and
-/// known sizes there is none of the latter.
+/// An access to a member of a struct needs none, nor does one whose base has no length. With types that the analysis records and known
+/// sizes, the base of each other access has a length.
 ///
 /// # Errors
 ///

@@ -1,4 +1,4 @@
-//! What a back end checks of a function.
+//! The checks that a back end makes for a function.
 ghost use Rattle.std.specs.Prelude.{◌≡◌, ◌↔◌, ℕ, Contains, IfOk, IsTrue};
 ghost use Rattle.std.specs.List.Sorted.{IsStrictlyIncreasing};
 ghost use Rattle.shader_arena.specs.Positions.{is_member};
@@ -72,7 +72,7 @@ fn local_types_of(
     Ok(types)
 }
 
-/// Returns what a back end checks of a function under the policies.
+/// Returns the checks that a back end makes for a function under the policies.
 ///
 /// The module is well formed if `check_module` returns `Ok`. With an info of the analysis and known sizes, each access that needs a check
 /// is among the accesses.

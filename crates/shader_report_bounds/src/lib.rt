@@ -1,5 +1,5 @@
 //! The report on bounds checks: the accesses of each function that need one under given policies, the checked indexes, and the types of the
-//! local variables to which pointers out of bounds are redirected; as JSON, and as text for people.
+//! local variables to which pointers out of bounds are redirected; as JSON, and as text output.
 #![tactic(auto)]
 
 mod accesses;

@@ -1,4 +1,4 @@
-//! What a back end checks of a module.
+//! The checks that a back end makes for a module.
 ghost use Rattle.std.specs.Prelude.{◌≡◌, ◌≢◌, ◌↔◌, length, IfOk, IfSome, IsSome, IsTrue, OnOk};
 ghost use Rattle.shader_analysis_spec.specs.Faults.{IsAccepted};
 ghost use Rattle.shader_bounds.specs.Lengths.{AreSizesKnown};
@@ -27,7 +27,7 @@ pub enum ModuleBounds {
     Found(Vec<FunctionBounds>, Vec<FunctionBounds>),
 }
 
-/// Adds what is checked of a function.
+/// Adds the checks of a function.
 fn add_bounds(
     alloc: Global,
     module: &Module,
@@ -45,7 +45,7 @@ fn add_bounds(
     Ok(())
 }
 
-/// Returns what is checked of each function.
+/// Returns the checks of each function.
 #[tactic(auto, using(shader_bounds::proofs::SearchLemmas::is_function_at))]
 fn functions_of(
     alloc: Global,
@@ -67,7 +67,7 @@ fn functions_of(
     Ok(bounds)
 }
 
-/// Returns what is checked of each entry point.
+/// Returns the checks of each entry point.
 #[tactic(auto, using(shader_bounds::proofs::SearchLemmas::is_entry_point_at))]
 fn entry_points_of(
     alloc: Global,
@@ -88,7 +88,7 @@ fn entry_points_of(
     Ok(bounds)
 }
 
-/// Returns what is checked of an analysed module whose sizes are known.
+/// Returns the checks of an analysed module whose sizes are known.
 fn found_by(
     alloc: Global,
     module: &Module,
@@ -107,7 +107,7 @@ fn found_by(
     Ok(ModuleBounds::Found(functions, entry_points))
 }
 
-/// Returns what is checked of an analysed module.
+/// Returns the checks of an analysed module.
 fn bounds_by(
     alloc: Global,
     module: &Module,
@@ -138,7 +138,7 @@ fn is_fault(cause: &FunctionError) -> bool
     }
 }
 
-/// Returns what is checked of a well-formed module, if the analysis accepts it.
+/// Returns the checks of a well-formed module, if the analysis accepts it.
 #[tactic(auto, using(crate::proofs::BoundsLemmas::not_accepted))]
 fn analysed(
     alloc: Global,
@@ -166,7 +166,7 @@ fn analysed(
     }
 }
 
-/// Returns what a back end checks of a module under the policies, if the module is well formed and the analysis accepts it.
+/// Returns the checks that a back end makes for a module under the policies, if the module is well formed and the analysis accepts it.
 ///
 /// `check_module` and the analysis recurse along nested blocks, so check `nests_within` first.
 ///

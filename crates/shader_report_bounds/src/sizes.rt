@@ -20,7 +20,7 @@ fn pending_override(inner: &TypeInner) -> Option<Handle<mark::Override>>
     }
 }
 
-/// Returns the override that sizes a type and gives it no size.
+/// Returns the override that sizes a type, if its value is no valid size.
 fn unresolved(module: &Module, inner: &TypeInner) -> Option<Handle<mark::Override>>
     ensures { result ≡ unresolved «module».now inner.now }
 {
@@ -30,7 +30,7 @@ fn unresolved(module: &Module, inner: &TypeInner) -> Option<Handle<mark::Overrid
     }
 }
 
-/// Returns the override that sizes the first type that has no size by it.
+/// Returns the override of the first type whose size is an override without a valid value.
 fn find_unsized(module: &Module) -> Option<Handle<mark::Override>>
     ensures { result ≡ first_unsized «module».now }
 {
@@ -42,8 +42,8 @@ fn find_unsized(module: &Module) -> Option<Handle<mark::Override>>
     None
 }
 
-/// Returns the override that has to be given a value first, before lengths are known: that of the first type of the module that an override
-/// sizes whose value is no valid size. There is none exactly if `sizes_known` returns true.
+/// Returns the override that has to be given a value before lengths are known: that of the first type of the module whose size is an
+/// override without a valid value. There is none exactly if `sizes_known` returns true.
 #[tactic(auto, using(crate::proofs::SizeLemmas::none_where))]
 pub fn first_unsized(module: &Module) -> Option<Handle<mark::Override>>
     ensures first { result ≡ first_unsized «module».now }

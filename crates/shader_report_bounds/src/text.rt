@@ -1,4 +1,4 @@
-//! Bounds as text for people.
+//! Prints bounds checks as text output.
 
 use crate::accesses::{AccessCheck, AccessIndex};
 use crate::function::FunctionBounds;
@@ -120,7 +120,7 @@ impl fmt::Display for LocalsText<'_> {
     }
 }
 
-/// The lines on a function of which something is checked.
+/// The lines on a function that has any checks.
 #[derive(Clone, Copy)]
 struct FunctionText<'a> {
     module: &'a Module,
@@ -170,7 +170,7 @@ impl fmt::Display for FunctionText<'_> {
     }
 }
 
-/// The name of an override.
+/// Returns the name of an override.
 fn override_name(module: &Module, handle: Handle<mark::Override>) -> NameText<'_> {
     let name = if module.overrides.contains_handle(handle) {
         match &module.overrides[handle].name {

@@ -1,4 +1,4 @@
-//! Globals and overrides as text for people.
+//! Prints globals and overrides as text output.
 ghost use Rattle.std.specs.Prelude.{◌≡◌, IfOk, length, slice_get, string_bytes};
 ghost use Rattle.std.specs.Option.{option_map};
 ghost use Rattle.json.specs.Value.{value_view};
@@ -56,7 +56,7 @@ fn member_lines(
     Ok(text)
 }
 
-/// Returns the lines on the members of a struct type, and none on another one.
+/// Returns the lines on the members of a struct type, or an empty text for another type.
 fn struct_lines(
     alloc: Global,
     module: &Module,
@@ -98,7 +98,7 @@ fn space_words(alloc: Global, space: AddressSpace) -> Result<String, AllocError>
     }
 }
 
-/// Returns the size and the alignment of a layout, where both are there.
+/// Returns the size and the alignment of a layout, if there are both.
 fn room_of(alloc: Global, size: Option<u32>, alignment: Option<u32>) -> Result<String, AllocError>
     ensures { IfOk result (λ text. string_bytes text ≡ room_of size alignment) }
 {
@@ -117,7 +117,7 @@ fn layout_words(alloc: Global, layout: &Option<TypeLayout>) -> Result<String, Al
     room_of(alloc, size_of(layout), alignment_of(layout))
 }
 
-/// Returns the distance of an array's elements, if the type is one.
+/// Returns the stride of an array, or an empty text for another type.
 fn stride_words(
     alloc: Global,
     module: &Module,
@@ -134,7 +134,7 @@ fn stride_words(
     }
 }
 
-/// Returns what room a global takes, or nothing of images, samplers and other handles.
+/// Returns the size, alignment and stride of a global, or an empty text for images, samplers and other handles.
 fn room_words(
     alloc: Global,
     module: &Module,
@@ -154,7 +154,7 @@ fn room_words(
     }
 }
 
-/// Returns the line on where a global is kept and what room it takes.
+/// Returns the line on the address space of a global, with its size, alignment and stride.
 #[tactic(auto, unfolding(crate::specs::DeclaredLines::place_line))]
 fn place_line(
     alloc: Global,
@@ -225,7 +225,7 @@ fn id_words(alloc: Global, id: Option<u32>) -> Result<String, AllocError>
     }
 }
 
-/// Returns what an override is without a pipeline's value, if that is a number or a bool.
+/// Returns the value that an override has if the pipeline sets none, if it is a number or a bool.
 fn default_words(alloc: Global, default: Option<&str>) -> Result<String, AllocError>
     ensures { IfOk result (λ text. string_bytes text ≡ default_words (option_map (λ text. text.now) default.entry)) }
 {

@@ -1,4 +1,4 @@
-//! Entry points, and the globals that they use, as JSON.
+//! Prints entry points, and the globals that they use, as JSON.
 ghost use Rattle.std.specs.Prelude.{◌≡◌, IfOk, OnOk, flat_map, length, [], ◌∷◌};
 ghost use Rattle.std.specs.List.{enumerate_from, list_any};
 ghost use Rattle.json.specs.Value.{value_view};
@@ -16,7 +16,7 @@ use shader_interface::Interface;
 use shader_ir::{EntryPoint, Items, Module, ShaderStage};
 use std::alloc::{AllocError, Global};
 
-/// An entry point, what is recorded of it, and the pairs of images and samplers that it samples together, ascending.
+/// An entry point, its info, and the pairs of images and samplers that it samples together, ascending.
 #[derive(Drop)]
 pub(crate) struct EntryUses<'a> {
     pub entry: &'a EntryPoint,
@@ -215,7 +215,7 @@ fn write_size(writer: &mut Writer, root: &Value<'_>, place: usize) -> Result<(),
     Ok(())
 }
 
-/// Writes what an entry point takes and returns.
+/// Writes the inputs and outputs of an entry point.
 #[tactic(auto, unfolding(crate::specs::Entries::bound_members))]
 fn write_bound_members(
     writer: &mut Writer,
@@ -238,7 +238,7 @@ fn write_bound_members(
     Ok(())
 }
 
-/// Writes the entry point at a place in the list of all.
+/// Writes the entry point at a position in the list of all.
 #[tactic(auto, unfolding(crate::specs::Entries::entry_tokens))]
 fn write_entry(
     writer: &mut Writer,

@@ -1,4 +1,4 @@
-//! Entry points, and the globals that they use, as text for people.
+//! Prints entry points, and the globals that they use, as text output.
 ghost use Rattle.std.specs.Prelude.{◌≡◌, IfOk, flat_map, string_bytes};
 ghost use Rattle.std.specs.List.{enumerate_from};
 ghost use Rattle.json.specs.Value.{value_view};
@@ -35,7 +35,7 @@ fn axis_words(
     }
 }
 
-/// Returns the size of the work groups of the entry point at a place.
+/// Returns the size of the work groups of the entry point at a position.
 #[tactic(auto, unfolding(crate::specs::EntryLines::group_words))]
 fn group_words(alloc: Global, root: &Value<'_>, place: usize) -> Result<String, AllocError>
     ensures { IfOk result (λ text. string_bytes text ≡ group_words (value_view root.now) place) }
@@ -51,7 +51,7 @@ fn group_words(alloc: Global, root: &Value<'_>, place: usize) -> Result<String, 
     )
 }
 
-/// Returns the size of the work groups, of a stage that has such groups.
+/// Returns the size of the work groups, or an empty text for a stage without work groups.
 fn size_words(
     alloc: Global,
     root: &Value<'_>,
@@ -68,7 +68,7 @@ fn size_words(
     }
 }
 
-/// Returns the first line on the entry point at a place.
+/// Returns the first line on the entry point at a position.
 #[tactic(auto, unfolding(crate::specs::EntryLines::entry_line))]
 fn entry_line(
     alloc: Global,
@@ -88,7 +88,7 @@ fn entry_line(
     )
 }
 
-/// Returns a word if a bit is set, or nothing.
+/// Returns a name if its bit is set, or an empty text.
 fn flag_word(is_set: bool, word: &'static str) -> &'static str
     ensures { result.now ≡ flag_word is_set word.now }
 {
@@ -193,7 +193,7 @@ fn pair_lines(
     Ok(text)
 }
 
-/// Returns the lines on the entry point at a place in the list of all.
+/// Returns the lines on the entry point at a position in the list of all.
 #[tactic(auto, unfolding(crate::specs::EntryLines::entry_lines))]
 fn entry_lines(
     alloc: Global,

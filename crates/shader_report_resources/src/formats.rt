@@ -1,10 +1,10 @@
-//! Texel formats in WGSL's words.
+//! The names of texel formats in WGSL.
 ghost use Rattle.std.specs.Prelude.{◌≡◌};
 ghost use Rattle.shader_report_resources.specs.Formats.{format_word, wide_format_word};
 
 use shader_ir::StorageFormat;
 
-/// Returns the word of a format of more than one channel.
+/// Returns the name of a format of more than one channel.
 fn wide_format_word(format: StorageFormat) -> &'static str
     ensures { result.now ≡ wide_format_word format }
 {
@@ -41,7 +41,7 @@ fn wide_format_word(format: StorageFormat) -> &'static str
     }
 }
 
-/// Returns the word of a format.
+/// Returns the name of a format.
 pub(crate) fn format_word(format: StorageFormat) -> &'static str
     ensures { result.now ≡ format_word format }
 {

@@ -1,4 +1,4 @@
-//! What entry points take and return, as JSON.
+//! Prints the inputs and outputs of entry points as JSON.
 ghost use Rattle.std.specs.Prelude.{◌≡◌, OnOk, flat_map, slice_get};
 ghost use Rattle.std.specs.List.{enumerate_from};
 ghost use Rattle.json.specs.Value.{value_view};
@@ -15,7 +15,7 @@ use shader_interface::{Binding, Interface};
 use shader_ir::{Function, FunctionArgument, Module, Name, StructMember, TypeInner, mark};
 use std::alloc::{AllocError, Global};
 
-/// Writes where a location is shared, and how its value is interpolated.
+/// Writes the number and the blend source of a location, and how its value is interpolated.
 #[tactic(auto, unfolding(crate::specs::Interfaces::location_members))]
 fn write_location(writer: &mut Writer, binding: Binding<'_, '_>) -> Result<(), AllocError>
     ensures { OnOk result (Adds writer.old writer.new (location_members (seen binding.entry.0))) }
@@ -117,7 +117,7 @@ fn write_input(
     )
 }
 
-/// Writes what the entry point at a place takes.
+/// Writes the inputs of the entry point at a position.
 pub(crate) fn write_inputs(
     writer: &mut Writer,
     alloc: Global,
@@ -136,7 +136,7 @@ pub(crate) fn write_inputs(
     Ok(())
 }
 
-/// Writes what the entry point at a place returns.
+/// Writes the outputs of the entry point at a position.
 pub(crate) fn write_outputs(
     writer: &mut Writer,
     alloc: Global,

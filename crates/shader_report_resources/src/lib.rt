@@ -1,5 +1,5 @@
-//! The resources of a module, for reflection, as JSON and as text for people: what it declares to its host and to other stages, the layouts
-//! of its types, and which globals each entry point uses, and how, at any depth of calls.
+//! Prints the resources of a module, for reflection, as JSON and as text output: its declarations to the host and to other stages, the
+//! layouts of its types, and which globals each entry point uses, and how, at any depth of calls.
 #![tactic(auto)]
 
 mod declared_lines;

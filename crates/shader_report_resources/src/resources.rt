@@ -23,12 +23,12 @@ use shader_ir::Module;
 use shader_ir::proc::{Layouter, UpdateError};
 use std::alloc::{AllocError, Global};
 
-/// The form in which resources are told.
+/// The form in which resources are printed.
 #[derive(Clone, Copy, Debug, PartialEq, Eq)]
 pub enum Notation {
     /// A JSON object, for programs.
     Json,
-    /// Lines, for people.
+    /// Lines of text output.
     Lines,
 }
 
@@ -144,7 +144,7 @@ fn json_by(
     Ok(text_of(writer))
 }
 
-/// Returns the same as text for people.
+/// Returns the resources of a module that is laid out and analysed, as text output.
 #[tactic(auto, unfolding(crate::specs::Resources::resources_lines))]
 fn lines_by(
     alloc: Global,
@@ -208,7 +208,7 @@ fn resources_of(
     resources_by(alloc, notation, module, root, layouter, uses.as_slice())
 }
 
-/// Returns the resources of a valid module. Had a type no layout, which a valid module's have, that would be a reason for none.
+/// Returns the resources of a valid module. Returns `None` only for a type without a layout, which a valid module doesn't have.
 #[tactic(auto, using(crate::proofs::LayoutLemmas::no_layout))]
 fn found_of(
     alloc: Global,
@@ -241,9 +241,9 @@ fn found_of(
     }
 }
 
-/// Returns the resources of a module, as a JSON object or as lines for people, if the module is valid.
+/// Returns the resources of a module, as a JSON object or as lines of text output, if the module is valid.
 ///
-/// `root` is the JSON of the module, which declares what the IR leaves out. `validate` recurses along nested blocks, so check
+/// `root` is the JSON of the module, which has declarations that the IR leaves out. `validate` recurses along nested blocks, so check
 /// `nests_within` first.
 ///
 /// # Errors

@@ -1,4 +1,4 @@
-//! Names, types and words of the JSON as text for people.
+//! Prints names, types and strings of the JSON as text output.
 ghost use Rattle.std.specs.Prelude.{◌≡◌, IfOk, slice_get, string_bytes};
 ghost use Rattle.std.specs.Option.{option_copied, option_map};
 ghost use Rattle.json.specs.Value.{value_view};
@@ -12,8 +12,8 @@ use shader_interface::{AttributesText, Interface};
 use shader_ir::{GlobalVariable, Module, Name, mark};
 use std::alloc::{AllocError, Global};
 
-/// Returns whether a text may have a control character, as texts for people have it of names: an ASCII one, or one from U+0080 to U+00BF,
-/// the first half of which are control characters.
+/// Returns whether a text may have a control character: an ASCII one, or a character from U+0080 to U+00BF, of which the first half are
+/// control characters.
 fn may_have_control(text: &str) -> bool
     ensures { result ≡ may_have_control text.now }
 {
@@ -22,17 +22,17 @@ fn may_have_control(text: &str) -> bool
         .any(|byte| byte.is_ascii_control() || *byte == 0xC2)
 }
 
-/// The most bytes of a name that are told, so that a text doesn't grow by a long name at each place that it is named.
+/// The greatest number of bytes of a name that is printed, so that a long name doesn't lengthen the text each time it occurs.
 const MOST_BYTES: usize = 200;
 
-/// Returns whether a name is told: it isn't empty, has at most 200 bytes, and none of them may be of a control character.
+/// Returns whether a name can be printed as it is: not empty, at most 200 bytes, and without bytes that may be of control characters.
 fn is_told(name: &str) -> bool
     ensures { result ≡ is_told name.now }
 {
     !name.is_empty() && name.len() <= MOST_BYTES && !may_have_control(name)
 }
 
-/// Returns a name, or the number behind a `#` where the name isn't told.
+/// Returns a name, or the number after a `#` if the name can't be printed as it is.
 pub(crate) fn shown_name(alloc: Global, name: &str, position: usize) -> Result<String, AllocError>
     ensures { IfOk result (λ text. string_bytes text ≡ shown_name name.now position) }
 {
@@ -57,14 +57,14 @@ pub(crate) fn shown_item(
     }
 }
 
-/// Returns a word of the JSON, or a question mark where it may have control characters.
+/// Returns a string of the JSON, or a question mark if it may have control characters.
 pub(crate) fn shown_word(word: &str) -> &str
     ensures { result.now ≡ shown_word word.now }
 {
     if may_have_control(word) { "?" } else { word }
 }
 
-/// Returns a type in WGSL's words, or its number.
+/// Returns the spelling of a type in WGSL, or its number if that can't be printed.
 pub(crate) fn shown_type(
     alloc: Global,
     module: &Module,
@@ -98,7 +98,7 @@ fn global_name(alloc: Global, module: &Module, position: usize) -> Result<String
     }
 }
 
-/// Returns where the global at a position is bound, and its name.
+/// Returns the binding and the name of the global at a position.
 #[tactic(auto, unfolding(crate::specs::Shown::shown_global))]
 pub(crate) fn shown_global(
     alloc: Global,

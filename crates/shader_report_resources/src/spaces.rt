@@ -1,11 +1,11 @@
-//! Address spaces, and the accesses that they and storage images allow, in WGSL's words.
+//! The names in WGSL of address spaces, and of the accesses that they and storage images allow.
 ghost use Rattle.std.specs.Prelude.{◌≡◌};
 ghost use Rattle.std.specs.Option.{option_map};
 ghost use Rattle.shader_report_resources.specs.Spaces.{access_word, accesses_word, space_word, stated_access};
 
 use shader_ir::{AddressSpace, StorageAccess};
 
-/// Returns the word for these accesses.
+/// Returns the name of the access mode that allows these accesses.
 fn accesses_word(load: bool, store: bool, atomic: bool) -> &'static str
     ensures { result.now ≡ accesses_word load store atomic }
 {
@@ -43,7 +43,7 @@ pub(crate) fn space_word(space: AddressSpace) -> &'static str
     }
 }
 
-/// Returns the access mode that an address space states, which storage alone does.
+/// Returns the access mode that an address space states, which only the storage space does.
 pub(crate) fn stated_access(space: AddressSpace) -> Option<&'static str>
     ensures { option_map (λ word. word.now) result ≡ stated_access space }
 {

@@ -1,4 +1,4 @@
-//! Types, globals and overrides as JSON.
+//! Prints types, globals and overrides as JSON.
 ghost use Rattle.std.specs.Prelude.{◌≡◌, OnOk, flat_map, length, slice_get};
 ghost use Rattle.std.specs.Option.{option_map};
 ghost use Rattle.json.specs.Value.{value_view};
@@ -25,7 +25,7 @@ fn position_of(ty: Handle<mark::Type>) -> u32
     ty.index() as u32
 }
 
-/// Writes the position of a type, and its words.
+/// Writes the position of a type, and its spelling in WGSL.
 pub(crate) fn write_type_members(
     writer: &mut Writer,
     alloc: Global,
@@ -73,7 +73,7 @@ fn write_each_member(
     Ok(())
 }
 
-/// Writes the members of a struct, or null of another type.
+/// Writes the members of a struct, or null for another type.
 fn write_members(
     writer: &mut Writer,
     alloc: Global,
@@ -92,7 +92,7 @@ fn write_members(
     }
 }
 
-/// Returns the distance of an array's elements, in bytes.
+/// Returns the stride of an array, in bytes.
 pub(crate) fn stride_of(inner: &TypeInner) -> Option<u32>
     ensures { result ≡ stride_of inner.now }
 {

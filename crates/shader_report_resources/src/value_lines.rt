@@ -1,4 +1,4 @@
-//! What entry points take and return, as text for people.
+//! Prints the inputs and outputs of entry points as text output.
 ghost use Rattle.std.specs.Prelude.{◌≡◌, IfOk, flat_map, slice_get, string_bytes};
 ghost use Rattle.std.specs.List.{enumerate_from};
 ghost use Rattle.std.specs.Option.{option_map};
@@ -35,7 +35,7 @@ fn number_words(alloc: Global, attribute: &str, number: Option<u32>) -> Result<S
     }
 }
 
-/// Returns where in a pixel a value is interpolated, behind a comma, and the end of the attribute.
+/// Returns where in a pixel a value is interpolated, after a comma, and the end of the attribute.
 fn sampled(alloc: Global, sampling: Option<&str>) -> Result<String, AllocError>
     ensures { IfOk result (λ text. string_bytes text ≡ sampled (option_map (λ word. word.now) sampling.entry)) }
 {
@@ -67,7 +67,7 @@ fn interpolated(
     }
 }
 
-/// Returns the attributes of a location, or nothing of another binding.
+/// Returns the attributes of a location, or an empty text for another binding.
 #[tactic(auto, unfolding(crate::specs::ValueLines::location_words))]
 fn location_words(alloc: Global, binding: Binding<'_, '_>) -> Result<String, AllocError>
     ensures { IfOk result (λ text. string_bytes text ≡ location_words (seen binding.entry.0)) }
@@ -78,7 +78,7 @@ fn location_words(alloc: Global, binding: Binding<'_, '_>) -> Result<String, All
     format!(in alloc; "{}{}{}", location.as_str(), source.as_str(), flow.as_str())
 }
 
-/// Returns a name with a colon, or nothing of what has none.
+/// Returns a name with a colon, or an empty text if there is none.
 fn named(alloc: Global, name: &Option<Name>, position: usize) -> Result<String, AllocError>
     ensures { IfOk result (λ text. string_bytes text ≡ named name.now position) }
 {
@@ -91,7 +91,7 @@ fn named(alloc: Global, name: &Option<Name>, position: usize) -> Result<String, 
     }
 }
 
-/// Returns how a value is bound, its name and its type.
+/// Returns the binding, the name and the type of a value.
 #[tactic(auto, unfolding(crate::specs::ValueLines::value_words))]
 fn value_words(
     alloc: Global,
@@ -116,7 +116,7 @@ fn value_words(
     )
 }
 
-/// Returns the line on a value, which begins with the way that it goes.
+/// Returns the line on a value, which begins with its direction.
 #[tactic(auto, unfolding(crate::specs::ValueLines::value_line))]
 fn value_line(
     alloc: Global,
@@ -198,7 +198,7 @@ fn input_lines(
     bound_lines(alloc, module, root, "input", name, index, ty, binding)
 }
 
-/// Returns the lines on what the entry point at a place takes.
+/// Returns the lines on the inputs of the entry point at a position.
 pub(crate) fn inputs_lines(
     alloc: Global,
     module: &Module,
@@ -218,7 +218,7 @@ pub(crate) fn inputs_lines(
     Ok(text)
 }
 
-/// Returns the lines on what the entry point at a place returns.
+/// Returns the lines on the outputs of the entry point at a position.
 pub(crate) fn outputs_lines(
     alloc: Global,
     module: &Module,

@@ -1,4 +1,4 @@
-//! Types in WGSL's words.
+//! Spells types as WGSL does.
 ghost use Rattle.std.specs.Prelude.{◌≡◌, IfOk, string_bytes};
 ghost use Rattle.std.specs.Option.{option_map};
 ghost use Rattle.shader_report_resources.specs.Words.{arrayed_word, base_at, base_of, built_words, composed_words, cooperative_word};
@@ -17,7 +17,7 @@ use shader_ir::{
 use shader_type_text::ScalarText;
 use std::alloc::{AllocError, Global};
 
-/// The number of levels of types built over others that are told. WGSL nests types at most 15 deep.
+/// The greatest number of nested levels of a type that are spelled. WGSL nests types at most 15 deep.
 const MOST_LEVELS: usize = 16;
 
 /// Returns the dimension of an image.
@@ -32,21 +32,21 @@ fn dimension_word(dim: ImageDimension) -> &'static str
     }
 }
 
-/// Returns what is said of an image that has layers.
+/// Returns the suffix of an image that has layers.
 fn arrayed_word(arrayed: bool) -> &'static str
     ensures { result.now ≡ arrayed_word arrayed }
 {
     if arrayed { "_array" } else { "" }
 }
 
-/// Returns what is said of an image that has several samples per texel.
+/// Returns the prefix of an image that has several samples per texel.
 fn multi_word(multi: bool) -> &'static str
     ensures { result.now ≡ multi_word multi }
 {
     if multi { "multisampled_" } else { "" }
 }
 
-/// Returns the words of an image.
+/// Returns the spelling of an image.
 #[tactic(auto, unfolding(crate::specs::Words::image_words))]
 fn image_words(
     alloc: Global,
@@ -95,7 +95,7 @@ fn role_word(role: CooperativeRole) -> &'static str
     }
 }
 
-/// Returns the words of a scalar, or of a vector of it if there is a size.
+/// Returns the spelling of a scalar, or of a vector of it if there is a size.
 fn sized_words(
     alloc: Global,
     size: Option<VectorSize>,
@@ -109,14 +109,14 @@ fn sized_words(
     }
 }
 
-/// Returns what is said of structures whose vertices a ray returns.
+/// Returns the suffix of acceleration structures and ray queries that return the vertices of a hit.
 fn vertex_return_word(vertex_return: bool) -> &'static str
     ensures { result.now ≡ vertex_return_word vertex_return }
 {
     if vertex_return { "<vertex_return>" } else { "" }
 }
 
-/// Returns the word of a sampler.
+/// Returns the spelling of a sampler.
 fn sampler_word(comparison: bool) -> &'static str
     ensures { result.now ≡ sampler_word comparison }
 {
@@ -127,7 +127,7 @@ fn sampler_word(comparison: bool) -> &'static str
     }
 }
 
-/// Returns a name, or the position of what has none.
+/// Returns a name, or the position of an item without one.
 fn name_or_number(alloc: Global, name: Option<&Name>, position: usize) -> Result<String, AllocError>
     ensures { IfOk result (λ text. string_bytes text ≡ name_or_number (option_map (λ name. name.now) name.entry) position) }
 {
@@ -137,7 +137,7 @@ fn name_or_number(alloc: Global, name: Option<&Name>, position: usize) -> Result
     }
 }
 
-/// Returns the words of an override.
+/// Returns the name of an override, or its position.
 fn override_words(
     alloc: Global,
     module: &Module,
@@ -152,7 +152,7 @@ fn override_words(
     name_or_number(alloc, name, handle.index())
 }
 
-/// Returns the number of an array's elements behind a comma, or nothing if it isn't known before the shader runs.
+/// Returns the number of an array's elements after a comma, or an empty text if it isn't known before the shader runs.
 fn count_words(alloc: Global, module: &Module, size: ArraySize) -> Result<String, AllocError>
     ensures { IfOk result (λ text. string_bytes text ≡ count_words «module».now size) }
 {
@@ -166,7 +166,7 @@ fn count_words(alloc: Global, module: &Module, size: ArraySize) -> Result<String
     }
 }
 
-/// Returns what a type is built over.
+/// Returns the base type of a pointer, an array or a binding array.
 fn base_of(inner: &TypeInner) -> Option<Handle<mark::Type>>
     ensures { result ≡ base_of inner.now }
 {
@@ -178,7 +178,7 @@ fn base_of(inner: &TypeInner) -> Option<Handle<mark::Type>>
     }
 }
 
-/// Returns the words of a type over a base, given in words.
+/// Returns the spelling of a pointer or an array, given that of its base type.
 fn composed_words(
     alloc: Global,
     module: &Module,
@@ -204,7 +204,7 @@ fn composed_words(
     }
 }
 
-/// Returns the words of a type of one or more scalars.
+/// Returns the spelling of a type of one or more scalars.
 fn plain_words(alloc: Global, inner: &TypeInner) -> Result<String, AllocError>
     ensures { IfOk result (λ text. string_bytes text ≡ plain_words inner.now) }
 {
@@ -242,7 +242,7 @@ fn plain_words(alloc: Global, inner: &TypeInner) -> Result<String, AllocError>
     }
 }
 
-/// Returns the words of a type without a name at a position, over a base, given in words.
+/// Returns the spelling of the unnamed type at a position, given that of its base type.
 fn built_words(
     alloc: Global,
     module: &Module,
@@ -275,7 +275,7 @@ fn built_words(
     }
 }
 
-/// Returns the words of a type over a base, given in words: its name, or what it is built from.
+/// Returns the name of a type, or its spelling if it has none, given that of its base type.
 fn told_words(
     alloc: Global,
     module: &Module,
@@ -294,7 +294,7 @@ fn told_words(
     }
 }
 
-/// Returns what the type is built over, if there is such a type.
+/// Returns the base type of the type with this handle, if it has one.
 pub(crate) fn base_at(module: &Module, ty: Handle<mark::Type>) -> Option<Handle<mark::Type>>
     ensures { result ≡ base_at «module».now ty }
 {
@@ -304,7 +304,7 @@ pub(crate) fn base_at(module: &Module, ty: Handle<mark::Type>) -> Option<Handle<
     }
 }
 
-/// Returns the words of a type, where types are built over others at most so many levels deep.
+/// Returns the spelling of a type up to `levels` deep. A base type below that is printed as its position.
 fn words_within(
     alloc: Global,
     module: &Module,
@@ -325,7 +325,7 @@ fn words_within(
     }
 }
 
-/// Returns the words of a type: its name, or what it is built from, up to 16 levels deep.
+/// Returns the name of a type, or its spelling if it has none, up to 16 levels deep.
 ///
 /// # Errors
 ///

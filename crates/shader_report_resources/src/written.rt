@@ -1,4 +1,4 @@
-//! Members of objects.
+//! Writes members of objects.
 ghost use Rattle.std.specs.Prelude.{◌≡◌, OnOk};
 ghost use Rattle.std.specs.Option.{option_map};
 ghost use Rattle.shader_report_resources.specs.Written.{Adds, number_member, text_member};

@@ -1,4 +1,4 @@
-//! Chains to a source of non-uniformity as steps for printing.
+//! Converts traces to a source of non-uniformity into steps for printing.
 ghost use Rattle.std.specs.Prelude.{◌≡◌, ◌<◌, IfOk, map};
 ghost use Rattle.shader_report_text.specs.Shown.{Shows, ShowsBeginning, analysis_location, step_of_link};
 
@@ -37,7 +37,7 @@ fn steps_of(alloc: Global, links: &[Link]) -> Result<Vec<Step>, AllocError>
     links.iter().map(|link| step_of(*link)).collect(alloc)
 }
 
-/// Returns the first steps of a chain from a link to a source, at most `most`, or none if the link's value is uniform.
+/// Returns the first steps of a trace from a link to a source, at most `most`, or none if the link's value is uniform.
 ///
 /// # Errors
 ///
@@ -58,7 +58,7 @@ pub fn first_steps_from(
     }
 }
 
-/// Returns the steps of a chain from a link through operands and calls to a source, or none if the link's value is uniform.
+/// Returns the steps of a trace from a link through operands and calls to a source, or none if the link's value is uniform.
 ///
 /// # Errors
 ///

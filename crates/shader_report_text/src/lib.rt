@@ -1,4 +1,4 @@
-//! The report on a module as one text for people, with the verdict whether the module is accepted.
+//! The text report on a module, with the verdict whether the module is accepted.
 #![tactic(auto)]
 
 mod chains;

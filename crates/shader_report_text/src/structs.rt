@@ -7,7 +7,7 @@ use shader_ir::proc::Layouter;
 use shader_ir::{Module, StructMember, TypeInner, mark};
 use std::alloc::{AllocError, Global};
 
-/// The most members of a struct in whose drawing those that are structs are drawn too, and the most members of such a one.
+/// The greatest number of members of a struct whose inner structs are drawn too, and of such an inner struct.
 const MOST_NESTED: usize = 16;
 
 /// Returns the members and the size of a struct type.
@@ -21,7 +21,7 @@ fn struct_at(module: &Module, ty: Handle<mark::Type>) -> Option<(&[StructMember]
     }
 }
 
-/// Returns the place of a member in its struct, if its type has a layout.
+/// Returns the bytes that a member takes in its struct, if its type has a layout.
 fn slot_of<'a>(layouts: &Layouter, member: &'a StructMember, position: usize) -> Option<Slot<'a>> {
     if member.ty.index() >= layouts.len() {
         return None;
@@ -39,8 +39,8 @@ fn slot_of<'a>(layouts: &Layouter, member: &'a StructMember, position: usize) ->
     })
 }
 
-/// Returns the places of members of a struct of this size, without those whose type has no layout. An array whose length is known at run
-/// time takes what is left of the struct: its elements.
+/// Returns the bytes that the members of a struct of this size take, except members whose type has no layout. A runtime-sized array takes
+/// the rest of the struct, for its elements.
 fn slots_of<'a>(
     alloc: Global,
     module: &Module,
@@ -114,8 +114,7 @@ fn add_nested(
     add_rows(alloc, slots.as_slice(), span, 4, text)
 }
 
-/// Returns whether the place of a member is the layout rules' choice alone: the member is no input or output of a shader, and its size is
-/// known.
+/// Returns whether the layout rules alone determine the offset of a member: it is no input or output of a shader, and its size is known.
 fn is_movable(module: &Module, member: &StructMember) -> bool {
     member.binding.is_none()
         && module.types.contains_handle(member.ty)
@@ -134,7 +133,7 @@ fn add_order_line(
     text.push_str(more.as_str())
 }
 
-/// Adds the line on an order of the members in which the struct takes less room, if one is found.
+/// Adds the line on an order of the members in which the struct takes fewer bytes, if one is found.
 fn add_order(
     alloc: Global,
     module: &Module,
@@ -154,7 +153,7 @@ fn add_order(
     }
 }
 
-/// Adds the drawing of a struct, of its members that are structs, and an order in which it takes less room. A struct with a member whose
+/// Adds the drawing of a struct, of its members that are structs, and an order in which it takes fewer bytes. A struct with a member whose
 /// type has no layout isn't drawn.
 fn add_drawing(
     alloc: Global,

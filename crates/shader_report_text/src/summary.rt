@@ -1,4 +1,4 @@
-//! The report on a module, and its verdict.
+//! The text report on a module, and its verdict.
 ghost use Rattle.std.specs.Prelude.{◌≡◌, ◌≢◌, false, IfOk};
 ghost use Rattle.shader_info.specs.declared.error.FunctionError.TheVariants.{OutOfMemory};
 ghost use Rattle.shader_resolve.specs.WellFormed.{IsWellFormed};
@@ -17,7 +17,7 @@ use shader_resolve::{FaultAt, find_fault};
 use shader_uniformity_trace::Reasons;
 use std::alloc::{AllocError, Global};
 
-/// The report on a module.
+/// The text report on a module.
 #[derive(Drop)]
 pub struct Summary {
     /// Lines on structs with their holes, on functions and entry points with their infos, and on the reason why the module is refused.
@@ -112,7 +112,7 @@ fn add_analysis(
     }
 }
 
-/// Adds what a report ends with: the refusal of a type, if there is one, or that the module is accepted.
+/// Adds the end of a report: the refusal of a type, if there is one, or that the module is accepted.
 fn add_end(text: &mut String, refusal: &str, is_accepted: bool) -> Result<(), AllocError> {
     text.push_str(refusal)?;
     text.push_str(if is_accepted { "accepted\n" } else { "" })
@@ -142,9 +142,9 @@ fn analysed(
     })
 }
 
-/// Reports on a module for people, and decides whether it is accepted.
+/// Writes the text report on a module, and decides whether the module is accepted.
 ///
-/// `bindings` has where the host binds each global, by position, which is told beside its uses; of a global beyond them nothing is told.
+/// `bindings` has the binding of each global, by position, which is printed with its uses. For a global beyond them no binding is printed.
 /// `check_module` and the analysis recurse along nested blocks, so check `nests_within` first.
 ///
 /// # Errors
