@@ -13,7 +13,7 @@ pub fn globals_are_among()
     ensures { GlobalsAreAmong }
 {}
 
-/// States that if an info records the derivable types, as those of the analysis do, then these types determine what is checked.
+/// States that if an info records the derivable types, as those of the analysis do, then these types determine the checks.
 pub fn checks_are_of_derived()
     ensures { ChecksAreOfDerived }
 {}

@@ -206,7 +206,7 @@ fn needed_locals(
 ///
 /// # Errors
 ///
-/// `AllocError` if allocating one word per statement or one entry per type fails. Only `ReadZeroSkipWrite` allocates.
+/// `AllocError` if allocating one reference per statement or one entry per type fails. Only `ReadZeroSkipWrite` allocates.
 pub fn oob_local_types(
     alloc: Global,
     module: &Module,

@@ -1,4 +1,4 @@
-//! The rules of a call, by what is known of the called function.
+//! The implications of a call, from the summary of the called function.
 ghost use Rattle.std.specs.Prelude.{◌≡◌, ◌++◌, OnOk, slice_get};
 ghost use Rattle.std.specs.List.{flat_map};
 ghost use Rattle.std.specs.Option.{option_copied, option_map};
@@ -32,7 +32,7 @@ fn argument_at(
     arguments.get(index as usize).copied()
 }
 
-/// Returns the caller's fact for one with which the called function begins.
+/// Returns the caller's fact that makes this fact true when the called function begins.
 fn cause_of(site: &CallSite<'_>, fact: &Fact) -> Fact
     ensures { result ≡ cause_of site.now.places.now site.now.position site.now.around site.now.arguments.now site.now.result fact.now }
 {
@@ -53,7 +53,7 @@ fn cause_of(site: &CallSite<'_>, fact: &Fact) -> Fact
     }
 }
 
-/// Adds that the result of a call differs, where there is one.
+/// Adds that the cause makes the result of the call non-uniform, if the call has a result.
 fn add_gives(
     rules: &mut Vec<Rule>,
     cause: Fact,
@@ -67,7 +67,7 @@ fn add_gives(
     }
 }
 
-/// Adds what a cause leads to by a fact with which the called function ends.
+/// Adds the effect of a fact that the cause makes true when the called function ends.
 fn add_effect(
     rules: &mut Vec<Rule>,
     site: &CallSite<'_>,
@@ -103,7 +103,7 @@ fn add_filled(rules: &mut Vec<Rule>, site: &CallSite<'_>, known: &[Rule]) -> Res
     Ok(())
 }
 
-/// Adds what is known of the called function.
+/// Adds the summary of the called function, or a fault if it has none.
 fn add_known(
     rules: &mut Vec<Rule>,
     site: &CallSite<'_>,
@@ -120,7 +120,7 @@ fn add_known(
     }
 }
 
-/// Adds the rules of a call.
+/// Adds the implications of a call.
 pub fn add_call(
     rules: &mut Vec<Rule>,
     site: &CallSite<'_>,

@@ -1,4 +1,4 @@
-//! Facts in a table: a cell for each fact, with the first moment from which it holds.
+//! A table of facts: the cell of a fact has the first moment from which it is true.
 ghost use Rattle.std.specs.Prelude.{◌≡◌, ◌<◌, ◌^◌, None, IfOk, length, replicate, slice_index_or};
 ghost use Rattle.shader_uniformity.specs.Cells.{cell, cells_with, holds, is_from, kind, moment, number};
 
@@ -56,7 +56,7 @@ fn number(fact: &Fact) -> usize
     }
 }
 
-/// Returns the moment from which a fact holds, 0 for one that holds for good.
+/// Returns the moment from which a fact is true, 0 for a fact without a moment.
 pub fn moment(fact: &Fact) -> u32
     ensures { result ≡ moment fact.now }
 {
@@ -74,7 +74,7 @@ pub fn cell(fact: &Fact) -> usize
     16 * number(fact) + kind(fact)
 }
 
-/// Returns what a cell has, nothing where there is no such cell.
+/// Returns the content of a cell, or `None` if there is no such cell.
 pub fn at(table: &[Option<u32>], place: usize) -> Option<u32>
     ensures { result ≡ slice_index_or table.now place None }
 {
@@ -109,7 +109,7 @@ pub fn enter(table: &mut Vec<Option<u32>>, fact: &Fact)
     table[cell(fact)] = Some(moment(fact));
 }
 
-/// Returns an empty table.
+/// Returns a table of `width` empty cells.
 pub fn empty(alloc: Global, width: usize) -> Result<Vec<Option<u32>>, AllocError>
     ensures { IfOk result (λ table. table.items ≡ replicate width None) }
 {

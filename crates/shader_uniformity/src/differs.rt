@@ -1,4 +1,4 @@
-//! The rules of emitted expressions and of places.
+//! The implications of emitted expressions, loads and stores.
 ghost use Rattle.std.specs.Prelude.{◌≡◌, ◌∷◌, ◌++◌, [], OnOk, map};
 ghost use Rattle.std.specs.List.{flat_map};
 ghost use Rattle.shader_arena.specs.Positions.{positions_between};
@@ -27,7 +27,7 @@ fn is_implicit(level: &SampleLevel) -> bool
     }
 }
 
-/// Adds that a statement needs all invocations.
+/// Adds that a statement needs uniform control flow.
 pub fn add_need(rules: &mut Vec<Rule>, position: u32) -> Result<(), AllocError>
     ensures { OnOk result (rules.new.items ≡ rules.old.items ++ need position) }
 {
@@ -44,7 +44,7 @@ fn add_emitted_need(rules: &mut Vec<Rule>, severe: bool, position: u32) -> Resul
     }
 }
 
-/// Adds that an expression reads what a pointer points to.
+/// Adds that an expression is non-uniform if the memory location that it reads is.
 fn add_load(
     rules: &mut Vec<Rule>,
     places: &[Place],
@@ -60,7 +60,7 @@ fn add_load(
     add_rule(rules, Fact::Holds(place, moment), Fact::Differs(expression))
 }
 
-/// Adds that a place holds what differs, for one cause.
+/// Adds one cause that makes the memory location of a pointer non-uniform.
 pub fn add_store(
     rules: &mut Vec<Rule>,
     places: &[Place],
@@ -76,7 +76,7 @@ pub fn add_store(
     add_rule(rules, cause, Fact::Holds(place, moment))
 }
 
-/// Adds what a store of a value through a pointer makes of the place.
+/// Adds that a store makes its memory location non-uniform if the value, the pointer or control flow is so.
 pub fn add_stores(
     rules: &mut Vec<Rule>,
     places: &[Place],
@@ -143,7 +143,7 @@ fn add_derivative(
     add_emitted_need(rules, severe, position)
 }
 
-/// Adds that an expression differs where an operand does.
+/// Adds that an expression is non-uniform if an operand is.
 fn add_operands(
     rules: &mut Vec<Rule>,
     handle: Handle<mark::Expression>,
@@ -157,7 +157,7 @@ fn add_operands(
     Ok(())
 }
 
-/// Adds what the form of an expression brings beside its operands.
+/// Adds the implications of an expression's kind, in addition to those of its operands.
 fn add_form(
     rules: &mut Vec<Rule>,
     scope: &Scope<'_>,
@@ -195,7 +195,7 @@ fn add_form(
     }
 }
 
-/// Adds the rules of an emitted expression.
+/// Adds the implications of an emitted expression.
 fn add_emitted(
     rules: &mut Vec<Rule>,
     scope: &Scope<'_>,
@@ -216,7 +216,7 @@ fn add_emitted(
     }
 }
 
-/// Adds the rules of an `Emit`.
+/// Adds the implications of an `Emit`.
 pub fn add_emits(
     rules: &mut Vec<Rule>,
     scope: &Scope<'_>,

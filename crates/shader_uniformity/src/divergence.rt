@@ -1,4 +1,4 @@
-//! The entry points that let some invocations alone pass what needs all of them.
+//! The entry points in which only some invocations may execute a statement that needs uniform control flow.
 ghost use Rattle.std.specs.Prelude.{◌≡◌, ◌↔◌, None, IfOk, IsTrue, slice_get, map};
 ghost use Rattle.shader_uniformity.specs.Fault.{AreAllKnown, AreFaulty, IsFault, IsKnownBy, IsVerdict};
 ghost use Rattle.shader_uniformity.specs.Filters.{severity_table};
@@ -12,19 +12,19 @@ use crate::verdict::verdict_of;
 use shader_ir::{EntryPoint, Function, Items, Module};
 use std::alloc::{AllocError, Global};
 
-/// The uniform control flow of a module, as `find_divergence` finds it.
+/// The result of `find_divergence` for a module.
 #[derive(Drop)]
 pub struct Uniformity {
-    /// The endings of a call that each of its beginnings leads to, for each function.
+    /// The summary of each function: which facts at the end of a call follow from which at its beginning.
     pub functions: Items<Items<Rule>>,
-    /// For each entry point, true where some invocations alone may pass what needs all of them.
+    /// For each entry point, true if it is at fault: it may violate a need of uniform control flow.
     pub faulty: Items<bool>,
-    /// The first function that lets them by itself, whoever calls it, or else the first entry point that does.
+    /// The first function that is at fault whoever calls it, or else the first entry point at fault.
     pub fault: Option<BodyLocation>,
 }
 
 impl Uniformity {
-    /// Checks whether the module is accepted: no function and no entry point lets some invocations alone pass what needs all of them.
+    /// Checks whether the module is accepted: no function and no entry point is at fault.
     pub fn is_accepted(&self) -> bool
         ensures { IsTrue result ↔ (self.now.fault ≡ None) }
     {
@@ -32,7 +32,7 @@ impl Uniformity {
     }
 }
 
-/// Returns what is known of one more function.
+/// Returns the summary of one more function.
 fn known_next(
     alloc: Global,
     module: &Module,
@@ -52,7 +52,7 @@ fn known_next(
     known_of(alloc, function.arguments.as_slice(), &rules)
 }
 
-/// Returns what is known of each function.
+/// Returns the summary of each function.
 fn known_functions(
     alloc: Global,
     module: &Module,
@@ -69,7 +69,7 @@ fn known_functions(
     Ok(known)
 }
 
-/// Checks whether an entry point lets some invocations alone pass what needs all of them.
+/// Checks whether an entry point is at fault.
 fn is_fault(
     alloc: Global,
     module: &Module,
@@ -90,7 +90,7 @@ fn is_fault(
     Ok(holds(&reached.table, &Fact::Must))
 }
 
-/// Returns which of some entry points do.
+/// Checks for each of some entry points whether it is at fault.
 fn faulty_points(
     alloc: Global,
     module: &Module,
@@ -108,15 +108,15 @@ fn faulty_points(
     Ok(faulty)
 }
 
-/// Finds which entry points of a module let some invocations alone pass what needs all of them, as barriers, derivatives and
-/// implicit levels do (WGSL, "Uniformity"), and what each function makes of the flow that it is called in and of its arguments.
+/// Finds the entry points of a module that are at fault: only some invocations may execute a barrier, a derivative, an implicit
+/// level or another statement that needs uniform control flow (WGSL, "Uniformity"). Also returns the summary of each function.
 ///
-/// A function knows those before it; a call of another one counts as a fault. A function that has a fault whoever calls it has the
-/// module refused, also where nothing calls it.
+/// A summary is based on those of earlier functions; a call of any other function counts as a fault. If a function is at fault
+/// whoever calls it, the module is refused, even if nothing calls the function.
 ///
 /// # Errors
 ///
-/// `AllocError` where memory runs out, or a function has 2^32 statements.
+/// `AllocError` if memory runs out, or a function has 2^32 statements.
 #[tactic(auto, using(crate::proofs::VerdictLemmas::verdict_is))]
 pub fn find_divergence(alloc: Global, module: &Module) -> Result<Uniformity, AllocError>
     ensures functions { IfOk result (λ found. AreAllKnown «module».now found.functions) }

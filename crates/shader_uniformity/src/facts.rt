@@ -1,20 +1,20 @@
-//! Facts of a call of a function, and the rules by which one leads to another.
+//! Facts about a call of a function, and the implications between them.
 
 use shader_arena::Handle;
 use shader_ir::mark;
 
-/// A statement that leaves the blocks around it, up to its target.
+/// A statement that exits the blocks around it, up to its target.
 #[derive(Clone, Copy)]
 pub enum Jump {
-    /// Leaves blocks up to the innermost `Loop` or `Switch`.
+    /// Exits blocks up to the innermost `Loop` or `Switch`.
     Break,
-    /// Leaves blocks up to the innermost `Loop`.
+    /// Exits blocks up to the innermost `Loop`.
     Continue,
-    /// Leaves all blocks of the function.
+    /// Exits all blocks of the function.
     Return,
 }
 
-/// The end of a pointer's chain.
+/// A memory location: the end of a pointer's chain of accesses.
 #[derive(Clone, Copy)]
 pub enum Place {
     /// A local variable, by its number.
@@ -27,42 +27,42 @@ pub enum Place {
     Fixed,
 }
 
-/// A fact of a call of a function by several invocations. Positions number the statements and blocks of the body in the order of
-/// the text, from 1; moments are positions too.
+/// A fact about a call of a function by several invocations. Positions number the statements and blocks of the body in the order of
+/// the text, from 1. Moments order reads and writes of memory, and are positions too.
 #[derive(Clone, Copy)]
 pub enum Fact {
-    /// Holds in each call.
+    /// Is true in each call.
     Always,
     /// Only some of the invocations make the call.
     Flow,
-    /// The argument of this number differs among the invocations.
+    /// The argument of this number is non-uniform: it differs among the invocations.
     Argument(u32),
-    /// The value that the argument of this number points to differs among them when the call begins.
+    /// The pointee of the argument of this number is non-uniform when the call begins.
     Behind(u32),
-    /// Only some of them come to this position.
+    /// Control flow diverges: only some of the invocations reach this position.
     Apart(u32),
-    /// Only some of them leave the block at this position by a jump.
+    /// Only some of the invocations exit the block at this position by this jump.
     Leaves(Jump, u32),
-    /// The expression differs among them.
+    /// The expression is non-uniform.
     Differs(Handle<mark::Expression>),
-    /// The value that the place holds differs among them from this moment on.
+    /// The memory location is non-uniform from this moment on.
     Holds(Place, u32),
-    /// Some of them alone pass what needs all of them together.
+    /// A need is violated: only some of the invocations execute a statement that needs all of them together.
     Must,
-    /// The result differs among them.
+    /// The result is non-uniform.
     Gives,
-    /// The value that the argument of this number points to differs among them when the call ends.
+    /// The pointee of the argument of this number is non-uniform when the call ends.
     Left(u32),
 }
 
-/// Where the cause holds, so does the effect.
+/// An implication: if the cause is true, so is the effect.
 #[derive(Clone, Copy)]
 pub struct Rule {
     pub cause: Fact,
     pub effect: Fact,
 }
 
-/// A function or an entry point with statements, by its number among those of its kind.
+/// A function or an entry point, by its number among those of its kind.
 #[derive(Clone, Copy, Debug, PartialEq, Eq)]
 pub enum BodyLocation {
     Function(usize),

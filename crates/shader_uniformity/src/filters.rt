@@ -36,9 +36,10 @@ fn filter_at(
     }
 }
 
-/// Checks whether the filters from `leaf` outwards leave what needs uniform flow an error (WGSL, "Diagnostic Filtering").
+/// Checks whether non-uniform derivatives and implicit levels are errors under the filters from `leaf` outwards (WGSL, "Diagnostic
+/// Filtering").
 ///
-/// It walks them, so ask `is_severe_by` of many functions.
+/// It walks the filters. For many functions `is_severe_by` is faster.
 pub fn is_severe(
     filters: &Arena<DiagnosticFilterNode, mark::DiagnosticFilterNode>,
     leaf: Option<Handle<mark::DiagnosticFilterNode>>,
@@ -58,7 +59,7 @@ pub fn is_severe(
     true
 }
 
-/// Returns what a table tells of the filters from one outwards.
+/// Returns the recorded severity of a filter chain.
 fn severity_at(
     severities: &[Option<bool>],
     handle: Handle<mark::DiagnosticFilterNode>,
@@ -71,7 +72,7 @@ fn severity_at(
     }
 }
 
-/// Returns what it tells of a filter and those around it, if the parent is one of those before it.
+/// Returns the severity of a filter, given that of its parent, or `None` if it depends on a parent without a recorded severity.
 fn next_severity(earlier: &[Option<bool>], filter: &DiagnosticFilterNode) -> Option<bool>
     ensures { result ≡ next_severity earlier.now filter.now }
 {
@@ -84,11 +85,11 @@ fn next_severity(earlier: &[Option<bool>], filter: &DiagnosticFilterNode) -> Opt
     }
 }
 
-/// Returns of each filter what `is_severe` finds from it outwards, none where a filter on the way isn't after its parent.
+/// Returns the result of `is_severe` for each filter, or `None` if a filter on the way outwards isn't after its parent.
 ///
 /// # Errors
 ///
-/// `AllocError` where memory runs out.
+/// `AllocError` if memory runs out.
 pub fn severity_table(
     alloc: Global,
     filters: &Arena<DiagnosticFilterNode, mark::DiagnosticFilterNode>,
@@ -103,7 +104,7 @@ pub fn severity_table(
     Ok(severities)
 }
 
-/// Checks what `is_severe` does, by the table of the filters.
+/// Checks the same as `is_severe`, by the table of the filters.
 #[tactic(auto, using(crate::proofs::FilterLemmas::known_is_severe, crate::proofs::FilterLemmas::unfiltered_is_severe))]
 pub fn is_severe_by(
     severities: &[Option<bool>],

@@ -1,4 +1,4 @@
-//! Knowledge of a function: which endings of a call each of its beginnings leads to.
+//! The summary of a function: which facts at the end of a call follow from which at its beginning.
 ghost use Rattle.std.specs.Prelude.{◌≡◌, ◌+◌, ◌∷◌, ◌++◌, [], IfOk, OnOk, Some, slice_get};
 ghost use Rattle.std.specs.List.{enumerate_from, flat_map};
 ghost use Rattle.shader_uniformity.specs.Cells.{ending};
@@ -17,7 +17,7 @@ use shader_arena::{Arena, Handle};
 use shader_ir::{Binding, BuiltIn, Expression, Function, FunctionArgument, Items, Module, mark};
 use std::alloc::{AllocError, Global};
 
-/// Checks whether the invocations of a work group are given one value (WGSL, "Built-in Inputs and Outputs").
+/// Checks whether a built-in input is the same for all invocations of a work group (WGSL, "Built-in Inputs and Outputs").
 fn built_in_is_uniform(built_in: BuiltIn) -> bool
     ensures { result ≡ built_in_is_uniform built_in }
 {
@@ -46,7 +46,7 @@ fn argument_is_uniform(arguments: &[FunctionArgument], index: u32) -> bool
     }
 }
 
-/// Adds what makes an argument differ.
+/// Adds the cause that makes an argument non-uniform.
 fn add_argument(
     rules: &mut Vec<Rule>,
     entry: bool,
@@ -84,7 +84,7 @@ fn add_source(
     }
 }
 
-/// Adds what makes the arguments differ.
+/// Adds the causes that make the arguments non-uniform.
 fn add_sources(
     rules: &mut Vec<Rule>,
     entry: bool,
@@ -100,7 +100,7 @@ fn add_sources(
     Ok(())
 }
 
-/// Adds what the arguments point to when a call begins.
+/// Adds the implications of the arguments' pointees at the beginning of a call.
 fn add_pointees(rules: &mut Vec<Rule>, arguments: &[FunctionArgument]) -> Result<(), AllocError>
     ensures { OnOk result (rules.new.items ≡ rules.old.items ++ pointees_from 0 arguments.now) }
 {
@@ -116,7 +116,7 @@ fn add_pointees(rules: &mut Vec<Rule>, arguments: &[FunctionArgument]) -> Result
     Ok(())
 }
 
-/// Adds what they point to when it ends at a moment.
+/// Adds the implications of the arguments' pointees at the end of a call, which is at `moment`.
 fn add_lefts(
     rules: &mut Vec<Rule>,
     moment: u32,
@@ -142,11 +142,11 @@ fn add_shared(rules: &mut Vec<Rule>) -> Result<(), AllocError>
     add_rule(rules, Fact::Always, Fact::Holds(Place::Shared, 0))
 }
 
-/// Returns the rules of a function or of an entry point.
+/// Returns the implications of a function or of an entry point.
 ///
 /// # Errors
 ///
-/// `AllocError` where memory runs out, or there are 2^32 positions.
+/// `AllocError` if memory runs out, or there are 2^32 positions.
 pub fn function_rules(
     alloc: Global,
     module: &Module,
@@ -176,7 +176,7 @@ pub fn function_rules(
     Ok(rules)
 }
 
-/// Returns the facts with which a call begins.
+/// Returns the facts with which a call may begin.
 fn beginnings(alloc: Global, arguments: &[FunctionArgument]) -> Result<Vec<Fact>, AllocError>
     ensures { IfOk result (λ facts. facts.items ≡ beginnings arguments.now) }
 {
@@ -192,7 +192,7 @@ fn beginnings(alloc: Global, arguments: &[FunctionArgument]) -> Result<Vec<Fact>
     Ok(facts)
 }
 
-/// Returns the facts with which it ends.
+/// Returns the facts with which a call may end.
 fn endings(alloc: Global, arguments: &[FunctionArgument]) -> Result<Vec<Fact>, AllocError>
     ensures { IfOk result (λ facts. facts.items ≡ endings arguments.now) }
 {
@@ -207,7 +207,7 @@ fn endings(alloc: Global, arguments: &[FunctionArgument]) -> Result<Vec<Fact>, A
     Ok(facts)
 }
 
-/// Adds an ending where a table has it.
+/// Adds an ending if the table has it.
 fn add_ending(
     known: &mut Vec<Rule>,
     table: &[Option<u32>],
@@ -223,7 +223,7 @@ fn add_ending(
     }
 }
 
-/// Adds the endings that a table has.
+/// Adds the endings that the table has.
 fn add_ended(
     known: &mut Vec<Rule>,
     table: &[Option<u32>],
@@ -238,7 +238,7 @@ fn add_ended(
     Ok(())
 }
 
-/// Returns which endings each beginning leads to.
+/// Returns the endings that follow from each beginning.
 fn known_by(
     alloc: Global,
     rules: &[Rule],
@@ -255,11 +255,11 @@ fn known_by(
     Ok(known)
 }
 
-/// Returns what is known of a function by its rules.
+/// Returns the summary of a function, given its implications.
 ///
 /// # Errors
 ///
-/// `AllocError` where memory runs out.
+/// `AllocError` if memory runs out.
 pub fn known_of(
     alloc: Global,
     arguments: &[FunctionArgument],

@@ -1,4 +1,4 @@
-//! The rules of jumps that leave blocks.
+//! The implications of jumps that exit blocks.
 ghost use Rattle.std.specs.Prelude.{◌≡◌, ◌++◌, OnOk};
 ghost use Rattle.shader_ir.specs.BodyOf.{cases_of, step_of};
 ghost use Rattle.shader_uniformity.specs.Leaves.{all_pass_rules, block_escapes, case_rules, cases_escape, part_rules, pass_rules};
@@ -9,7 +9,7 @@ use crate::rules::add_rule;
 use shader_ir::{Block, Statement, SwitchCase};
 use std::alloc::AllocError;
 
-/// Adds that a jump which leaves `inner` leaves `outer` too, and parts what stands behind.
+/// Adds that a jump that exits `inner` also exits `outer`, and that control flow diverges after it, at `behind`.
 pub fn add_pass(
     rules: &mut Vec<Rule>,
     inner: u32,
@@ -23,7 +23,7 @@ pub fn add_pass(
     add_rule(rules, Fact::Leaves(jump, inner), Fact::Apart(behind))
 }
 
-/// Adds that of each jump.
+/// Adds the same for each kind of jump.
 pub fn add_all_passes(
     rules: &mut Vec<Rule>,
     inner: u32,
@@ -37,7 +37,7 @@ pub fn add_all_passes(
     add_pass(rules, inner, outer, behind, Jump::Return)
 }
 
-/// Adds that each jump which leaves a block parts what stands at a position.
+/// Adds that control flow diverges at `behind` if only some invocations exit `inner`, by any jump.
 pub fn add_parts(rules: &mut Vec<Rule>, inner: u32, behind: u32) -> Result<(), AllocError>
     ensures { OnOk result (rules.new.items ≡ rules.old.items ++ part_rules inner behind) }
 {
@@ -54,7 +54,7 @@ pub fn add_parts(rules: &mut Vec<Rule>, inner: u32, behind: u32) -> Result<(), A
     )
 }
 
-/// Adds that each jump which leaves a case leaves the cases.
+/// Adds that each jump that exits a case exits the cases together.
 pub fn add_case_jumps(rules: &mut Vec<Rule>, inner: u32, cases: u32) -> Result<(), AllocError>
     ensures { OnOk result (rules.new.items ≡ rules.old.items ++ case_rules inner cases) }
 {
@@ -75,7 +75,7 @@ pub fn add_case_jumps(rules: &mut Vec<Rule>, inner: u32, cases: u32) -> Result<(
     )
 }
 
-/// Checks whether a `Return`, or a `Continue` where those count, leaves a block.
+/// Checks whether a `Return` exits a block, or a `Continue` if `continues` is true.
 #[cycle(escapes)]
 pub fn block_escapes(continues: bool, block: &Block) -> bool
     ensures { result ≡ block_escapes continues block.now }
@@ -109,7 +109,7 @@ fn statement_escapes(continues: bool, statement: &Statement) -> bool
     }
 }
 
-/// Checks whether one leaves a case.
+/// Checks whether such a jump exits a case.
 #[cycle(escapes)]
 pub fn cases_escape(continues: bool, cases: &[SwitchCase]) -> bool
     ensures { result ≡ cases_escape continues (cases_of cases.now) }

@@ -1,4 +1,4 @@
-//! Uniform control flow: which statements that need all invocations together may be passed by some of them alone.
+//! Uniform control flow: finds statements that need all invocations together and that only some of them may execute.
 #![tactic(auto)]
 
 mod calls;

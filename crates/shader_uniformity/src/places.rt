@@ -1,4 +1,4 @@
-//! The places that the pointers of a function lead back to.
+//! The memory locations that the pointers of a function lead to.
 ghost use Rattle.std.specs.Prelude.{◌≡◌, ◌∷◌, ◌++◌, [], IfOk, slice_get};
 ghost use Rattle.shader_uniformity.specs.Places.{class_is_written, element_is_written, global_place, image_is_written, inner_is_written};
 ghost use Rattle.shader_uniformity.specs.Places.{is_writable, place_at, place_in, place_of, places, space_is_fixed, type_is_written};
@@ -108,7 +108,7 @@ fn global_place(module: &Module, variable: Handle<mark::GlobalVariable>) -> Plac
     }
 }
 
-/// Returns the place of an expression, by the places of all expressions.
+/// Returns the memory location of an expression, given those of all expressions.
 pub fn place_at(places: &[Place], expression: Handle<mark::Expression>) -> Place
     ensures { result ≡ place_at places.now expression }
 {
@@ -131,11 +131,11 @@ fn place_of(module: &Module, earlier: &[Place], expression: &Expression) -> Plac
     }
 }
 
-/// Returns the place of each expression.
+/// Returns the memory location of each expression.
 ///
 /// # Errors
 ///
-/// `AllocError` where memory runs out.
+/// `AllocError` if memory runs out.
 pub fn places(
     alloc: Global,
     module: &Module,

@@ -1,4 +1,4 @@
-//! The facts that follow from a fact by rules.
+//! The facts that follow from a fact by implications.
 ghost use Rattle.std.specs.Prelude.{◌≡◌, ◌<◌, false, All, IfOk, OnOk, length};
 ghost use Rattle.shader_uniformity.specs.Cells.{cell, cells_after, cells_with_if, changes, fires, width, HasMarks, StaysSound};
 
@@ -7,7 +7,7 @@ use crate::facts::{Fact, Rule};
 use crate::rules::next;
 use std::alloc::{AllocError, Global};
 
-/// Applies a rule: enters its effect where that is new and the cause is there. Returns whether it did.
+/// Applies an implication: enters its effect if the table has the cause and not the effect. Returns whether it did.
 fn apply(table: &mut Vec<Option<u32>>, rule: &Rule) -> bool
     requires { cell rule.now.effect < length table.old.items }
     ensures length { length table.new.items ≡ length table.old.items }
@@ -21,7 +21,7 @@ fn apply(table: &mut Vec<Option<u32>>, rule: &Rule) -> bool
     fires
 }
 
-/// Applies a rule, and adds its number to the order where it enters its effect. Returns whether it did.
+/// Applies an implication, and adds its number to the order if it enters its effect. Returns whether it did.
 fn note(
     table: &mut Vec<Option<u32>>,
     order: &mut Vec<u32>,
@@ -40,7 +40,7 @@ fn note(
     Ok(fires)
 }
 
-/// Applies each rule once, as they stand. Returns whether one entered its effect.
+/// Applies each implication once, in the order of the slice. Returns whether one entered its effect.
 fn pass(
     table: &mut Vec<Option<u32>>,
     order: &mut Vec<u32>,
@@ -72,12 +72,12 @@ fn width(start: &Fact, rules: &[Rule]) -> usize
     width
 }
 
-/// The rules that aren't taken yet, by the cells of their causes.
+/// The implications that aren't applied yet, by the cells of their causes.
 #[derive(Drop)]
 struct Waiting {
     /// The number of the last one in each cell.
     lasts: Vec<Option<u32>>,
-    /// For each rule the number of the one before it in its cell.
+    /// For each implication the number of the one before it in its cell.
     before: Vec<Option<u32>>,
 }
 
@@ -88,7 +88,7 @@ fn put(numbers: &mut Vec<Option<u32>>, place: usize, number: Option<u32>) {
     }
 }
 
-/// Returns all rules as waiting, by so many cells.
+/// Returns all implications as pending, in `width` cells.
 fn waiting_rules(alloc: Global, width: usize, rules: &[Rule]) -> Result<Waiting, AllocError> {
     let mut lasts = empty(alloc, width)?;
     let mut before = Vec::with_capacity(alloc, rules.len())?;
@@ -102,7 +102,7 @@ fn waiting_rules(alloc: Global, width: usize, rules: &[Rule]) -> Result<Waiting,
     Ok(Waiting { lasts, before })
 }
 
-/// Takes the last rule that waits in a cell and applies it, if its cause is there. Returns whether it did.
+/// Removes the last pending implication of a cell and applies it, if its cause is true. Returns whether it did.
 #[tactic(auto, using(crate::proofs::ReachLemmas::stays_same, crate::proofs::ReachLemmas::stays_fired))]
 fn take_rule(
     table: &mut Vec<Option<u32>>,
@@ -133,7 +133,8 @@ fn take_rule(
     }
 }
 
-/// Takes all rules that wait in a cell and whose causes are there, where they stand in the order of their causes' moments.
+/// Applies the pending implications of a cell whose causes are true: all of them, if the implications of the cell are sorted by the
+/// moments of their causes.
 #[tactic(auto, using(crate::proofs::ReachLemmas::stays_same, crate::proofs::ReachLemmas::stays_on))]
 fn take_rules(
     table: &mut Vec<Option<u32>>,
@@ -154,7 +155,7 @@ fn take_rules(
     Ok(())
 }
 
-/// Returns the cell of the effect of a rule in an order, if there is one at this index.
+/// Returns the cell of the effect of the implication at this index of an order, if there is one.
 fn effect_at(rules: &[Rule], order: &[u32], index: usize) -> Option<usize> {
     match order.get(index) {
         Some(number) => match rules.get(*number as usize) {
@@ -165,9 +166,9 @@ fn effect_at(rules: &[Rule], order: &[u32], index: usize) -> Option<usize> {
     }
 }
 
-/// Applies the rules that follow from those in an order, from an index on, and adds those that enter their effects.
+/// Applies the implications whose causes were entered in an order, from an index on, and adds those that enter their effects.
 ///
-/// A rule waits until its cause is entered and is then taken, so each is taken once. The order grows meanwhile.
+/// An implication is pending until its cause is entered and is then applied, so each is applied once. The order grows meanwhile.
 #[tactic(auto, using(crate::proofs::ReachLemmas::stays_same, crate::proofs::ReachLemmas::stays_on))]
 fn spread(
     alloc: Global,
@@ -190,23 +191,24 @@ fn spread(
     Ok(())
 }
 
-/// The facts that a first one leads to.
+/// The facts that follow from a first one.
 #[derive(Drop)]
 pub struct Reached {
-    /// The table of these.
+    /// The table of these facts.
     pub table: Vec<Option<u32>>,
-    /// The numbers of the rules that entered them, in that order.
+    /// The numbers of the implications that entered them, in that order.
     pub order: Vec<u32>,
 }
 
-/// Returns what a first fact leads to.
+/// Returns the facts that follow from a first one.
 ///
-/// Goes through the rules as they stand, then through what leads backward, and through all once more to see that nothing follows. That is
-/// all where the rules with causes in one cell stand in the order of the causes' moments, as those of a function do.
+/// Applies all implications in the order of the slice, then those that lead backward, then all once more to show that nothing new
+/// follows. No other pass is needed if the implications with causes in one cell are sorted by the causes' moments, as those of a
+/// function are.
 ///
 /// # Errors
 ///
-/// `AllocError` where memory runs out, or there are 2^32 rules.
+/// `AllocError` if memory runs out, or there are 2^32 implications.
 pub fn reach(alloc: Global, rules: &[Rule], start: &Fact) -> Result<Reached, AllocError>
     ensures { IfOk result (λ reached. HasMarks rules.now start.now reached.table.items) }
 {
@@ -215,7 +217,7 @@ pub fn reach(alloc: Global, rules: &[Rule], start: &Fact) -> Result<Reached, All
     enter(&mut table, start);
     let mut order = Vec::new(alloc);
     pass(&mut table, &mut order, rules)?;
-    // Each round but the last enters a fact.
+    // Each round except the last enters a fact.
     for _ in 0..u64::MAX {
         let from = order.len();
         if !pass(&mut table, &mut order, rules)? {

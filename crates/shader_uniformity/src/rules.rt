@@ -1,4 +1,4 @@
-//! Rules, positions and moments.
+//! Implications, positions and moments.
 ghost use Rattle.std.specs.Prelude.{◌≡◌, ◌+◌, ◌∷◌, ◌++◌, [], IfOk, OnOk};
 ghost use Rattle.shader_uniformity.specs.Marks.{leads};
 ghost use Rattle.shader_uniformity.specs.Positions.{reads_at, writes_at};
@@ -8,7 +8,7 @@ use shader_arena::Arena;
 use shader_ir::{Expression, Items, mark};
 use std::alloc::AllocError;
 
-/// Adds a rule.
+/// Adds an implication.
 pub fn add_rule(rules: &mut Vec<Rule>, cause: Fact, effect: Fact) -> Result<(), AllocError>
     ensures { OnOk result (rules.new.items ≡ rules.old.items ++ leads cause effect ∷ []) }
 {
@@ -16,7 +16,7 @@ pub fn add_rule(rules: &mut Vec<Rule>, cause: Fact, effect: Fact) -> Result<(), 
     Ok(())
 }
 
-/// Returns the position behind one. No module in memory has so many that they run out.
+/// Returns the next position. No module in memory is so large that positions run out.
 pub fn next(position: u32) -> Result<u32, AllocError>
     ensures { IfOk result (λ behind. behind ≡ position + 1) }
 {
@@ -26,7 +26,7 @@ pub fn next(position: u32) -> Result<u32, AllocError>
     }
 }
 
-/// Returns the moment of what the statement at a position reads.
+/// Returns the moment at which the statement at a position reads memory.
 pub fn reads_at(position: u32, around: Option<u32>) -> u32
     ensures { result ≡ reads_at position around }
 {
@@ -36,7 +36,7 @@ pub fn reads_at(position: u32, around: Option<u32>) -> u32
     }
 }
 
-/// Returns the moment of what it writes.
+/// Returns the moment at which the statement at a position writes memory.
 pub fn writes_at(position: u32, around: Option<u32>) -> Result<u32, AllocError>
     ensures { IfOk result (λ moment. moment ≡ writes_at position around) }
 {
@@ -46,13 +46,13 @@ pub fn writes_at(position: u32, around: Option<u32>) -> Result<u32, AllocError>
     }
 }
 
-/// The ground of a function's rules beside its statements.
+/// The context of a function's implications, in addition to its statements.
 #[derive(Clone, Copy)]
 pub struct Scope<'a> {
     pub expressions: &'a Arena<Expression, mark::Expression>,
     pub places: &'a [Place],
-    /// The rules that are known of each function that may be called.
+    /// The summary of each function that may be called.
     pub callees: &'a [Items<Rule>],
-    /// True where the diagnostic filters leave what needs uniform flow an error.
+    /// True if non-uniform derivatives and implicit levels are errors under the diagnostic filters.
     pub severe: bool,
 }

@@ -1,4 +1,4 @@
-//! Traces of a fact back to a first one: the rules on the way.
+//! Traces from a fact back to a first one: the implications on the way.
 ghost use Rattle.std.specs.Prelude.{◌≡◌, Contains, IfOk, IfSome, slice_get, take, true};
 ghost use Rattle.std.specs.Option.{option_copied};
 ghost use Rattle.shader_uniformity.specs.Fault.{function_rules, severity};
@@ -20,7 +20,7 @@ fn covers(fact: &Fact, needed: &Fact) -> bool
     (cell(fact) == cell(needed)) & !(moment(needed) < moment(fact))
 }
 
-/// Returns the rule of a number, if its effect is what is needed.
+/// Returns the implication of this number, if its effect covers the needed fact.
 fn rule_for(rules: &[Rule], number: u32, needed: &Fact) -> Option<Rule>
     ensures contains { IfSome result (λ rule. Contains rules.now rule) }
     ensures covers { IfSome result (λ rule. covers rule.effect needed.now ≡ true) }
@@ -37,7 +37,7 @@ fn rule_for(rules: &[Rule], number: u32, needed: &Fact) -> Option<Rule>
     }
 }
 
-/// Returns a trace of the last fact by rules in an order, if it leads to the first one.
+/// Returns a trace from the last fact back by the implications in an order, if it ends at the first fact.
 #[tactic(auto, using(crate::proofs::TraceLemmas::trace_push, crate::proofs::TraceLemmas::trace_end))]
 fn trace_by(
     alloc: Global,
@@ -67,7 +67,7 @@ fn trace_by(
     })
 }
 
-/// Returns what is known of the functions before one.
+/// Returns the summaries of the functions before one.
 fn earlier(known: &[Items<Rule>], index: usize) -> &[Items<Rule>]
     ensures { result.now ≡ take index known.now }
 {
@@ -133,7 +133,7 @@ fn rules_of_point(
     }
 }
 
-/// Returns the rules of the function or entry point at a location, none where nothing is there.
+/// Returns the implications of the function or entry point at a location, or none if the module has no such location.
 fn rules_at(
     alloc: Global,
     module: &Module,
@@ -148,13 +148,13 @@ fn rules_at(
     }
 }
 
-/// Returns how the last fact follows from the first one at a location: the rules on the way, from the last fact back.
+/// Returns the implications by which the last fact follows from the first one at a location, from the last fact back.
 ///
-/// `known` is what `find_divergence` finds of the functions. The way isn't the shortest one. None where there is none.
+/// `known` has the summaries that `find_divergence` returns. The trace isn't the shortest one. `None` if no trace is found.
 ///
 /// # Errors
 ///
-/// `AllocError` where memory runs out.
+/// `AllocError` if memory runs out.
 pub fn trace(
     alloc: Global,
     module: &Module,

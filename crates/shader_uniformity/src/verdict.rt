@@ -1,4 +1,4 @@
-//! The verdict on a module, by what is found of its functions and entry points.
+//! The verdict on a module, given the summaries of its functions and the faults of its entry points.
 ghost use Rattle.std.specs.Prelude.{◌≡◌};
 ghost use Rattle.std.specs.List.{list_any};
 ghost use Rattle.shader_uniformity.specs.Verdict.{faults_alone, is_fault_rule, point_from, verdict_from};
@@ -6,7 +6,7 @@ ghost use Rattle.shader_uniformity.specs.Verdict.{faults_alone, is_fault_rule, p
 use crate::facts::{BodyLocation, Fact, Rule};
 use shader_ir::Items;
 
-/// Checks whether a rule says that each call has a fault.
+/// Checks whether an implication makes each call a fault.
 fn is_fault_rule(rule: &Rule) -> bool
     ensures { result ≡ is_fault_rule rule.now }
 {
@@ -19,7 +19,7 @@ fn is_fault_rule(rule: &Rule) -> bool
     }
 }
 
-/// Checks whether a function of which this is known has a fault by itself.
+/// Checks whether a function with this summary is at fault whoever calls it.
 fn faults_alone(known: &Items<Rule>) -> bool
     ensures { result ≡ faults_alone known.now }
 {

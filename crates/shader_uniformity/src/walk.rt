@@ -1,4 +1,4 @@
-//! One walk over the statements of a function, which adds their rules in the order of the text.
+//! One walk over the statements of a function, which adds their implications in the order of the text.
 ghost use Rattle.std.specs.Prelude.{◌≡◌, ◌+◌, ◌∷◌, ◌++◌, [], None, Some, IfOk, OnOk};
 ghost use Rattle.shader_ir.specs.BodyOf.{cases_of, step_of};
 ghost use Rattle.shader_uniformity.specs.Apart.{block_rules, branch_rules, break_rules, cases_rules, continuing_rules, end_rules};
@@ -18,7 +18,7 @@ use shader_arena::Handle;
 use shader_ir::{Block, RayPipelineFunction, RayQueryFunction, Statement, SwitchCase, mark};
 use std::alloc::AllocError;
 
-/// Adds that a result differs where the value of a `Return` does.
+/// Adds that the result is non-uniform if the value of a `Return` is, or if control flow diverges there.
 fn add_value(
     rules: &mut Vec<Rule>,
     position: u32,
@@ -35,7 +35,7 @@ fn add_value(
     }
 }
 
-/// Adds what parts a block that a statement enters by the value of an expression.
+/// Adds that control flow diverges in a block if it does at the statement, or if the condition is non-uniform.
 fn add_branch(
     rules: &mut Vec<Rule>,
     position: u32,
@@ -60,7 +60,7 @@ fn add_fall(rules: &mut Vec<Rule>, fallen: Option<u32>, case: u32) -> Result<(),
     }
 }
 
-/// Adds what parts a case of a `Switch`.
+/// Adds the causes by which control flow diverges in a case of a `Switch`.
 fn enter_case(
     rules: &mut Vec<Rule>,
     position: u32,
@@ -95,7 +95,7 @@ fn add_breaks(
     }
 }
 
-/// Adds what leaves a `Switch`.
+/// Adds the implications of jumps that exit a `Switch`.
 fn leave_switch(
     rules: &mut Vec<Rule>,
     cases: u32,
@@ -123,7 +123,7 @@ fn add_end(
     }
 }
 
-/// Adds what parts the rounds of a `Loop`, and its body.
+/// Adds the causes by which control flow diverges in the iterations and the body of a `Loop`.
 fn enter_loop(
     rules: &mut Vec<Rule>,
     position: u32,
@@ -144,14 +144,14 @@ fn add_continuing(rules: &mut Vec<Rule>, rounds: u32, continuing: u32) -> Result
     add_rule(rules, Fact::Apart(rounds), Fact::Apart(continuing))
 }
 
-/// Returns the outermost `Loop` around what stands in the one at a position.
+/// Returns the position of the outermost `Loop` around the statements of the one at a position.
 fn loop_around(position: u32, around: Option<u32>) -> Option<u32>
     ensures { result ≡ Some (reads_at position around) }
 {
     Some(reads_at(position, around))
 }
 
-/// Adds what leaves a body and a continuing block.
+/// Adds the implications of jumps that exit the body or the continuing block of a `Loop`.
 fn leave_loop(
     rules: &mut Vec<Rule>,
     rounds: u32,
@@ -168,7 +168,7 @@ fn leave_loop(
     add_pass(rules, continuing, outer, behind, Jump::Return)
 }
 
-/// Adds what a step of a ray query makes of the query.
+/// Adds that a step of a ray query makes the query non-uniform.
 fn add_query(
     rules: &mut Vec<Rule>,
     places: &[Place],
@@ -201,21 +201,21 @@ fn add_uniform_load(
     add_rule(rules, Fact::Apart(position), Fact::Differs(value))
 }
 
-/// Adds a jump, in the block at `outer`.
+/// Adds that a jump exits the block at `outer`: if only some invocations reach the jump, only some exit.
 fn add_jump(rules: &mut Vec<Rule>, outer: u32, position: u32, jump: Jump) -> Result<(), AllocError>
     ensures { OnOk result (rules.new.items ≡ rules.old.items ++ leads (Fact.Apart position) (Fact.Leaves jump outer) ∷ []) }
 {
     add_rule(rules, Fact::Apart(position), Fact::Leaves(jump, outer))
 }
 
-/// Adds that an expression differs, whatever is passed.
+/// Adds that an expression is non-uniform in each call.
 fn add_source(rules: &mut Vec<Rule>, expression: Handle<mark::Expression>) -> Result<(), AllocError>
     ensures { OnOk result (rules.new.items ≡ rules.old.items ++ leads Fact.Always (Fact.Differs expression) ∷ []) }
 {
     add_rule(rules, Fact::Always, Fact::Differs(expression))
 }
 
-/// Adds the rules of a statement without blocks.
+/// Adds the implications of a statement without blocks.
 fn add_own(
     rules: &mut Vec<Rule>,
     scope: &Scope<'_>,
@@ -284,7 +284,7 @@ fn add_own(
     }
 }
 
-/// Adds the rules of the statements of a block that begins at a position. Returns the position behind it.
+/// Adds the implications of the statements of a block that begins at a position. Returns the position after it.
 #[cycle(walk)]
 pub fn add_block(
     rules: &mut Vec<Rule>,
@@ -307,7 +307,7 @@ pub fn add_block(
     next(position)
 }
 
-/// Adds the rules of a statement, in the block at `outer`. Returns the position behind it.
+/// Adds the implications of a statement in the block at `outer`. Returns the position after it.
 #[cycle(walk)]
 fn add_statement(
     rules: &mut Vec<Rule>,
@@ -374,7 +374,7 @@ fn add_statement(
     }
 }
 
-/// Adds the rules of the cases of the `Switch` at a position, from `first` on. Returns the position behind them.
+/// Adds the implications of the cases of the `Switch` at a position, from `first` on. Returns the position after them.
 #[cycle(walk)]
 fn add_cases(
     rules: &mut Vec<Rule>,

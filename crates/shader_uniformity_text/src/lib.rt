@@ -1,4 +1,4 @@
-//! The verdict on uniform flow as JSON and as text for people, with the trace to a source.
+//! The verdict on uniform flow: as JSON, and as text output with the trace to a source.
 #![tactic(auto)]
 
 mod names;

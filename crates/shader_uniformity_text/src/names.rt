@@ -7,7 +7,7 @@ use shader_ir::{Function, Module, mark};
 use shader_uniformity::{BodyLocation, Place};
 use std::fmt;
 
-/// Returns the name of a local variable, empty where it has none.
+/// Returns the name of a local variable, or an empty text if it has none.
 fn local_name(function: Option<&Function>, index: u32) -> &str {
     let Some(function) = function else {
         return "";
@@ -23,7 +23,7 @@ fn local_name(function: Option<&Function>, index: u32) -> &str {
     }
 }
 
-/// Returns the name of an argument, empty where it has none.
+/// Returns the name of an argument, or an empty text if it has none.
 fn argument_name(function: Option<&Function>, index: u32) -> &str {
     let Some(function) = function else {
         return "";
@@ -37,7 +37,7 @@ fn argument_name(function: Option<&Function>, index: u32) -> &str {
     }
 }
 
-/// The value in a place of the function at a location.
+/// The text for the value in a memory location of a function.
 #[derive(Clone, Copy)]
 pub struct PlaceText<'a> {
     pub module: &'a Module,

@@ -1,4 +1,4 @@
-//! The statement at a position, and what of it needs all invocations.
+//! The statement at a position, and the expression of it that needs uniform flow.
 ghost use Rattle.std.specs.Prelude.{◌≡◌, find};
 ghost use Rattle.shader_arena.specs.Positions.{positions_between};
 ghost use Rattle.shader_uniformity.specs.Lockstep.{needs_all};
@@ -12,7 +12,7 @@ use shader_ir::{Block, Expression, SampleLevel, Statement, mark};
 enum Found<'a> {
     /// The statement.
     Statement(&'a Statement),
-    /// The position behind those that were searched.
+    /// The position after the statements that were searched.
     Behind(u32),
 }
 
@@ -72,7 +72,7 @@ pub fn statement_at(body: &Block, position: u32) -> Option<&Statement> {
     }
 }
 
-/// Checks whether an expression needs all invocations. Derivatives and implicit levels do so only where the diagnostic filters are severe.
+/// Checks whether an expression needs uniform flow. Derivatives and implicit levels need it only if `severe` is true.
 fn needs_all(expression: &Expression, severe: bool) -> bool
     ensures { result ≡ needs_all severe expression.now }
 {
@@ -88,7 +88,7 @@ fn needs_all(expression: &Expression, severe: bool) -> bool
     }
 }
 
-/// Checks whether the expression of a handle needs all invocations. A handle that is out of range leads to none.
+/// Checks whether the expression at a handle needs uniform flow. A handle out of range has no expression.
 fn needs_at(
     expressions: &Arena<Expression, mark::Expression>,
     handle: Handle<mark::Expression>,
@@ -102,7 +102,7 @@ fn needs_at(
     }
 }
 
-/// Returns the first expression of a range that needs all invocations.
+/// Returns the first expression of a range that needs uniform flow.
 fn first_need(
     expressions: &Arena<Expression, mark::Expression>,
     range: &Range<mark::Expression>,
@@ -118,17 +118,17 @@ fn first_need(
     None
 }
 
-/// What of an emitted range needs all invocations.
+/// The expression of an emitted range that needs uniform flow.
 #[derive(Clone, Copy)]
 pub enum EmittedNeed {
-    /// An expression that needs them under any diagnostic filter.
+    /// An expression that needs it under any diagnostic filter.
     Unfiltered(Handle<mark::Expression>),
-    /// A derivative or an implicit level, whose need a diagnostic filter lifts, and nothing else.
+    /// A derivative or an implicit level. A diagnostic filter exempts all needs of the range.
     Filtered(Handle<mark::Expression>),
 }
 
 impl EmittedNeed {
-    /// Returns what of a range needs all invocations, if anything does.
+    /// Returns the first expression of a range that no filter exempts, or else the first that a filter exempts, if there is one.
     pub fn of(
         expressions: &Arena<Expression, mark::Expression>,
         range: &Range<mark::Expression>,

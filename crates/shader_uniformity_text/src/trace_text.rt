@@ -1,4 +1,4 @@
-//! A trace from a need back to a source as text, of each rule what it tells.
+//! The text of a trace from a need back to a source.
 
 use crate::names::PlaceText;
 use crate::needs::{EmittedNeed, statement_at};
@@ -29,7 +29,7 @@ impl fmt::Display for ExpressionLine<'_> {
     }
 }
 
-/// Returns what a statement needs uniform flow for.
+/// Returns the printed name of a kind of statement that needs uniform flow.
 fn need_word(statement: &Statement) -> &'static str {
     match statement {
         Statement::Emit(_) => "an expression",
@@ -42,7 +42,7 @@ fn need_word(statement: &Statement) -> &'static str {
     }
 }
 
-/// The statement at a position, as what needs uniform flow.
+/// The lines on the statement at a position, which needs uniform flow.
 #[derive(Clone, Copy)]
 struct NeedLines<'a> {
     module: &'a Module,
@@ -94,7 +94,7 @@ impl fmt::Display for NeedLines<'_> {
     }
 }
 
-/// Returns the word for a jump.
+/// Returns the printed name of a jump.
 fn jump_word(jump: Jump) -> &'static str {
     match jump {
         Jump::Break => "a break",
@@ -103,26 +103,26 @@ fn jump_word(jump: Jump) -> &'static str {
     }
 }
 
-/// The text of a rule.
+/// The content of the lines that a step of the trace prints.
 #[derive(Clone, Copy)]
 enum Told {
     /// The need at a position.
     Need(u32),
-    /// That a call or a uniform load needs one value.
+    /// A call or a uniform load needs one value.
     OneValue,
-    /// That flow depends on a value that differs among invocations.
+    /// Flow depends on a value that differs among invocations.
     Condition,
-    /// That some invocations have left before.
+    /// Some invocations have exited before, by this jump.
     Left(Jump),
     /// A value that differs among invocations.
     Value(Handle<mark::Expression>),
-    /// A place that holds what differs among invocations.
+    /// A memory location whose value differs among invocations.
     Place(Place),
-    /// Nothing that the rules beside it don't tell.
+    /// A step that prints no line.
     Nothing,
 }
 
-/// Returns what a rule tells.
+/// Returns the line that a step of the trace prints.
 fn told_of(rule: &Rule) -> Told {
     match rule.effect {
         Fact::Must => match rule.cause {
@@ -140,7 +140,7 @@ fn told_of(rule: &Rule) -> Told {
     }
 }
 
-/// The lines of a rule of the function at a location.
+/// The lines of a step of the trace, in the function at a location.
 #[derive(Clone, Copy)]
 struct RuleLines<'a> {
     module: &'a Module,
@@ -190,10 +190,10 @@ impl fmt::Display for RuleLines<'_> {
     }
 }
 
-/// The number of rules that are told of either end of a long trace.
+/// The number of steps that are printed at either end of a long trace.
 const RULES_AT_END: usize = 200;
 
-/// The lines of some rules, in their order.
+/// The lines of some steps, in their order.
 #[derive(Clone, Copy)]
 struct RulesText<'a> {
     module: &'a Module,
@@ -215,8 +215,8 @@ impl fmt::Display for RulesText<'_> {
     }
 }
 
-/// The reason why the function or entry point at a location is refused: the trace from a need back to a source, and what may be done.
-/// The first rule of the trace tells the need.
+/// The reason why the function or entry point at a location is refused: the trace from a need back to a source, and a remedy.
+/// The first step of the trace is the need.
 #[derive(Clone, Copy)]
 pub struct RefusalText<'a> {
     pub module: &'a Module,
@@ -225,7 +225,7 @@ pub struct RefusalText<'a> {
 }
 
 impl<'a> RefusalText<'a> {
-    /// Checks whether a diagnostic filter lifts the need.
+    /// Checks whether a diagnostic filter exempts the need.
     fn can_be_lifted(self) -> bool {
         let Some(rule) = self.trace.first() else {
             return false;
@@ -247,7 +247,7 @@ impl<'a> RefusalText<'a> {
         }
     }
 
-    /// Returns the text of some rules of the trace.
+    /// Returns the text of some steps of the trace.
     fn part(self, rules: &'a [Rule]) -> RulesText<'a> {
         RulesText {
             module: self.module,

@@ -78,7 +78,7 @@ impl fmt::Display for VerdictText {
 ///
 /// # Errors
 ///
-/// `AllocError` where memory runs out, or a function has 2^32 statements.
+/// `AllocError` if memory runs out, or a function has 2^32 statements.
 pub fn json_section(alloc: Global, module: &Module) -> Result<Section, AllocError>
     ensures { IfOk result (λ section. IsJsonSection «module».now section.is_accepted (string_bytes section.text)) }
 {
@@ -112,7 +112,7 @@ fn refusal(
     }
 }
 
-/// Returns the reason why the module is refused, empty where it isn't.
+/// Returns the reason why the module is refused, or an empty text if it is accepted.
 fn reason(alloc: Global, module: &Module, found: &Uniformity) -> Result<String, AllocError> {
     match found.fault {
         Some(location) => refusal(alloc, module, found, location),
@@ -120,12 +120,12 @@ fn reason(alloc: Global, module: &Module, found: &Uniformity) -> Result<String, 
     }
 }
 
-/// Decides the uniform flow of a module, and returns for people why it is refused: the trace from a need back to a source. The text is
-/// empty where it is accepted.
+/// Decides the uniform flow of a module, and returns the reason of a refusal as text output: the trace from a need back to a source.
+/// The text is empty if the module is accepted.
 ///
 /// # Errors
 ///
-/// As of `json_section`.
+/// The same as those of `json_section`.
 pub fn people_section(alloc: Global, module: &Module) -> Result<Section, AllocError>
     ensures { IfOk result (λ section. IsPeopleSection «module».now section.is_accepted) }
 {

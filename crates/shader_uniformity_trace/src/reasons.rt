@@ -150,7 +150,7 @@ pub fn reasons_of(
     Ok(reasons)
 }
 
-/// Returns the reason by what a statement contributes to the function's result.
+/// Returns the reason that a statement contributes for the function's result.
 fn statement_reason(
     location: &FunctionLocation,
     traces: &[Trace],

@@ -10,7 +10,7 @@ use shader_ir::Module;
 use std::alloc::{AllocError, Global};
 use std::marker::Model;
 
-/// The reasons for all non-uniform values of a module, computed once. In contracts it stands for the module.
+/// The reasons for all non-uniform values of a module, computed once. In contracts it denotes the module.
 #[derive(Drop)]
 pub struct Reasons<'a> {
     module: &'a Module,
