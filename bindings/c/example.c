@@ -1,9 +1,9 @@
-/* Prints the report on the module on standard input: ./example [FLAGS] < module.json, where FLAGS is a number as pethuvazh.h adds it up. */
+/* Prints the report on the module on standard input: ./example [FLAGS] < module.json. FLAGS is a sum of the flags of pethuvazh.h. */
 #include "pethuvazh.h"
 #include <stdio.h>
 #include <stdlib.h>
 
-/* Reads a file to its end. Returns the bytes and their length, NULL without memory. */
+/* Reads a file to its end. Returns the bytes and their length, or NULL if an allocation fails. */
 static uint8_t *read_all(FILE *file, size_t *length) {
     size_t room = 1 << 16;
     uint8_t *bytes = malloc(room);

@@ -1,4 +1,4 @@
-//! Times reports in the process beside runs of the program `report --json`, for each line of a file, and for files:
+//! Times reports in the process and runs of the program `report --json`, for each line of a file, and for files:
 //! `cargo run --release --example time -- PROGRAM MODULES.jsonl [MODULE.json ..]`
 
 use pethuvazh::{report_json, Options};

@@ -1,6 +1,6 @@
-//! Reports on naga's shader modules: the layouts of their types, the type and uniformity of each expression, uses of globals and pairs of
-//! image and sampler, or why a module is refused. A module goes in as the JSON in which `serde_json` prints a `naga::Module`
-//! (naga 30.0.1), and the report comes out as JSON or as text for people: the bytes that the program `report` writes.
+//! Reports on naga's shader modules: the layouts of their types, the type and uniformity of each expression, uses of
+//! globals and pairs of image and sampler, or why a module is refused. The input is a `naga::Module` (naga 30.0.1) as
+//! `serde_json` prints it. The report is JSON or text: the bytes that the program `report` prints.
 //!
 //! ```
 //! let module = br#"{"types":[],"special_types":{"ray_desc":null,"ray_intersection":null,"ray_vertex_return":null,
@@ -14,7 +14,7 @@
 //! # Ok::<(), pethuvazh::Error>(())
 //! ```
 //!
-//! The work is done by `libpethuvazh.a`, whose functions are proved; this crate declares and calls them. A call has no state, starts no
+//! This crate declares and calls the functions of `libpethuvazh.a`, which are proved. A call has no state, starts no
 //! thread and reads no file, so calls may run at the same time.
 
 #![deny(missing_docs, unsafe_op_in_unsafe_fn)]
@@ -24,22 +24,22 @@ mod library;
 use library::Request;
 use std::fmt;
 
-/// By which rules uniform control flow is decided.
+/// The rules by which uniform control flow is checked.
 #[derive(Clone, Copy, Debug, Default, PartialEq, Eq, Hash)]
 pub enum Uniformity {
-    /// By those of the crate `shader_uniformity`, which follow jumps, stores and calls, as WGSL wants it.
+    /// The rules of the crate `shader_uniformity`, which follow jumps, stores and calls, as WGSL requires.
     #[default]
     Wgsl,
-    /// As naga's analyser specifies it.
+    /// The rules of naga's analyser.
     Naga,
-    /// By none: what needs uniform control flow is accepted anywhere.
+    /// No rules: uniform control flow isn't checked.
     Off,
 }
 
-/// What becomes of an index that may be out of bounds, as naga's `proc::BoundsCheckPolicy`.
+/// The treatment of an index that may be out of bounds, as naga's `proc::BoundsCheckPolicy`.
 #[derive(Clone, Copy, Debug, Default, PartialEq, Eq, Hash)]
 pub enum BoundsCheckPolicy {
-    /// Some index within bounds takes its place.
+    /// An index within bounds replaces it.
     Restrict,
     /// A read is zero, and a write is dropped.
     ReadZeroSkipWrite,
@@ -61,7 +61,7 @@ impl BoundsCheckPolicy {
 /// The policy for each kind of access, as naga's `proc::BoundsCheckPolicies`.
 #[derive(Clone, Copy, Debug, Default, PartialEq, Eq, Hash)]
 pub struct BoundsCheckPolicies {
-    /// For arrays, vectors and matrices where no other kind applies.
+    /// For arrays, vectors and matrices, if no other kind applies.
     pub index: BoundsCheckPolicy,
     /// For uniform and storage buffers.
     pub buffer: BoundsCheckPolicy,
@@ -81,25 +81,25 @@ impl BoundsCheckPolicies {
     }
 }
 
-/// What is checked of a module, and what is reported. By default the device has no capability, and uniform control flow is decided after
-/// WGSL. That is no validation as naga's `Validator` does it: docs/ANSWERS.md says what isn't checked.
+/// The options of a report. By default the device has no capability, and uniform control flow is checked by the rules of
+/// WGSL. That isn't a validation by naga's `Validator`: docs/REPORT.md says what isn't checked.
 #[derive(Clone, Copy, Debug, Default, PartialEq, Eq, Hash)]
 pub struct Options {
-    /// By which rules uniform control flow is decided.
+    /// The rules by which uniform control flow is checked.
     pub uniformity: Uniformity,
-    /// Lets arrays of sampled textures and of samplers be indexed by non-uniform values.
+    /// Allows non-uniform indexes of arrays of sampled textures and of samplers.
     pub non_uniform_textures: bool,
-    /// Lets arrays of storage textures be indexed by non-uniform values.
+    /// Allows non-uniform indexes of arrays of storage textures.
     pub non_uniform_storage_textures: bool,
-    /// Reports what a back end checks of indexes under these policies.
+    /// Reports the indexes that a back end checks under these policies.
     pub bounds_checks: Option<BoundsCheckPolicies>,
-    /// Reports what entry points use and exchange: resources with their bindings, inputs, outputs and overrides.
+    /// Reports resources with their bindings and uses, overrides, and inputs and outputs of entry points.
     pub resources: bool,
-    /// Draws structs in a text for people.
+    /// Draws structs in the text output.
     pub drawing: bool,
 }
 
-/// The bit for a text for people.
+/// The bit for text output.
 const FOR_PEOPLE: u32 = 8;
 /// The bit for bounds checks.
 const BOUNDS_CHECKS: u32 = 128;
@@ -123,29 +123,29 @@ impl Options {
 /// The report on a module.
 #[derive(Clone, Debug, PartialEq, Eq)]
 pub struct Report {
-    /// A line of JSON, or lines for people: layouts and what is recorded, or a fault.
+    /// A line of JSON, or lines of text: layouts and the results of the analysis, or a fault.
     pub text: String,
     /// True if the module has no fault and each type has a layout.
     pub is_accepted: bool,
 }
 
-/// The answers to lines with questions.
+/// The replies to lines with questions.
 #[derive(Clone, Debug, PartialEq, Eq)]
 pub struct Answers {
-    /// A line for each question, up to the first line that is none.
+    /// A line for each question, up to the first line that isn't a question.
     pub text: String,
-    /// True if each line is a question; else the text ends with `bad line` and its number.
+    /// True if each line is a question. Otherwise the text ends with `bad line` and the number of the first that isn't.
     pub is_complete: bool,
 }
 
-/// Why there is no report.
+/// The reason why there is no report.
 #[derive(Clone, Debug, PartialEq, Eq)]
 pub enum Error {
-    /// The input is no module. The text says where, in the form in which the report was asked for.
+    /// The input is no module. The text has the location of the error, as JSON or as text, as the report would have been.
     NotModule(String),
     /// The lines have more than 1,048,576 bytes.
     TooLong,
-    /// An allocation of the library failed. The buffer for its text is a `Vec`: where that can't be allocated, the process aborts.
+    /// An allocation of the library failed. The buffer for its text is a `Vec`: if that can't be allocated, the process aborts.
     OutOfMemory,
 }
 
@@ -170,11 +170,11 @@ pub fn report_json(module: &[u8], options: Options) -> Result<Report, Error> {
     report(module, options.bits())
 }
 
-/// Returns the report on a module as text for people.
+/// Returns the report on a module as text.
 ///
 /// # Errors
 ///
-/// Those of [`report_json`]; the text of the error is for people too.
+/// Those of [`report_json`]; the text of the error isn't JSON.
 pub fn report_text(module: &[u8], options: Options) -> Result<Report, Error> {
     report(module, options.bits() | FOR_PEOPLE)
 }
@@ -191,7 +191,7 @@ fn report(module: &[u8], flags: u32) -> Result<Report, Error> {
     }
 }
 
-/// Returns the answers to lines with questions about types, as the program `typer` gives them.
+/// Returns the replies to lines with questions about types, as the program `typer` prints them.
 ///
 /// ```
 /// let answers = pethuvazh::answer_lines("call Max u32 AbstractInt\nlayout vec3<f32>\n")?;

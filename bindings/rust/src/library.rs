@@ -21,19 +21,19 @@ extern "C" {
     ) -> u32;
 }
 
-/// What is asked of an input.
+/// The kind of text that is requested for an input.
 #[derive(Clone, Copy)]
 pub enum Request {
     /// A report, by the flags of `pethuvazh.h`.
     Report(u32),
-    /// Answers to lines.
+    /// Replies to lines.
     Answers,
 }
 
 /// The status when an allocation failed.
 const OUT_OF_MEMORY: u32 = 5;
 
-/// Writes the text for an input into `text`. Returns the status and the length of the text, which may be more than there is room for.
+/// Writes the text for an input into `text`. Returns the status and the length of the text, which may exceed the length of `text`.
 fn write_into(request: Request, input: &[u8], text: &mut [u8]) -> (u32, usize) {
     let mut length = 0;
     let (from, count) = (input.as_ptr(), input.len());
@@ -53,7 +53,7 @@ fn write_into(request: Request, input: &[u8], text: &mut [u8]) -> (u32, usize) {
 
 /// Returns the status and the text for an input.
 pub fn ask(request: Request, input: &[u8]) -> Result<(u32, String), Error> {
-    // A text is seldom longer than four times its input. Zeroed pages that nothing is written to cost nothing.
+    // A text is seldom longer than four times its input. Zeroed pages that are never written cost nothing.
     let room = 4096 + 4 * input.len();
     let mut text = vec![0; room];
     let (mut status, mut length) = write_into(request, input, &mut text);

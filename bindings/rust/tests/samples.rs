@@ -1,5 +1,5 @@
-//! Reports on the modules of `tests/data/modules`, beside what naga's own code found. That the bytes are those of the program `report` is
-//! for `tests/bindings` to say, which builds that.
+//! Compares reports on the modules of `tests/data/modules` with the results of naga's own code. `tests/bindings`, which
+//! builds the program `report`, compares the bytes with those of the program.
 
 use pethuvazh::{answer_lines, report_json, report_text, BoundsCheckPolicies, BoundsCheckPolicy};
 use pethuvazh::{Error, Options, Report, Uniformity};
@@ -17,7 +17,7 @@ fn lines(name: &str) -> Vec<String> {
     text.lines().map(str::to_owned).collect()
 }
 
-/// Returns the number behind a key of the line.
+/// Returns the number after a key of the line.
 fn number(line: &str, key: &str) -> u32 {
     let from = line.find(&format!("\"{key}\":")).unwrap() + key.len() + 3;
     let digits = line[from..]
@@ -27,7 +27,7 @@ fn number(line: &str, key: &str) -> u32 {
     digits.collect::<String>().parse().unwrap()
 }
 
-/// Returns a line's module, and what is checked of it.
+/// Returns a line's module, and the options by which it is checked.
 fn case(line: &str) -> (&str, Options) {
     let from = line.find("\"module\":").unwrap() + "\"module\":".len();
     let capabilities = number(&line[..from], "capabilities");
@@ -152,7 +152,7 @@ fn threads_may_call_at_once() {
     });
 }
 
-/// What is proved says nothing of stack.
+/// The contracts say nothing about the stack.
 #[test]
 fn little_stack_is_enough() {
     for line in lines("json/modules.jsonl") {

@@ -1,4 +1,4 @@
-//! Texts that are written into a caller's buffer.
+//! Copies texts into a caller's buffer.
 ghost use Rattle.pethuvazh.specs.Copies.{IsCopy};
 
 /// Writes a text if the buffer has room for it, and its length in any case.

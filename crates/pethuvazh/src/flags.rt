@@ -5,26 +5,26 @@ ghost use Rattle.pethuvazh.specs.Flags.{options_of, policies_of, policy_of, set_
 use report_answers::{Flag, Options};
 use shader_bounds::{BoundsCheckPolicies, BoundsCheckPolicy};
 
-/// Decides no uniform flow.
+/// Doesn't check uniform flow.
 const ANY_FLOW: u32 = 1;
-/// Lets arrays of sampled images and of samplers be indexed by values that differ among invocations.
+/// Allows non-uniform indexes of arrays of sampled images and of samplers.
 const INDEX_TEXTURES: u32 = 2;
-/// Lets arrays of storage images be indexed by values that differ among invocations.
+/// Allows non-uniform indexes of arrays of storage images.
 const INDEX_STORAGE_TEXTURES: u32 = 4;
-/// Reports as text for people instead of JSON.
+/// Reports as text instead of JSON.
 const FOR_PEOPLE: u32 = 8;
-/// Decides uniform flow as naga specifies it, where flow is decided at all.
+/// Checks uniform flow as naga specifies it, unless `ANY_FLOW` is set.
 const NAGA_FLOW: u32 = 16;
-/// Draws structs in a text for people.
+/// Draws structs in the text output.
 const DRAWING: u32 = 32;
 /// Reports resources.
 const RESOURCES: u32 = 64;
-/// Reports bounds checks. Two bits for each kind of access follow, and a policy among these does the same.
+/// Reports bounds checks. Two bits with a policy for each kind of access follow; a policy implies this flag.
 const BOUNDS_CHECKS: u32 = 128;
 /// The lowest bit that is no flag.
 const NO_FLAG: u32 = 65_536;
 
-/// Returns the options, with one more flag if that is set.
+/// Adds a flag to the options if it is set.
 #[tactic(auto, unfolding(crate::specs::Flags::with_if))]
 fn with_if(options: Options, is_set: bool, flag: Flag) -> Options
     ensures { result ≡ with_if options is_set flag }
@@ -46,7 +46,7 @@ fn set_options(bits: u32) -> Options
     with_if(drawing, bits & RESOURCES != 0, Flag::Resources)
 }
 
-/// Returns the policy with this number, if it is one's.
+/// Returns the policy with this number, if there is one.
 fn policy_of(number: u32) -> Option<BoundsCheckPolicy>
     ensures { result ≡ policy_of number }
 {
@@ -58,7 +58,7 @@ fn policy_of(number: u32) -> Option<BoundsCheckPolicy>
     }
 }
 
-/// Returns the policies that the bits name, if each two of them are a policy's.
+/// Returns the policies in the bits, if each pair of bits is the number of a policy.
 fn policies_of(bits: u32) -> Option<BoundsCheckPolicies>
     ensures { result ≡ policies_of bits }
 {
@@ -74,7 +74,7 @@ fn policies_of(bits: u32) -> Option<BoundsCheckPolicies>
     })
 }
 
-/// Returns the options, with bounds checks if the bits ask for them.
+/// Adds bounds checks under these policies to the options, if the bits ask for them.
 fn with_policies(options: Options, bits: u32, policies: BoundsCheckPolicies) -> Options
     ensures { result ≡ with_policies options bits policies }
 {
@@ -85,7 +85,7 @@ fn with_policies(options: Options, bits: u32, policies: BoundsCheckPolicies) -> 
     }
 }
 
-/// Returns the options that the bits set, if each bit is a flag and each two of a policy are one's.
+/// Returns the options that the bits set, if each bit is a flag and each pair of bits for a kind of access is a policy.
 pub fn options_from(bits: u32) -> Option<Options>
     ensures { result ≡ options_of bits }
 {

@@ -1,5 +1,5 @@
-//! The reports of the program `report` and the answers of the program `typer` for programs in C and Rust, which bindings/ has the
-//! declarations for. A call keeps nothing and shares nothing, so calls may run at the same time.
+//! The reports of `report` and the replies of `typer` for programs in C, Rust and Python; bindings/ has the declarations. A call keeps and
+//! shares no state, so calls may run at the same time.
 #![tactic(auto)]
 
 mod copies;

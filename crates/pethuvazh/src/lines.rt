@@ -1,4 +1,4 @@
-//! Answers to lines with requests about types.
+//! Replies to lines with questions about types.
 ghost use Rattle.pethuvazh.specs.Lines.{EndsWith, IsEnd};
 
 use crate::copies::copy;
@@ -6,10 +6,10 @@ use crate::status::LinesStatus;
 use std::alloc::Global;
 use typer_answers::Answer;
 
-/// The most bytes that lines may have.
+/// The maximum number of bytes of an input.
 const MOST_BYTES: usize = 1_048_576;
 
-/// Writes the answer to lines into a buffer. Returns how that ended.
+/// Writes the replies to lines into a buffer. Returns the status of the call.
 fn answer_into(alloc: Global, lines: &[u8], text: &mut [u8], length: &mut usize) -> LinesStatus
     ensures { EndsWith lines.now text.old text.new length.new result }
 {
@@ -26,7 +26,7 @@ fn answer_into(alloc: Global, lines: &[u8], text: &mut [u8], length: &mut usize)
     }
 }
 
-/// Writes the answer to lines with requests into `text`, if it has room, and the answer's length into `length`.
+/// Writes the replies to lines into `text`, if it has room, and their length into `length`.
 ///
 /// Returns a number of `LinesStatus`.
 #[unsafe(no_mangle)]

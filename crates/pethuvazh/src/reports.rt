@@ -7,7 +7,7 @@ use crate::status::ReportStatus;
 use report_answers::{Report, Silent};
 use std::alloc::Global;
 
-/// Writes the report on an input into a buffer. Returns how that ended.
+/// Writes the report on an input into a buffer. Returns the status of the call.
 fn report_into(
     alloc: Global,
     json: &[u8],
@@ -30,7 +30,7 @@ fn report_into(
     }
 }
 
-/// Writes the report on the module that a text of JSON is into `text`, if it has room, and the report's length into `length`.
+/// Writes the report on a module, which `json` has as JSON, into `text`, if it has room, and the length of the report into `length`.
 ///
 /// The bits of `flags` are those of `options_from`. Returns a number of `ReportStatus`.
 #[unsafe(no_mangle)]

@@ -1,9 +1,9 @@
-//! The outcomes of calls, and their numbers.
+//! The statuses of calls, and their numbers.
 
 use report_answers::Outcome;
 use typer_answers::Outcome as LinesOutcome;
 
-/// The outcome of a report, as the program `report` numbers it.
+/// The status of a report, as the program `report` numbers it.
 #[derive(Clone, Copy, Debug, PartialEq, Eq)]
 pub enum ReportStatus {
     /// The module has no fault, and each type has a layout.
@@ -41,12 +41,12 @@ impl ReportStatus {
     }
 }
 
-/// The outcome of an answer to lines, as the program `typer` numbers it.
+/// The status of replies to lines, as the program `typer` numbers it.
 #[derive(Clone, Copy, Debug, PartialEq, Eq)]
 pub enum LinesStatus {
-    /// Each line has an answer.
+    /// Each line has a reply.
     Done = 0,
-    /// A line makes no request, and the answer ends with its number.
+    /// A line isn't a request, and the text ends with its number.
     BadLine = 2,
     /// An allocation failed.
     OutOfMemory = 5,
@@ -58,7 +58,7 @@ impl LinesStatus {
     ghost use Rattle.std.specs.Prelude.{◌≡◌};
     ghost use Rattle.pethuvazh.specs.Lines.{lines_code, lines_status};
 
-    /// Returns the status of a call that wrote an answer with this outcome.
+    /// Returns the status of a call that wrote replies with this outcome.
     pub fn of(outcome: LinesOutcome) -> LinesStatus
         ensures { result ≡ lines_status outcome }
     {

@@ -55,7 +55,7 @@ impl<W: Write> Sink for ToWriter<W> {
     }
 }
 
-/// Returns the byte count that std's writer gave, or `Failed` exactly where it gave an error or took no byte of a piece that has some.
+/// Returns the byte count of std's writer, or `Failed` exactly if it returned an error or took no byte of a piece that isn't empty.
 fn write_outcome(written: io::Result<usize>, is_empty: bool) -> Result<usize, Failed>
     ensures count { MatchResult written (λ count. (0 < count) ⊎ IsTrue is_empty → result ≡ Ok count) (λ _. IsErr result) }
     ensures none { (written ≡ Ok 0) → (is_empty ≡ false) → IsErr result }

@@ -56,7 +56,7 @@ impl<R: Read> Source for FromReader<R> {
     }
 }
 
-/// Returns the byte count that std's reader gave, or `Failed` exactly where it gave an error.
+/// Returns the byte count of std's reader, or `Failed` exactly if it returned an error.
 fn read_outcome(read: io::Result<usize>) -> Result<usize, Failed>
     ensures { MatchResult read (λ count. result ≡ Ok count) (λ _. IsErr result) }
 {

@@ -15,7 +15,7 @@ use std::io::{ErrorKind, IsTerminal};
 use std::process::ExitCode;
 use std::{env, io};
 
-/// The flags by their use.
+/// The usage: the flags, by subject.
 const USAGE: &str = "usage: report [FLAG..] < FILE
 
   how it answers:            --json
@@ -29,11 +29,11 @@ const USAGE: &str = "usage: report [FLAG..] < FILE
                              --drawing
                              --no-drawing";
 
-/// What a word with policies says.
+/// The policies that an argument may set.
 const POLICIES: &str =
     "index, buffer, image_load and binding_array are each Restrict, ReadZeroSkipWrite or Unchecked";
 
-/// Says that the word of this index is no flag and which is near, or that it says again what is said.
+/// Prints that an argument is no flag, with the nearest flag, or that it is repeated.
 fn say_bad_word(rt: &impl Eprint, words: &[String], bad: BadWord) {
     let _ = match bad {
         BadWord::Unknown(index) => say_unknown(rt, word_at(words, index)),
@@ -46,7 +46,7 @@ fn say_bad_word(rt: &impl Eprint, words: &[String], bad: BadWord) {
     };
 }
 
-/// Says that a word is no flag: the nearest flag, which policies there are, or where the module is read, by what it looks like.
+/// Prints that an argument is no flag. By its form, adds the nearest flag, the policies, or that the module is read from standard input.
 fn say_unknown(rt: &impl Eprint, word: &str) -> io::Result<()> {
     if word.starts_with('-') {
         let nearest = Flag::nearest(word.as_bytes()).word();
@@ -58,7 +58,7 @@ fn say_unknown(rt: &impl Eprint, word: &str) -> io::Result<()> {
     }
 }
 
-/// Returns the word of this index.
+/// Returns the argument at an index.
 fn word_at(words: &[String], index: usize) -> &str {
     match words.get(index) {
         Some(word) => word.as_str(),
@@ -66,7 +66,7 @@ fn word_at(words: &[String], index: usize) -> &str {
     }
 }
 
-/// Says what failed, if something did.
+/// Prints which operation of a run failed, if one did.
 fn say_failure(rt: &impl Eprint, status: Status) {
     let failure = match status {
         Status::ReadFailed => "the input can't be read",
@@ -77,7 +77,7 @@ fn say_failure(rt: &impl Eprint, status: Status) {
     let _ = eprintln!(rt; "report: {failure}");
 }
 
-/// Prints the usage. Returns the exit status for a word that is no flag.
+/// Prints the usage. Returns the exit status for a wrong argument.
 fn bad_usage(rt: &impl Eprint) -> ExitCode {
     let _ = eprintln!(rt; "{USAGE}");
     ExitCode::from(Status::BadUsage.code())
@@ -123,7 +123,7 @@ fn main(rt: HostRuntime) -> ExitCode {
     ended(&rt, status)
 }
 
-/// Says what failed, and returns the exit status.
+/// Prints which operation failed, if one did. Returns the exit status.
 fn ended(rt: &impl Eprint, status: Status) -> ExitCode {
     say_failure(rt, status);
     ExitCode::from(status.code())

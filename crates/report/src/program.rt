@@ -15,8 +15,7 @@ use report_answers::{Options, Outcome, Progress, Reading, Report, Stage};
 use shader_json_module::{MOST_BYTES, ReadError};
 use std::alloc::{AllocError, Global};
 
-/// Reads the whole input, drops it, builds the whole report, and then writes it. Errors of the input go to `errors`, unless they are told
-/// as JSON.
+/// Reads the whole input, drops it, builds the whole report, and then writes it. Errors of the input go to `errors`, unless they are JSON.
 pub fn run<R: Source, W: Sink, E: Sink, P: Progress>(
     alloc: Global,
     options: Options,
@@ -29,20 +28,20 @@ pub fn run<R: Source, W: Sink, E: Sink, P: Progress>(
     requires writes { W.has_failed writer.old ≡ false }
     requires told { E.has_failed errors.old ≡ false }
 
-    // With statuses 0 and 1 the whole input was read, and the report on the module for which its JSON stands was written.
+    // With statuses 0 and 1 the whole input was read, and the report on the module that its JSON denotes was written.
     ensures end { OnAnswered result (IsAtEnd (R.remaining reader.new)) }
     ensures json { OnAnswered result (IfSome (R.remaining reader.old) (λ input. IsUtf8 input × IsSome (document input))) }
     ensures answer { OnAnswered result ((input : List ℕ) × IfSome (R.remaining reader.old) (λ all. all ≡ input) × (m : Module)
         × (text : List ℕ) × IsTextOf input m × IsAnswerOf options input m result text
         × Appends (W.contents writer.old) (W.contents writer.new) text) }
 
-    // With status 6 what was written, or told beside it, is why the input is no module.
+    // With status 6 the error of the input was written to the output or to `errors`.
     ensures refusal { OnNotModule result ((text : List ℕ)
         × IfSome (R.remaining reader.old) (λ input. IsReport options input Outcome.NotModule text)
         × IsTold options.is_json (E.has_failed errors.new) text (W.contents writer.old) (W.contents writer.new)
         (E.contents errors.old) (E.contents errors.new)) }
 
-    // Beside it nothing is told with any other status.
+    // With any other status nothing was written to `errors`.
     ensures apart { UnlessNotModule result (Keeps (E.contents errors.old) (E.contents errors.new)) }
 
     // With statuses 3 and 5 nothing was written, with 4 a beginning of the report on the input.
@@ -65,7 +64,7 @@ pub fn run<R: Source, W: Sink, E: Sink, P: Progress>(
     let Ok(reading) = Reading::of(alloc, options, input.as_slice(), progress) else {
         return Status::OutOfMemory;
     };
-    // The report needs no more of the input, which may be large.
+    // The report no longer needs the input, which may be large.
     drop(input);
     match Report::of(alloc, options, reading, progress) {
         Ok(report) => write_report(options, &report, writer, errors, progress),
@@ -123,7 +122,7 @@ fn write_report<W: Sink, E: Sink, P: Progress>(
 {
     let text = report.text.as_slice();
     if is_told_apart(options, report.outcome) {
-        // Where that can't be written nothing is left to tell it by.
+        // If the error can't be written, only the status reports it.
         let _ = write_all(errors, text);
         return Status::NotModule;
     }

@@ -9,7 +9,7 @@ pub enum Status {
     Accepted = 0,
     /// The module has a fault, or a type has no layout.
     Refused = 1,
-    /// A word of the command line is no flag, or sets what another has set.
+    /// An argument is no flag, or sets what an earlier one has set.
     BadUsage = 2,
     /// A read of the input failed.
     ReadFailed = 3,

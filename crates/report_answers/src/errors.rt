@@ -1,4 +1,4 @@
-//! Errors of the input as text: the line of JSON, and the lines for people.
+//! Errors of the input, as a line of JSON or as text.
 ghost use Rattle.std.specs.Prelude.{◌≡◌, ◌∷◌, ◌++◌, [], IfOk, Some, codes, string_bytes};
 ghost use Rattle.json.specs.Print.{print};
 ghost use Rattle.report_answers.specs.Errors.{IsErrorText, IsObjectText, byte_tokens, input_text, nesting_object, nesting_text};
@@ -15,7 +15,7 @@ use std::alloc::{AllocError, Global};
 use std::fmt;
 use std::fmt::{Display, Formatter};
 
-/// Returns the object for a value that isn't what a module has there, with its path.
+/// Returns the JSON error on the value at a path, which isn't that of a module.
 fn at_path(alloc: Global, path: &str, wanted: &str) -> Result<Vec<u8>, AllocError>
     ensures { IfOk result (λ text. text.items ≡ print (path_tokens path.now wanted.now) ++ 10 ∷ []) }
 {
@@ -34,7 +34,7 @@ fn at_path(alloc: Global, path: &str, wanted: &str) -> Result<Vec<u8>, AllocErro
     Ok(text)
 }
 
-/// Returns the object for a byte that isn't allowed there.
+/// Returns the JSON error on a byte that isn't allowed there.
 fn at_byte(alloc: Global, byte: usize, wanted: &str) -> Result<Vec<u8>, AllocError>
     ensures { IfOk result (λ text. text.items ≡ print (byte_tokens byte wanted.now) ++ 10 ∷ []) }
 {
@@ -69,7 +69,7 @@ impl Display for WantedText<'_> {
     }
 }
 
-/// Returns the line of JSON for the reason why no module was read.
+/// Returns the JSON error on an input from which no module was read.
 ///
 /// # Errors
 ///
@@ -95,7 +95,7 @@ pub fn error_object(alloc: Global, error: &ReadError) -> Result<Vec<u8>, AllocEr
     }
 }
 
-/// Returns the line of JSON for a module whose blocks nest too deep to be checked.
+/// Returns the JSON error on a module whose blocks nest too deep to be checked.
 ///
 /// # Errors
 ///
@@ -106,7 +106,7 @@ pub fn nesting_object(alloc: Global) -> Result<Vec<u8>, AllocError>
     at_path(alloc, "", "blocks that nest at most 4,000 deep")
 }
 
-/// The lines for people on a text that is no JSON.
+/// The text of the error on an input that isn't JSON.
 #[derive(Clone, Copy)]
 struct NotJsonText {
     place: Place,
@@ -141,7 +141,8 @@ impl Display for TellingText<'_> {
     }
 }
 
-/// Returns the lines for people on a text that is no JSON from that byte on: where that is, what the text seems to be, and what is wanted.
+/// Returns the text of the error on an input that isn't JSON from this byte on: the text position, the format that the input seems to have,
+/// and the wanted one.
 fn not_json_text(alloc: Global, input: &[u8], byte: usize) -> Result<String, AllocError>
     ensures { IfOk result (λ text. string_bytes text ≡ not_json_text (place_in input.now byte) (form_in input.now byte)) }
 {
@@ -150,7 +151,7 @@ fn not_json_text(alloc: Global, input: &[u8], byte: usize) -> Result<String, All
     format!(in alloc; "{}", NotJsonText { place, form })
 }
 
-/// Returns the line for people on a text that nests too deep.
+/// Returns the text of the error on an input that nests too deep.
 fn too_deep_text(alloc: Global, input: &[u8], byte: usize) -> Result<String, AllocError>
     ensures { IfOk result (λ text. string_bytes text ≡ too_deep_text (place_in input.now byte)) }
 {
@@ -158,14 +159,14 @@ fn too_deep_text(alloc: Global, input: &[u8], byte: usize) -> Result<String, All
     format!(in alloc; "{place}: arrays and objects nest more than 128 deep\n")
 }
 
-/// Returns the line for people on an input that isn't what a module is.
+/// Returns the text of the error on an input that isn't an object with the fields of a module.
 fn input_text(alloc: Global, told: TellingText<'_>) -> Result<String, AllocError>
     ensures { IfOk result (λ text. string_bytes text ≡ input_text told.entry.wanted.0.now told.entry.found.now) }
 {
     format!(in alloc; "the input: {told}\n")
 }
 
-/// Returns the line for people on the value at a path that isn't what a module has there.
+/// Returns the text of the error on the value at a path, which isn't that of a module.
 fn value_text(alloc: Global, path: &str, told: TellingText<'_>) -> Result<String, AllocError>
     ensures { IfOk result (λ text. string_bytes text ≡ value_text path.now told.entry.wanted.0.now told.entry.found.now) }
 {
@@ -175,7 +176,7 @@ fn value_text(alloc: Global, path: &str, told: TellingText<'_>) -> Result<String
     Ok(text)
 }
 
-/// Returns the line for people on a value that isn't what a module has there.
+/// Returns the text of the error on a value that isn't that of a module.
 fn not_module_text(
     alloc: Global,
     path: &str,
@@ -193,7 +194,7 @@ fn not_module_text(
     }
 }
 
-/// Returns the lines for people on the reason why no module was read from the input.
+/// Returns the text of the error on an input from which no module was read.
 ///
 /// # Errors
 ///
@@ -215,7 +216,7 @@ pub fn error_text(alloc: Global, input: &[u8], error: &ReadError) -> Result<Vec<
     Ok(text.into_bytes())
 }
 
-/// Returns the line for people on a module whose blocks nest too deep to be checked.
+/// Returns the text of the error on a module whose blocks nest too deep to be checked.
 ///
 /// # Errors
 ///

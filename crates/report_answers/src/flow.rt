@@ -1,4 +1,4 @@
-//! The verdict on uniform flow as part of a report.
+//! The verdict on uniform control flow as a section of a report.
 ghost use Rattle.std.specs.Prelude.{◌≡◌, ◌++◌, true, false, IfOk, IfSome, codes, drop, string_bytes};
 ghost use Rattle.report_answers.specs.Reports.{HasFlow, IsFlowSection};
 
@@ -14,7 +14,7 @@ pub struct Part {
     pub is_accepted: bool,
 }
 
-/// Returns all bytes but the first.
+/// Returns all bytes except the first.
 fn behind_first(line: &[u8]) -> &[u8]
     ensures { result.now ≡ drop 1 line.now }
 {
@@ -36,7 +36,7 @@ fn with_member(alloc: Global, member: &[u8], line: &[u8]) -> Result<Vec<u8>, All
     Ok(text)
 }
 
-/// Decides the flow of a module. The section is what a report on the module has of that, if the module has no other fault.
+/// Checks the uniform flow of a module. A report has the section if the module has no other fault.
 fn flow_section(alloc: Global, is_json: bool, module: &Module) -> Result<Section, AllocError>
     ensures { IfOk result (λ section. IsFlowSection is_json «module».now section.is_accepted (string_bytes section.text)) }
 {
@@ -47,8 +47,9 @@ fn flow_section(alloc: Global, is_json: bool, module: &Module) -> Result<Section
     }
 }
 
-/// Decides the flow of a module before its other faults are known, if it is well formed and memory is there. What is decided takes as
-/// much memory as the highest handle or argument that is named, which a fault may be about: so a failure is told only if there is none.
+/// Checks uniform flow before the analysis, which keeps peak memory low. Returns `None` if the module is ill-formed or memory runs out:
+/// `flow_at_last` checks again. The check takes memory by the highest handle or argument that the module names, which may itself be a
+/// fault. So a failed allocation counts only if the analysis finds no fault.
 pub fn flow_beforehand(alloc: Global, is_json: bool, module: &Module) -> Option<Section>
     ensures { IfSome result (λ section. IsFlowSection is_json «module».now section.is_accepted (string_bytes section.text)) }
 {
@@ -58,7 +59,7 @@ pub fn flow_beforehand(alloc: Global, is_json: bool, module: &Module) -> Option<
     }
 }
 
-/// Returns the section on the flow of a module, which is decided now if it wasn't beforehand.
+/// Returns the section on the flow of a module. Checks the flow now if `early` is `None`.
 pub fn flow_at_last(
     alloc: Global,
     is_json: bool,
@@ -74,7 +75,7 @@ pub fn flow_at_last(
     }
 }
 
-/// Returns the line of JSON on a module that has no other fault, with the verdict on its flow.
+/// Returns the JSON report on a module without another fault, with the verdict on its flow as the first member.
 fn json_with_flow(alloc: Global, section: &Section, rest: &[u8]) -> Result<Part, AllocError>
     ensures verdict { IfOk result (λ part. part.is_accepted ≡ section.now.is_accepted) }
     ensures text { IfOk result (λ part. HasFlow true part.is_accepted (string_bytes section.now.text) rest.now part.text.items) }
@@ -86,7 +87,7 @@ fn json_with_flow(alloc: Global, section: &Section, rest: &[u8]) -> Result<Part,
     })
 }
 
-/// Returns the text for people on such a module: what is said of it, or why its flow is refused.
+/// Returns the text report if control flow is uniform, otherwise the uniformity refusal in its place.
 fn people_with_flow(section: Section, rest: Vec<u8>) -> Part
     ensures verdict { result.is_accepted ≡ section.is_accepted }
     ensures text { HasFlow false result.is_accepted (string_bytes section.text) rest.items result.text.items }
@@ -104,7 +105,7 @@ fn people_with_flow(section: Section, rest: Vec<u8>) -> Part
     }
 }
 
-/// Returns the report on a module that has no other fault, with the section on its flow.
+/// Returns the report on a module without another fault, with the section on its flow.
 pub fn with_flow(
     alloc: Global,
     is_json: bool,

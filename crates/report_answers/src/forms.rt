@@ -1,4 +1,4 @@
-//! What a text that is no JSON seems to be.
+//! Guesses the format of an input that isn't JSON.
 ghost use Rattle.std.specs.Prelude.{◌≡◌, Some};
 ghost use Rattle.report_answers.specs.Forms.{form_by_start, form_in, form_of, form_of_rest, form_text};
 ghost use Rattle.report_answers.specs.Forms.{is_declaration, is_spirv, is_utf16, is_wgsl, rest_of};
@@ -6,12 +6,12 @@ ghost use Rattle.report_answers.specs.Forms.{is_declaration, is_spirv, is_utf16,
 use std::fmt;
 use std::fmt::{Display, Formatter};
 
-/// The form that a text without JSON seems to have.
+/// The format that an input which isn't JSON seems to have.
 #[derive(Clone, Copy, Debug, PartialEq, Eq)]
 pub enum Form {
-    /// A text without a byte that isn't white space.
+    /// Only white space, or no byte at all.
     Blank,
-    /// A text behind a byte order mark of UTF-8.
+    /// A byte order mark of UTF-8 at the start.
     ByteOrderMark,
     /// A text in UTF-16.
     Utf16,
@@ -23,15 +23,15 @@ pub enum Form {
     Wgsl,
     /// A value in RON.
     Ron,
-    /// A text with a comment at the byte that is meant.
+    /// A comment at the byte at which parsing stopped.
     Comment,
-    /// A text that ends before the JSON does.
+    /// A text that ends before the JSON value does.
     CutOff,
     /// Any other text.
     Other,
 }
 
-/// Returns whether a text is UTF-16: with a byte order mark, or with the bracket of an object in either order.
+/// Returns whether a text is UTF-16: it begins with a byte order mark or an opening brace, in either byte order.
 fn is_utf16(start: &[u8]) -> bool
     ensures { result ≡ is_utf16 start.now }
 {
@@ -41,7 +41,7 @@ fn is_utf16(start: &[u8]) -> bool
         || start.starts_with(b"\0{")
 }
 
-/// Returns whether a text begins with the magic number of SPIR-V, in either order.
+/// Returns whether a text begins with the magic number of SPIR-V, in either byte order.
 fn is_spirv(start: &[u8]) -> bool
     ensures { result ≡ is_spirv start.now }
 {
@@ -60,7 +60,7 @@ fn is_declaration(start: &[u8]) -> bool
         || start.starts_with(b"let ")
 }
 
-/// Returns whether a text is WGSL by its first word.
+/// Returns whether a text begins as a module of WGSL does.
 fn is_wgsl(start: &[u8]) -> bool
     ensures { result ≡ is_wgsl start.now }
 {
@@ -72,7 +72,7 @@ fn is_wgsl(start: &[u8]) -> bool
         || start.starts_with(b"diagnostic")
 }
 
-/// Returns what a text is by its start, or else the other form.
+/// Guesses the format from the start of a text. Returns `other` if the start fits none.
 fn form_by_start(start: &[u8], other: Form) -> Form
     ensures { result ≡ form_by_start start.now other }
 {
@@ -93,7 +93,7 @@ fn form_by_start(start: &[u8], other: Form) -> Form
     }
 }
 
-/// Returns what a text seems to be by its start behind white space, or else by the rest that goes on otherwise than JSON.
+/// Guesses the format of input that is not JSON, from its first token or, failing that, from the byte where parsing stopped.
 fn form_of(start: &[u8], rest: &[u8]) -> Form
     ensures { result ≡ form_of start.now rest.now }
 {
@@ -104,7 +104,7 @@ fn form_of(start: &[u8], rest: &[u8]) -> Form
     }
 }
 
-/// Returns what is found where a text goes on otherwise than JSON.
+/// Guesses the format from the text after the byte where parsing stopped.
 fn form_of_rest(rest: &[u8]) -> Form
     ensures { result ≡ form_of_rest rest.now }
 {
@@ -117,7 +117,7 @@ fn form_of_rest(rest: &[u8]) -> Form
     }
 }
 
-/// Returns the text from the byte of this index on.
+/// Returns the text from this byte on.
 fn rest_of(text: &[u8], byte: usize) -> &[u8]
     ensures { result.now ≡ rest_of text.now byte }
 {
@@ -125,7 +125,7 @@ fn rest_of(text: &[u8], byte: usize) -> &[u8]
 }
 
 impl Form {
-    /// Returns what a text seems to be that is no JSON from the byte of this index on.
+    /// Guesses the format of a text of which `byte` is the first byte that isn't JSON.
     pub fn of(text: &[u8], byte: usize) -> Form
         ensures { result ≡ form_in text.now byte }
     {

@@ -1,5 +1,5 @@
-//! What a module's text is answered by: the options of a report, the report itself, and errors of the input. The program `report` and the
-//! library for C and Rust stand on it, so both answer alike.
+//! The report on a module as JSON: its options, its text, and errors of the input. The program `report` and the library for C and Rust use
+//! it, so both print the same bytes.
 #![tactic(auto)]
 
 mod errors;

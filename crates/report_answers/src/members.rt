@@ -1,4 +1,4 @@
-//! What words ask for beside the analysis of a module.
+//! The optional sections of a report: bounds checks and resources.
 ghost use Rattle.std.specs.Prelude.{◌≡◌, IfOk, string_bytes};
 ghost use Rattle.std.specs.Option.{option_map};
 ghost use Rattle.json.specs.Value.{value_view};
@@ -13,7 +13,7 @@ use shader_report_bounds::{BoundsJson, BoundsText, ModuleBounds, find_bounds};
 use shader_report_resources::{Notation, find_resources};
 use std::alloc::{AllocError, Global};
 
-/// Returns what a back end checks of the module, if words ask for it and the module is accepted.
+/// Returns the bounds checks of a module, if the options ask for them and the module is accepted.
 fn asked_bounds(
     alloc: Global,
     options: Options,
@@ -29,7 +29,7 @@ fn asked_bounds(
     Ok(found)
 }
 
-/// Returns the member on bounds checks, or an empty text if nothing is found.
+/// Returns the JSON member on bounds checks, or an empty text without any.
 fn member_of(alloc: Global, found: &Option<ModuleBounds>) -> Result<String, AllocError>
     ensures { IfOk result (λ text. string_bytes text ≡ member_text found.now) }
 {
@@ -39,7 +39,7 @@ fn member_of(alloc: Global, found: &Option<ModuleBounds>) -> Result<String, Allo
     }
 }
 
-/// Returns the resources of the module that a JSON value stands for, if words ask for them and the module is valid.
+/// Returns the resources of a module with this JSON, if the options ask for them and the module is valid.
 fn asked_resources(
     alloc: Global,
     options: Options,
@@ -58,7 +58,7 @@ fn asked_resources(
     }
 }
 
-/// Returns the member on resources, or an empty text if nothing is found.
+/// Returns the JSON member on resources, or an empty text without any.
 fn resources_member(alloc: Global, found: &Option<String>) -> Result<String, AllocError>
     ensures { IfOk result (λ text. string_bytes text ≡ resources_text (option_map string_bytes found.now)) }
 {
@@ -68,7 +68,7 @@ fn resources_member(alloc: Global, found: &Option<String>) -> Result<String, All
     }
 }
 
-/// Returns the members that words ask for, each after a comma.
+/// Returns the JSON members that the options ask for, each after a comma.
 fn members_of(
     alloc: Global,
     options: Options,
@@ -85,7 +85,7 @@ fn members_of(
     Ok(text)
 }
 
-/// Returns the lines on bounds checks, or an empty text if words don't ask for them or the module isn't accepted.
+/// Returns the lines on bounds checks, or an empty text if the options don't ask for them or the module isn't accepted.
 fn bounds_lines(alloc: Global, options: Options, module: &Module) -> Result<String, AllocError> {
     match asked_bounds(alloc, options, module)? {
         Some(bounds) => {
@@ -109,7 +109,7 @@ fn resources_lines(alloc: Global, found: Option<String>) -> String
     }
 }
 
-/// Returns the lines that words ask for at the end of a text for people: those on bounds checks, and behind them those on resources.
+/// Returns the lines at the end of a text report that the options ask for: those on bounds checks, then those on resources.
 fn asked_lines(
     alloc: Global,
     options: Options,
@@ -125,17 +125,17 @@ fn asked_lines(
     Ok(text)
 }
 
-/// The members of a report beside the analysis of the module.
+/// The optional sections of a report.
 #[derive(Drop)]
 pub struct Extras {
-    /// As JSON the members that words ask for, and for people the lines at the end.
+    /// The JSON members, or the lines at the end of a text report.
     pub text: String,
-    /// The binding that the host gives each global variable, for people.
+    /// The binding of each global variable, in a text report.
     pub bindings: Vec<Option<ResourceBinding>>,
 }
 
 impl Extras {
-    /// Returns what a report on a module has that a JSON value stands for.
+    /// Returns the optional sections of the report on a module with this JSON.
     ///
     /// # Errors
     ///

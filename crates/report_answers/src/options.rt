@@ -8,7 +8,7 @@ use bitflags::Flags;
 use shader_bounds::{BoundsCheckPolicies, BoundsCheckPolicy};
 use shader_info::{Capabilities, ValidationFlags};
 
-/// The policies of a report on bounds checks if no word sets any.
+/// The policies of a report on bounds checks if no argument sets any.
 const UNCHECKED: BoundsCheckPolicies = BoundsCheckPolicies {
     index: BoundsCheckPolicy::Unchecked,
     buffer: BoundsCheckPolicy::Unchecked,
@@ -19,45 +19,45 @@ const UNCHECKED: BoundsCheckPolicies = BoundsCheckPolicies {
 /// A flag of the command line.
 #[derive(Clone, Copy, Debug, PartialEq, Eq)]
 pub enum Flag {
-    /// Report as JSON.
+    /// Reports as JSON.
     Json,
-    /// Decide uniform flow as naga specifies it.
+    /// Checks uniform flow as naga specifies it.
     NagaFlow,
-    /// Decide no uniform flow.
+    /// Doesn't check uniform flow.
     AnyFlow,
-    /// Decide no uniform flow, by the word that was first.
+    /// Doesn't check uniform flow: the older name of this flag.
     NoFlow,
-    /// Let arrays of sampled images and of samplers be indexed by values that differ among invocations.
+    /// Allows non-uniform indexes of arrays of sampled images and of samplers.
     IndexTextures,
-    /// Let arrays of storage images be indexed by values that differ among invocations.
+    /// Allows non-uniform indexes of arrays of storage images.
     IndexStorageTextures,
-    /// Let both kinds of arrays be indexed by values that differ among invocations.
+    /// Allows non-uniform indexes of both kinds of arrays.
     IndexBoth,
     /// The same, with the kinds in the other order.
     IndexBothTurned,
-    /// Report bounds checks.
+    /// Reports bounds checks.
     Bounds,
-    /// Report bounds checks under these policies.
+    /// Reports bounds checks under these policies.
     Policies(BoundsCheckPolicies),
-    /// Report resources.
+    /// Reports resources.
     Resources,
-    /// Draw structs.
+    /// Draws structs.
     Drawing,
-    /// Don't draw structs.
+    /// Doesn't draw structs.
     NoDrawing,
 }
 
-/// The reason why words set no options, with the index of the word.
+/// The reason why arguments are refused, with the index of the first wrong one.
 #[derive(Clone, Copy, Debug, PartialEq, Eq)]
 pub enum BadWord {
-    /// The word is no flag.
+    /// The argument is no flag.
     Unknown(usize),
-    /// The word sets what another before it has set.
+    /// The argument sets what an earlier one has set.
     Twice(usize),
 }
 
 impl Flag {
-    /// The flags that are one word each.
+    /// The flags with a fixed argument each: all except policies.
     pub const ALL: [Flag; 12] = [
         Flag::Json,
         Flag::NagaFlow,
@@ -73,7 +73,7 @@ impl Flag {
         Flag::NoDrawing,
     ];
 
-    /// Returns the word of the command line that is the flag, or nothing for policies, which many words set.
+    /// Returns the command line argument that sets the flag. It is empty for policies, which many arguments set.
     pub fn word(self) -> &'static str
         ensures { result.now ≡ flag_text self }
     {
@@ -94,7 +94,7 @@ impl Flag {
         }
     }
 
-    /// Returns the flag that shares most with a word at the start, the first of those.
+    /// Returns the flag that shares the longest prefix with an argument, the first of several.
     pub fn nearest(word: &[u8]) -> Flag
         ensures { result ≡ nearest word.now }
     {
@@ -114,7 +114,7 @@ impl Flag {
         nearer(word, Flag::Json, nearer(word, of_checks, of_parts))
     }
 
-    /// Returns the flag that the word names as it stands.
+    /// Returns the flag whose argument is `word`.
     fn named(word: &[u8]) -> Option<Flag>
         ensures { result ≡ named_flag word.now }
     {
@@ -124,7 +124,7 @@ impl Flag {
             .find(|flag| flag.word().as_bytes() == word)
     }
 
-    /// Returns the flag that the word is: one that it names, or policies of bounds checks.
+    /// Returns the flag that an argument sets, which may be policies of bounds checks.
     fn from_word(word: &[u8]) -> Option<Flag>
         ensures { result ≡ flag_of word.now }
     {
@@ -135,7 +135,7 @@ impl Flag {
     }
 }
 
-/// Returns how many bytes two words share at their start.
+/// Returns the length of the longest common prefix.
 fn shared(one: &[u8], other: &[u8]) -> usize
     ensures { result ≡ shared one.now other.now }
 {
@@ -154,7 +154,7 @@ fn shared(one: &[u8], other: &[u8]) -> usize
     count
 }
 
-/// Returns the better of two flags for a word: the one that shares more with it, of two alike the first.
+/// Returns the flag that shares the longer prefix with an argument, the first if both are equal.
 fn nearer(word: &[u8], one: Flag, other: Flag) -> Flag
     ensures { result ≡ nearer word.now one other }
 {
@@ -165,10 +165,10 @@ fn nearer(word: &[u8], one: Flag, other: Flag) -> Flag
     }
 }
 
-/// The uniform flow that a report decides.
+/// The check of uniform flow in a report.
 #[derive(Clone, Copy, Debug, PartialEq, Eq)]
 pub enum FlowCheck {
-    /// That of `shader_uniformity`, after WGSL, of a module that has no other fault.
+    /// That of `shader_uniformity`, which follows WGSL, if the module has no other fault.
     Defined,
     /// That of the analysis, as naga specifies it.
     Naga,
@@ -179,26 +179,26 @@ pub enum FlowCheck {
 /// The options of a report.
 #[derive(Clone, Copy, Debug, PartialEq, Eq)]
 pub struct Options {
-    /// True for JSON, false for a text for people.
+    /// True for JSON, false for text output.
     pub is_json: bool,
-    /// The uniform flow that is decided.
+    /// The check of uniform flow.
     pub flow: FlowCheck,
     /// True if arrays of sampled images and of samplers may be indexed by values that differ among invocations.
     pub indexes_textures: bool,
     /// True if arrays of storage images may be indexed by values that differ among invocations.
     pub indexes_storage_textures: bool,
-    /// True if bounds checks are reported even where no word sets policies.
+    /// True if bounds checks are reported even if no argument sets policies.
     pub has_bounds: bool,
-    /// The policies under which bounds checks are reported, if a word sets some: that alone asks for them.
+    /// The policies under which bounds checks are reported, if an argument sets any: that asks for the report too.
     pub policies: Option<BoundsCheckPolicies>,
     /// True if resources are reported.
     pub has_resources: bool,
-    /// True if the text for people has drawings of structs, where a word says so.
+    /// Whether the text output has drawings of structs, if an argument says so.
     pub drawing: Option<bool>,
 }
 
 impl Options {
-    /// The options without any flag.
+    /// The options without any argument.
     pub const START: Options = Options {
         is_json: false,
         flow: FlowCheck::Defined,
@@ -210,7 +210,7 @@ impl Options {
         drawing: None,
     };
 
-    /// Returns the options with both kinds of arrays indexed by values that differ among invocations.
+    /// Returns the options with non-uniform indexes of both kinds of arrays allowed.
     fn indexing_both(self) -> Options
         ensures { result ≡ indexing_both self }
     {
@@ -221,14 +221,14 @@ impl Options {
         }
     }
 
-    /// Returns the options where this flow is decided.
+    /// Returns the options with this check of uniform flow.
     fn with_flow(self, flow: FlowCheck) -> Options
         ensures { result ≡ record self { flow = flow } }
     {
         Options { flow, ..self }
     }
 
-    /// Returns the options where structs are drawn, or aren't.
+    /// Returns the options with or without drawings of structs.
     fn with_drawing(self, is_drawn: bool) -> Options
         ensures { result ≡ record self { drawing = Some is_drawn } }
     {
@@ -277,7 +277,7 @@ impl Options {
         }
     }
 
-    /// Returns whether what the flag sets is set already.
+    /// Returns whether an earlier flag has set the option that this flag sets.
     fn is_set(self, flag: Flag) -> bool
         ensures { result ≡ is_set self flag }
     {
@@ -300,7 +300,7 @@ impl Options {
         }
     }
 
-    /// Returns the policies under which bounds checks are reported, if they are. Where no word sets policies, no access is checked.
+    /// Returns the policies under which bounds checks are reported, if they are. Without an argument with policies, all are `Unchecked`.
     pub fn bounds(self) -> Option<BoundsCheckPolicies>
         ensures { result ≡ bounds_of self }
     {
@@ -311,7 +311,7 @@ impl Options {
         }
     }
 
-    /// Returns the options where a text for people draws structs if no word says whether it does and if this says so.
+    /// Returns the options, with this default for drawings if no argument sets it.
     pub fn drawing_if(self, is_drawn: bool) -> Options
         ensures { result ≡ drawing_if self is_drawn }
     {
@@ -321,7 +321,7 @@ impl Options {
         }
     }
 
-    /// Returns the options with what one more word sets, the word of this index.
+    /// Applies one command line argument to the options. `index` is its position, for errors.
     fn with_word(self, index: usize, word: &[u8]) -> Result<Options, BadWord>
         ensures { result ≡ with_word self index word.now }
     {
@@ -335,11 +335,11 @@ impl Options {
         }
     }
 
-    /// Returns the options that these words set, in any order.
+    /// Returns the options that these arguments set, in any order.
     ///
     /// # Errors
     ///
-    /// The first word that is no flag, or that sets what one before it has set.
+    /// The first argument that is no flag, or that sets what an earlier one has set.
     pub fn from_words(words: &[String]) -> Result<Options, BadWord>
         ensures { result ≡ options_from start 0 words.now }
     {
@@ -352,7 +352,7 @@ impl Options {
         Ok(options)
     }
 
-    /// Returns the flags that the analysis checks.
+    /// Returns the validation flags for the analysis.
     pub fn flags(self) -> ValidationFlags
         ensures { result ≡ flags_of self }
     {

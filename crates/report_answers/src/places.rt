@@ -1,11 +1,11 @@
-//! Places in a text, as editors count them.
+//! Text positions, as editors count them.
 ghost use Rattle.std.specs.Prelude.{◌≡◌, Some};
 ghost use Rattle.report_answers.specs.Places.{after, after_all, place_in, place_text, start};
 
 use std::fmt;
 use std::fmt::{Display, Formatter};
 
-/// A place in a text.
+/// A text position.
 #[derive(Clone, Copy, Debug, PartialEq, Eq)]
 pub struct Place {
     /// The number of the line, from 1.
@@ -15,7 +15,7 @@ pub struct Place {
 }
 
 impl Place {
-    /// Returns the place of the byte of this index.
+    /// Returns the text position of a byte.
     pub fn of(text: &[u8], byte: usize) -> Place
         ensures { result ≡ place_in text.now byte }
     {
@@ -23,7 +23,7 @@ impl Place {
     }
 }
 
-/// Returns the place behind a byte at a place. Bytes from 128 to 191 go on with a character of UTF-8.
+/// Returns the text position after one more byte. Bytes from 128 to 191 continue a character of UTF-8.
 fn after(place: Place, byte: u8) -> Place
     ensures { result ≡ after place byte }
 {
@@ -43,7 +43,7 @@ fn after(place: Place, byte: u8) -> Place
     }
 }
 
-/// Returns the place behind a text.
+/// Returns the text position at the end of a text.
 fn behind(text: &[u8]) -> Place
     ensures { result ≡ after_all start text.now }
 {

@@ -1,4 +1,4 @@
-//! The policies of bounds checks that a word of the command line spells, as `index=ReadZeroSkipWrite,buffer=Restrict`.
+//! The policies of bounds checks in a command line argument, as `index=ReadZeroSkipWrite,buffer=Restrict`.
 ghost use Rattle.std.specs.Prelude.{◌≡◌};
 ghost use Rattle.report_answers.specs.Policies.{policies_of, setting_of, setting_text, with_setting};
 
@@ -8,7 +8,7 @@ use shader_type_text::Pieces;
 /// The policy of a kind of access.
 #[derive(Clone, Copy, Debug)]
 enum Setting {
-    /// That of arrays, vectors and matrices, where no other kind applies.
+    /// That of arrays, vectors and matrices, if no other kind applies.
     Index(BoundsCheckPolicy),
     /// That of uniform and storage buffers.
     Buffer(BoundsCheckPolicy),
@@ -55,7 +55,7 @@ impl Setting {
         }
     }
 
-    /// Returns the setting that a part of a word names.
+    /// Returns the setting that a part of an argument names.
     fn from_part(part: &[u8]) -> Option<Setting>
         ensures { result ≡ setting_of part.now }
     {
@@ -65,7 +65,7 @@ impl Setting {
             .find(|setting| setting.word().as_bytes() == part)
     }
 
-    /// Returns the policies with this one.
+    /// Returns the policies with this setting.
     fn added_to(self, policies: BoundsCheckPolicies) -> BoundsCheckPolicies
         ensures { result ≡ with_setting policies self }
     {
@@ -90,7 +90,7 @@ impl Setting {
     }
 }
 
-/// Returns the policies that the word sets, if each of its parts between commas sets one. A policy that isn't set is `Unchecked`.
+/// Returns the policies that an argument sets, if each part between commas sets one. A policy that isn't set is `Unchecked`.
 pub fn policies_of(word: &[u8]) -> Option<BoundsCheckPolicies>
     ensures { result ≡ policies_of word.now }
 {

@@ -30,7 +30,7 @@ pub trait Progress {
     fn begins(&mut self, stage: Stage);
 }
 
-/// A receiver that tells nobody.
+/// A receiver that ignores all messages.
 #[derive(Clone, Copy, Debug, PartialEq, Eq)]
 pub struct Silent;
 

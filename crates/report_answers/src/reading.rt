@@ -1,4 +1,4 @@
-//! What a report reads of its input, which needn't be there afterwards.
+//! Reads a module from an input, and the optional sections that need the JSON. The input may then be dropped.
 ghost use Rattle.std.specs.Prelude.{◌≡◌, ℕ, IfOk, List, Some, false};
 ghost use Rattle.std.specs.Str.{IsUtf8};
 ghost use Rattle.json.specs.Json.{document};
@@ -17,24 +17,24 @@ use shader_ir::Module;
 use shader_json_module::{ModuleParts, ReadError, parse_bytes, read_parts, read_value};
 use std::alloc::{AllocError, Global};
 
-/// A module that was read, and what the report on it has beside the analysis.
+/// A module that was read, with the optional sections of its report.
 #[derive(Drop)]
 pub struct ReadModule {
     pub module: Module,
     pub extras: Extras,
 }
 
-/// The data that were read of an input.
+/// The result of reading an input.
 #[derive(Drop)]
 pub enum Reading {
     /// A module.
     Module(ReadModule),
-    /// No module, and this report says why.
+    /// No module. This report has the error.
     Refused(Report),
 }
 
 impl Reading {
-    /// Returns the reading of a module, with the extras of the report on it that this JSON value gives.
+    /// Returns the reading of a module, with the optional sections of its report, which are computed from its JSON.
     fn of_module(
         alloc: Global,
         options: Options,
@@ -55,7 +55,7 @@ impl Reading {
         }
     }
 
-    /// Reads an input in parts, of which none but the rest is a JSON value as a whole.
+    /// Reads an input in parts. Only `rest` is a JSON value as a whole: functions and entry points are read a part at a time.
     #[tactic(auto, using(crate::proofs::ReadingLemmas::parts_read))]
     fn of_parts(
         alloc: Global,
@@ -73,7 +73,7 @@ impl Reading {
         reading
     }
 
-    /// Returns the reading of an input from which no module can be read, for the reason.
+    /// Returns the reading of an input from which no module can be read.
     fn of_error(
         alloc: Global,
         options: Options,
@@ -120,7 +120,7 @@ impl Reading {
         }
     }
 
-    /// Reads a module from an input. Where words don't ask for its resources, which need the whole JSON, it is read in parts.
+    /// Reads a module from an input. It is read in parts unless the options ask for resources, which need the whole JSON.
     ///
     /// # Errors
     ///

@@ -1,4 +1,4 @@
-//! The report on the module that an input is.
+//! The report on an input.
 
 use crate::errors::{error_object, error_text, nesting_object, nesting_text};
 use crate::flow::{Part, flow_at_last, flow_beforehand, with_flow};
@@ -13,12 +13,12 @@ use shader_report_text::summarize;
 use shader_resolve::{MOST_LEVELS, nests_within};
 use std::alloc::{AllocError, Global};
 
-/// The kind that an input was found to be of.
+/// The verdict on an input.
 #[derive(Clone, Copy, Debug, PartialEq, Eq)]
 pub enum Outcome {
-    /// A module that has no fault, and each type of which has a layout.
+    /// A module without a fault, with a layout for each type.
     Accepted,
-    /// A module that has a fault, or a type without a layout.
+    /// A module with a fault, or with a type without a layout.
     Refused,
     /// No module, or one whose blocks nest too deep.
     NotModule,
@@ -27,9 +27,9 @@ pub enum Outcome {
 /// The report on an input.
 #[derive(Drop)]
 pub struct Report {
-    /// The report on the module, or why the input is none, in lines of UTF-8: the latter belongs to standard error, unless it is JSON.
+    /// The report on the module, or the error of the input, in lines of UTF-8. An error belongs to standard error, unless it is JSON.
     pub text: Vec<u8>,
-    /// The kind that the input was found to be of.
+    /// The verdict on the input.
     pub outcome: Outcome,
 }
 
@@ -70,7 +70,7 @@ impl Report {
         }
     }
 
-    /// Returns the report on an input from which no module can be read, for the reason.
+    /// Returns the report on an input from which no module can be read.
     ///
     /// # Errors
     ///
@@ -105,7 +105,7 @@ impl Report {
         Ok(Report::without_module(text))
     }
 
-    /// Returns the report on all of a module but the uniform flow of `shader_uniformity`, as a line of JSON with these members.
+    /// Returns the JSON report on a module, with these members at the end, and without the check of `shader_uniformity`.
     #[tactic(auto, using(crate::proofs::ReportLemmas::json_told))]
     fn json_of(
         alloc: Global,
@@ -124,7 +124,7 @@ impl Report {
         })
     }
 
-    /// Returns the same as text for people.
+    /// Returns the text report on a module, without the check of `shader_uniformity`.
     fn text_of(
         alloc: Global,
         options: Options,
@@ -147,7 +147,7 @@ impl Report {
         })
     }
 
-    /// Returns the report on all of a module but the uniform flow of `shader_uniformity`.
+    /// Returns the report on a module, without the check of `shader_uniformity`.
     fn rest_on(
         alloc: Global,
         options: Options,
@@ -164,8 +164,8 @@ impl Report {
         }
     }
 
-    /// Returns the report with the verdict on the flow of a module, if it has no other fault. The flow is decided first, since the rest of
-    /// the report is as large as what that takes.
+    /// Returns the report with the verdict of `shader_uniformity`, if the module has no other fault. That check comes first, since it takes
+    /// as much memory as the rest of the report.
     #[tactic(auto, using(crate::proofs::ReportLemmas::refused_told, crate::proofs::ReportLemmas::flow_told))]
     fn with_defined_flow(
         alloc: Global,
@@ -188,7 +188,7 @@ impl Report {
         }
     }
 
-    /// Returns the report on a module, as a line of JSON or as text for people.
+    /// Returns the report on a module, as JSON or as text, with the check of uniform flow that the options set.
     #[tactic(auto, using(crate::proofs::ReportLemmas::naga_told, crate::proofs::ReportLemmas::off_told))]
     fn on_module(
         alloc: Global,
@@ -230,7 +230,7 @@ impl Report {
         Report::on_module(alloc, options, &read.extras, module)
     }
 
-    /// Returns the report on what was read of an input, which may be gone by then.
+    /// Returns the report on an input that was read. The input itself isn't needed.
     ///
     /// # Errors
     ///
@@ -251,7 +251,7 @@ impl Report {
         }
     }
 
-    /// Returns the report on the module that the input is, as JSON in which `serde_json` prints a naga module.
+    /// Returns the report on an input, which should be a module of naga as `serde_json` prints it.
     ///
     /// # Errors
     ///

@@ -7,7 +7,7 @@ pub fn samples_are_well_formed()
     ensures { SamplesAreWellFormed }
 {}
 
-/// States that each sample is the one that its name names.
+/// States that each sample has a name of its own.
 pub fn names_determine_samples()
     ensures { NamesDetermineSamples }
 {}

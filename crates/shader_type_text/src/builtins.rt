@@ -33,7 +33,7 @@ macro_rules! name {
     };
 }
 
-/// All built-in functions that a word can name.
+/// All built-in functions.
 const NAMED: [MathFunction; 79] = builtins!(list);
 
 /// Returns the name of the built-in function.
@@ -43,7 +43,7 @@ fn name_of(function: MathFunction) -> &'static str
     builtins!(name function)
 }
 
-/// Returns the built-in function that the word names.
+/// Returns the built-in function with this name.
 pub fn builtin_from_word(word: &[u8]) -> Option<MathFunction>
     ensures { result ≡ builtin_of word.now }
 {

@@ -1,9 +1,8 @@
-//! Laws on the spellings of types, names and numbers. Each law is the contract of a function that
-//! does nothing.
+//! Laws on the texts of types, names and numbers. Each law is the contract of a function that does nothing.
 
 ghost use Rattle.shader_type_text.specs.Laws.{BuiltinsAreNamed, NumbersAreDecimals, TypesAreDistinct, TypesAreSpelled};
 
-/// States that a word spells a type exactly if it is the type's text.
+/// States that a text is read as a type exactly if it is the type's text.
 pub fn types_are_spelled()
     ensures { TypesAreSpelled }
 {}
@@ -13,12 +12,12 @@ pub fn types_are_distinct()
     ensures { TypesAreDistinct }
 {}
 
-/// States that a word names a built-in function exactly if it is the function's name.
+/// States that a text is read as a built-in function exactly if it is the function's name.
 pub fn builtins_are_named()
     ensures { BuiltinsAreNamed }
 {}
 
-/// States that a word is a number of 32 bits exactly if it is the number's decimal.
+/// States that a text is read as a number of 32 bits exactly if it is the number's decimal.
 pub fn numbers_are_decimals()
     ensures { NumbersAreDecimals }
 {}

@@ -1,4 +1,4 @@
-//! The texts of types, rules and names: how they are printed, and what a word spells.
+//! Prints types, rules and names as text, and reads types and names.
 #![tactic(auto)]
 
 mod builtins;

@@ -5,7 +5,7 @@ ghost use Rattle.shader_type_text.specs.Numbers.{number_of_word};
 
 use std::str;
 
-/// Returns the number of 32 bits whose decimal the word is.
+/// Returns the number of 32 bits with this decimal.
 pub fn number_from_word(word: &[u8]) -> Option<u32>
     ensures { result ≡ number_of_word word.now }
 {

@@ -1,4 +1,4 @@
-//! Scalars as words.
+//! The names of scalars.
 
 ghost use Rattle.std.specs.Prelude.{◌≡◌};
 ghost use Rattle.shader_type_text.specs.Scalars.{scalar_of_word};
@@ -6,7 +6,7 @@ ghost use Rattle.shader_type_text.specs.Scalars.{scalar_of_word};
 use shader_ir::{Scalar, ScalarKind};
 use std::fmt;
 
-/// A word that names a scalar.
+/// The name of a scalar.
 #[derive(Clone, Copy, Debug, PartialEq, Eq)]
 pub enum ScalarName {
     /// A signed integer of 16 bits.
@@ -101,7 +101,7 @@ impl ScalarName {
     }
 }
 
-/// Returns the scalar that the word names.
+/// Returns the scalar with this name.
 pub fn scalar_from_word(word: &[u8]) -> Option<Scalar>
     ensures { result ≡ scalar_of_word word.now }
 {

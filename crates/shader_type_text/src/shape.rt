@@ -14,7 +14,7 @@ pub enum Shape {
     Matrix(VectorSize, VectorSize),
 }
 
-/// Returns the shape that the word names.
+/// Returns the shape with this name, as `vec3` or `mat4x2`.
 pub fn shape_from_word(word: &[u8]) -> Option<Shape>
     ensures { result ≡ shape_of_word word.now }
 {

@@ -58,7 +58,7 @@ impl PlainType {
         }
     }
 
-    /// Returns the type that the word spells.
+    /// Returns the type with this text.
     pub fn from_word(word: &[u8]) -> Option<PlainType>
         ensures { result ≡ plain_of word.now }
     {
@@ -90,7 +90,7 @@ impl PlainType {
     }
 }
 
-/// Returns the count from 1 to 4,294,967,295 whose decimal the word is.
+/// Returns the count from 1 to 4,294,967,295 with this decimal.
 fn count_from_word(word: &[u8]) -> Option<Count>
     ensures { result ≡ count_of_word word.now }
 {
@@ -110,7 +110,7 @@ ghost use Rattle.shader_type_text.specs.Types.{array_items};
 impl SpelledType {
     ghost use Rattle.shader_type_text.specs.Types.{array_from, array_type, type_of};
 
-    /// Returns the array that three words spell.
+    /// Returns the array of a base type, a count and a stride, each as text.
     fn array_of(base: &[u8], count: &[u8], stride: &[u8]) -> Option<SpelledType>
         ensures { result ≡ array_type base.now count.now stride.now }
     {
@@ -124,7 +124,7 @@ impl SpelledType {
         })
     }
 
-    /// Returns the array that the words spell, if there are three of them.
+    /// Returns the array that three texts spell. Other numbers of texts spell none.
     fn from_items(mut items: Pieces<'_>) -> Option<SpelledType>
         ensures { result ≡ array_from items.entry }
     {
@@ -137,7 +137,7 @@ impl SpelledType {
         SpelledType::array_of(base, count, stride)
     }
 
-    /// Returns the type that the word spells.
+    /// Returns the type with this text.
     pub fn from_word(word: &[u8]) -> Option<SpelledType>
         ensures { result ≡ type_of word.now }
     {

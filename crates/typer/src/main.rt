@@ -1,4 +1,4 @@
-//! The program `typer`: answers lines with requests about types of shaders.
+//! The program `typer`: replies to lines with questions about types of shaders.
 #![tactic(auto)]
 
 mod program;

@@ -12,17 +12,17 @@ use typer_answers::Answer;
 /// The most bytes that an input can have.
 const INPUT_LIMIT: usize = 1_048_576;
 
-/// Reads the whole input, computes the whole answer, and then writes it.
+/// Reads the whole input, computes all replies, and then writes them.
 pub fn run<R: Source, W: Sink>(alloc: Global, reader: &mut R, writer: &mut W) -> Status
     requires reads { R.has_failed reader.old ≡ false }
     requires writes { W.has_failed writer.old ≡ false }
 
-    // With status 0 or 2 all input was read, and its answer was written.
+    // With status 0 or 2 the whole input was read, and the replies to it were written.
     ensures end { OnAnswered result (IsAtEnd (R.remaining reader.new)) }
     ensures answer { OnAnswered result (IfSome (R.remaining reader.old) (λ input.
         (text : List ℕ) × AreAnswer input text result × Appends (W.contents writer.old) (W.contents writer.new) text)) }
 
-    // With 3, 5 and 6 nothing was written, with 4 a beginning of the answer.
+    // With 3, 5 and 6 nothing was written, with 4 a beginning of the replies.
     ensures nothing { OnUnanswered result (Keeps (W.contents writer.old) (W.contents writer.new)) }
     ensures beginning { result ≡ Status.WriteFailed → IfSome (R.remaining reader.old) (λ input.
         (text : List ℕ) × (status : Status) × (n : ℕ) × AreAnswer input text status

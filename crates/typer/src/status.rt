@@ -5,13 +5,13 @@ use typer_answers::Outcome;
 /// The outcome of a run.
 #[derive(Clone, Copy, Debug, PartialEq, Eq)]
 pub enum Status {
-    /// Each line has an answer.
+    /// Each line has a reply.
     Done = 0,
-    /// A line makes no request, and the answer ends with its number.
+    /// A line isn't a request, and the output ends with its number.
     BadLine = 2,
     /// A read of the input failed.
     ReadFailed = 3,
-    /// A write of the answer failed.
+    /// A write of the output failed.
     WriteFailed = 4,
     /// An allocation failed.
     OutOfMemory = 5,

@@ -1,15 +1,15 @@
-//! The answer to a whole input.
+//! All replies to an input.
 
 use crate::lines::Lines;
 use crate::reply::Reply;
 use std::alloc::{AllocError, Global};
 
-/// The end of an answer: at the last line, or at one that made no request.
+/// The end of the replies: at the last line, or at a line that isn't a request.
 #[derive(Clone, Copy, Debug, PartialEq, Eq)]
 pub enum Outcome {
-    /// Each line made a request.
+    /// Each line is a request.
     Done,
-    /// A line made none, and the answer ends there.
+    /// A line isn't a request, and the replies end there.
     BadLine,
 }
 
@@ -24,7 +24,7 @@ impl Answer {
     ghost use Rattle.std.specs.Prelude.{◌<◌, ◌^◌, length, IfOk, string_bytes};
     ghost use Rattle.typer_answers.specs.Answers.{IsAnswer};
 
-    /// Returns the answer to all lines of the input.
+    /// Returns the replies to the lines of an input.
     pub fn to(alloc: Global, input: &[u8]) -> Result<Answer, AllocError>
         requires { length input.now < 2 ^ 32 }
         ensures { IfOk result (λ a. IsAnswer input.now (string_bytes a.text) a.outcome) }

@@ -1,20 +1,19 @@
-//! Laws on requests, answers, whole inputs and their spelling, and remaining rules. Each law is the contract of a function that does
-//! nothing.
+//! Laws on requests, replies, whole inputs and remaining rules. Each law is the contract of a function that does nothing.
 
 ghost use Rattle.typer_answers.specs.Laws.{AnswersAreUnique, ArraysLeaveNoRule, BadLinesEndAnswers, LastLinesMayLackEnds};
 ghost use Rattle.typer_answers.specs.Laws.{RequestsAreAnswered, RequestsAreSpelled, RulesLeftRemain, SamplesHaveOneReport};
 
-/// States that a line makes a request exactly if it is the request's text.
+/// States that a line is read as a request exactly if it is the request's text.
 pub fn requests_are_spelled()
     ensures { RequestsAreSpelled }
 {}
 
-/// States that an input of requests is answered by replies to them.
+/// States that the output for an input of requests is the replies to them.
 pub fn requests_are_answered()
     ensures { RequestsAreAnswered }
 {}
 
-/// States that a line without a request ends the answer.
+/// States that the output ends at a line that isn't a request.
 pub fn bad_lines_end_answers()
     ensures { BadLinesEndAnswers }
 {}
@@ -29,7 +28,7 @@ pub fn samples_have_one_report()
     ensures { SamplesHaveOneReport }
 {}
 
-/// States that an input has exactly one answer.
+/// States that an input has exactly one output.
 pub fn answers_are_unique()
     ensures { AnswersAreUnique }
 {}

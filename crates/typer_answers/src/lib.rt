@@ -1,4 +1,4 @@
-//! The requests in the lines of an input, and the answer to them.
+//! The requests in the lines of an input, and the replies to them.
 #![tactic(auto)]
 
 mod answer;

@@ -13,7 +13,7 @@ use shader_type_text::{ConclusionText, RulesText, ScalarText};
 use std::alloc::{AllocError, Global};
 use std::fmt;
 
-/// The reply to a line that makes a request.
+/// The reply to a request.
 #[derive(Drop)]
 pub enum Reply {
     /// The type of a call.
@@ -30,7 +30,7 @@ pub enum Reply {
     Conversion(Scalar, Scalar),
     /// The analysis results for a module, or the location of its violation.
     Module(ModuleReport),
-    /// Nothing answers the request.
+    /// No rule accepts the arguments, or there is no conversion or no layout.
     Refused,
 }
 
@@ -126,7 +126,7 @@ impl Reply {
         }
     }
 
-    /// Returns the reply to a line, if it makes a request.
+    /// Returns the reply to a line, if it is a request.
     pub fn to(alloc: Global, line: &[u8]) -> Result<Option<Reply>, AllocError>
         ensures { IfOk result (IsReplyTo line.now) }
     {

@@ -10,7 +10,7 @@ use shader_samples::Sample;
 use shader_type_text::{Pieces, SpelledType, builtin_from_word};
 use std::alloc::{AllocError, Global};
 
-/// The kind of a request, by its first word.
+/// The kind of a request, by its keyword.
 #[derive(Clone, Copy, Debug, PartialEq, Eq)]
 pub enum Kind {
     /// `call`: the type of a call.
@@ -63,7 +63,7 @@ impl Kind {
         }
     }
 
-    /// Returns the kind that the word names.
+    /// Returns the kind with this keyword.
     fn from_word(word: &[u8]) -> Option<Kind>
         ensures { result ≡ request_kind word.now }
     {
@@ -74,7 +74,7 @@ impl Kind {
     }
 }
 
-/// Returns the request for a layout, if the words spell one type.
+/// Returns the request for a layout, if the rest of the line spells one type.
 fn parse_layout(mut words: Pieces<'_>) -> Option<Request>
     ensures { result ≡ layout_from words.entry }
 {
@@ -85,7 +85,7 @@ fn parse_layout(mut words: Pieces<'_>) -> Option<Request>
     SpelledType::from_word(word).map(Request::Layout)
 }
 
-/// Returns the request for a conversion between two types, if the words spell two.
+/// Returns the request for a conversion, if the rest of the line spells two types.
 fn parse_convert(mut words: Pieces<'_>) -> Option<Request>
     ensures { result ≡ convert_from words.entry }
 {
@@ -99,7 +99,7 @@ fn parse_convert(mut words: Pieces<'_>) -> Option<Request>
     Some(Request::Convert(from, to))
 }
 
-/// Returns the request for the report on a sample, if the words are the name of one.
+/// Returns the request for the report on a sample, if the rest of the line is its name.
 fn parse_module(mut words: Pieces<'_>) -> Option<Request>
     ensures { result ≡ module_from words.entry }
 {
@@ -110,7 +110,7 @@ fn parse_module(mut words: Pieces<'_>) -> Option<Request>
     Sample::from_name(name).map(Request::Module)
 }
 
-/// Returns the types that the words spell, if each spells one.
+/// Returns the types that the rest of the line spells, if each part spells one.
 fn parse_types(alloc: Global, words: Pieces<'_>) -> Result<Option<Vec<SpelledType>>, AllocError>
     ensures { IfOk result (λ types. option_map (λ v. v.items) types ≡ types_of words.entry) }
 {
@@ -124,7 +124,7 @@ fn parse_types(alloc: Global, words: Pieces<'_>) -> Result<Option<Vec<SpelledTyp
     Ok(Some(types))
 }
 
-/// Returns the built-in function that the first word names, and the types that the others spell.
+/// Returns the built-in function that the next part names, and the types that the other parts spell.
 fn parse_arguments(
     alloc: Global,
     mut words: Pieces<'_>,
@@ -140,8 +140,7 @@ fn parse_arguments(
     }
 }
 
-/// Returns the request for a call's type, if the words name a built-in function and spell at least
-/// one type.
+/// Returns the request for the type of a call, if the rest of the line is a built-in function and at least one type.
 fn parse_call(alloc: Global, words: Pieces<'_>) -> Result<Option<Request>, AllocError>
     ensures { IfOk result (λ request. request ≡ call_from words.entry) }
 {
@@ -154,7 +153,7 @@ fn parse_call(alloc: Global, words: Pieces<'_>) -> Result<Option<Request>, Alloc
     Ok(Some(Request::Call(function, Items::from(arguments))))
 }
 
-/// Returns the request for rules, if the words name a built-in function and spell types.
+/// Returns the request for rules, if the rest of the line is a built-in function and types.
 fn parse_rules(alloc: Global, words: Pieces<'_>) -> Result<Option<Request>, AllocError>
     ensures { IfOk result (λ request. request ≡ rules_from words.entry) }
 {
@@ -164,7 +163,7 @@ fn parse_rules(alloc: Global, words: Pieces<'_>) -> Result<Option<Request>, Allo
     Ok(Some(Request::Rules(function, Items::from(arguments))))
 }
 
-/// Returns the request that a line makes, if any.
+/// Returns the request in a line, if there is one.
 pub fn parse_request(alloc: Global, line: &[u8]) -> Result<Option<Request>, AllocError>
     ensures { IfOk result (λ request. request ≡ request_of line.now) }
 {
