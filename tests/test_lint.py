@@ -45,8 +45,8 @@ class Rules(unittest.TestCase):
 
     def test_comments(self):
         """Finds a roundabout word in a comment, not in code, and a function whose comment begins with no verb in the third person."""
-        rows = {"// All but for one.\n": 1, "let told = but_for;\n": 0, "/// Returns a.\n#[inline]\npub fn f() {\n": 0, "/// The a.\nfn f() {\n": 1}
-        rows.update({"/// The a.\nstruct A;\nfn f() {\n": 0, "    /// Adds a.\n    ///\n    /// But b.\n    fn f() {\n": 0})
+        rows = {"// All but for one.\n": 1, "let told = but_for;\n": 0, "/// Returns a.\n#[inline]\npub fn f() {\n": 0}
+        rows.update({"/// The a.\nfn f() {\n": 1, "/// The a.\nstruct A;\nfn f() {\n": 0, "    /// States, that a.\n    fn f() {\n": 0})
         self.assertEqual({it: found(lint.comments, "a.rt", it) for it in rows}, rows)
 
     def test_formats(self):
@@ -156,7 +156,7 @@ class Documents(unittest.TestCase):
         """Takes a function with what is above it, and a definition up to the next blank line."""
         code = ["use a;", "", "/// Returns a.", "fn a() {", "    b", "}", ""]
         self.assertEqual(document_lists.function(code, "a"), code[2:6])
-        words = ["-- before", "", "-- A is b.", "abbrev pub A : B", "  = c", "", "D : E"]
+        words = ["-- before", "", "-- A is b.", "abbrev pub A (b : C) : B", "  = c", "", "D : E"]
         self.assertEqual(document_lists.definition(words, "A"), words[2:5])
         self.assertEqual([document_lists.function(code, "b"), document_lists.definition(words, "F")], [None, None])
 

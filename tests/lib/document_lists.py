@@ -69,7 +69,7 @@ def function(lines, name):
 
 def definition(lines, name):
     """Returns a definition of a file of specs/ with the comment above it, up to the next blank line, None if there is none."""
-    at = next((it for it, line in enumerate(lines) if re.match(rf"(?:\w+ )*{re.escape(name)} :", line)), None)
+    at = next((it for it, line in enumerate(lines) if re.match(rf"(?:\w+ )*{re.escape(name)}(?: [({{].*)? :", line)), None)
     if at is None:
         return None
     first = next(it for it in range(at, -1, -1) if it == 0 or not lines[it - 1].strip())
