@@ -1,5 +1,4 @@
-//! One module for each kind of test, and their helpers. The narrowing of sets is tested line by line (tests/data/lines/call.in, narrow.in and
-//! rules.in).
+//! One module for each kind of test, and their helpers. Lines of tests/data/lines (call.in, narrow.in and rules.in) test how sets narrow.
 mod calls;
 mod conclusions;
 mod lists;
