@@ -1,4 +1,4 @@
--- Seventeen idioms of real shaders, in the order of docs/PROGRAMS.md, each as few statements.
+-- Seventeen idioms of real shaders, in the order of docs/UNIFORMITY.md, each as few statements.
 use Rattle.std.specs.Prelude.{List, [], ◌∷◌, None}
 use Rattle.std.specs.List.{AllByRecursion}
 use Rattle.shader_ir.specs.Body.{Step, Loop, If, End}
