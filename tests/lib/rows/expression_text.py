@@ -1,7 +1,7 @@
 """Reads the expressions of module texts (tests/data/rows/README.md)."""
 import re
 
-from type_text import KINDS, SCALARS, SIZES, scalar
+from rows.type_text import KINDS, SCALARS, SIZES, scalar
 
 NUMBERS = ["Constant", "Override", "FunctionArgument", "GlobalVariable", "LocalVariable", "CallResult", "ArrayLength"]
 UNITS = ["RayQueryProceedResult", "SubgroupBallotResult"]

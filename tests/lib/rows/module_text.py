@@ -1,9 +1,9 @@
 """Reads modules as text (tests/data/rows/README.md) into the JSON that serde's derives print of naga's."""
 import re
 
-from expression_text import expression
-from statement_text import Blocks
-from type_text import TextError, Types, binding, flags, need, parts, scalar, values
+from rows.expression_text import expression
+from rows.statement_text import Blocks
+from rows.type_text import TextError, Types, binding, flags, need, parts, scalar, values
 
 OPTIONS = {"clamp", "comparison", "committed", "row_major"}
 VALUES = {"depth", "gather", "index", "offset", "result"}

@@ -1,8 +1,8 @@
 """Reads the statements of module texts (tests/data/rows/README.md), and the blocks that they stand in."""
 import re
 
-from expression_text import tile
-from type_text import need
+from rows.expression_text import tile
+from rows.type_text import need
 
 UNITS = ["Break", "Continue", "Kill"]
 FIELDS = {
