@@ -2,7 +2,6 @@
 import argparse
 import pathlib
 import sys
-import unittest
 
 # Set once for all, as a script imports this module first.
 sys.dont_write_bytecode = True
@@ -59,6 +58,8 @@ def compared(results):
 
 def run_tests(doc):
     """Runs the unit tests of the script that calls it, and returns the exit status. The script takes no arguments."""
+    import unittest
+
     arguments(doc).parse_args()
     tests = unittest.defaultTestLoader.loadTestsFromModule(sys.modules["__main__"])
     ran = unittest.TextTestRunner(stream=sys.stdout, verbosity=1).run(tests)
