@@ -6,11 +6,28 @@ share what finds samples and other scripts.
 import importlib.machinery
 import importlib.util
 import os
+import subprocess
 import sys
+import time
 
 from crates import TOP, listed
 
 PARTS = ("src", "specs", "proofs")
+
+
+class Ran:
+    """Runs a command to its end, and holds its status, its output, the time of each line, its processor seconds and its memory in bytes."""
+
+    def __init__(self, words, folder):
+        started = subprocess.Popen(words, cwd=folder, stdin=subprocess.DEVNULL, stdout=subprocess.PIPE, stderr=subprocess.STDOUT)
+        begun, self.lines = time.time(), []
+        for line in started.stdout:
+            self.lines.append((time.time() - begun, line.decode(errors="replace").rstrip("\n")))
+        started.stdout.close()
+        _, status, used = os.wait4(started.pid, 0)
+        started.returncode = self.status = os.waitstatus_to_exitcode(status)
+        self.seconds, self.memory = used.ru_utime + used.ru_stime, 1024 * used.ru_maxrss
+        self.said = "".join(f"{it}\n" for _, it in self.lines)
 
 
 def program_of(name):

@@ -1,10 +1,10 @@
-"""Chooses which edits of crates/*/mutants a run tries, by what git tells of the commit.
+"""Chooses which mutants of crates/*/mutants a run tries, by the history of the commit.
 
-Those of a crate are all tried where its src/ or specs/ changed since the newest commit that is a day older than HEAD, and so is an edit
-that changed itself. Of the other crates every eighth is tried, in the order of crates.txt: the number of commits on HEAD tells where that
-begins, so that eight commits in a row try all, as long as no crate changes its place there. A crate's edits are tried together, since each
-check first reads all that is below it. Those in tests/data/mutants_always.txt are tried in every run. Where git doesn't tell, as in a clone
-without the history, all are.
+A run tries all mutants of a crate whose src/ or specs/ changed since the newest commit that is a day older than HEAD, and each mutant that
+changed itself; one that only moved within its crate hasn't changed. It tries the mutants in tests/data/mutants_always.txt. Of the other
+crates it tries all mutants of every eighth, in the order of crates.txt: the number of commits on HEAD says with which it begins, so eight
+commits in a row try all, as long as no crate changes its position there. The mutants of a crate are tried together, since each check first
+reads everything below it. Without a history, as in a copy without .git, all are tried.
 """
 import re
 import subprocess
@@ -15,11 +15,12 @@ ALWAYS = TOP / "tests/data/mutants_always.txt"
 PARTS = 8
 LATELY = 24 * 60 * 60
 SOURCE = re.compile(r"crates/(\w+)/(?:src|specs)/")
-EDIT = re.compile(r"crates/(\w+)/mutants/(\w+)\.edit")
+EDIT = re.compile(r"crates/(\w+)/mutants/(\w+)\.edit$")
+MOVED = re.compile(r"R100\tcrates/(\w+)/\S*\tcrates/\1/")
 
 
 def git(*words):
-    """Returns the lines that a command of git prints, None where it fails."""
+    """Returns the lines that a command of git prints, None if it fails."""
     try:
         ran = subprocess.run(["git", *words], cwd=TOP, capture_output=True, text=True)
     except OSError:
@@ -28,7 +29,7 @@ def git(*words):
 
 
 def commit_before(lines, seconds=LATELY):
-    """Returns the newest of the commits, each a line 'NAME TIME' and HEAD's first, that is so much older than HEAD; none where none is."""
+    """Returns the newest commit that is so much older than HEAD, None if none is. Each line is 'NAME TIME', the first that of HEAD."""
     rows = [(int(time), name) for name, _, time in (it.partition(" ") for it in lines)]
     found = [it for it in rows if it[0] <= rows[0][0] - seconds]
     return max(found, key=lambda it: it[0])[1] if found else None
@@ -44,32 +45,45 @@ def names_in(text):
     return {it.strip() for it in text.splitlines() if it.strip() and not it.startswith("#")}
 
 
+def edits_in(files):
+    """Returns the mutants among some files, each as CRATE/NAME."""
+    return {f"{it[1]}/{it[2]}" for it in map(EDIT.match, files) if it}
+
+
+def files_changed(lines):
+    """Returns the files that changed by lines of git, each 'STATUS' and paths with tabs, without those that only moved within a crate."""
+    return [it.split("\t")[-1] for it in lines if not MOVED.match(it)]
+
+
 class Choice:
-    """Which edits a run tries: all, those of the crates that it is given, or those that the commit chooses."""
+    """Chooses the mutants of a run: all, those of the crates that it is given, or those that the commit selects."""
 
     def __init__(self, crates, is_all):
         self.crates, self.always = set(crates), names_in(ALWAYS.read_text())
         lines = (git("log", "--format=%H %ct") if not crates and not is_all else None) or []
         self.since = commit_before(lines) if lines else None
+        # A file of src/ or specs/ that moves from one crate to another changes both.
         changed = git("diff", "--name-only", "--no-renames", self.since) if self.since else None
+        edited = git("diff", "--name-status", "--find-renames=100%", self.since) if self.since else None
         others = git("ls-files", "--others", "--exclude-standard")
-        self.takes_all = changed is None or others is None
+        self.takes_all = None in (changed, edited, others)
         files = [] if self.takes_all else [*changed, *others]
         self.parts, self.turn = parts_of((TOP / "crates.txt").read_text()), len(lines) % PARTS
         self.changed = {it[1] for it in map(SOURCE.match, files) if it}
-        self.edits = {f"{it[1]}/{it[2]}" for it in map(EDIT.match, files) if it}
+        self.edits = set() if self.takes_all else edits_in([*files_changed(edited), *others])
 
     def takes(self, crate, name):
+        """Returns whether the run tries this mutant of a crate."""
         which = f"{crate}/{name}"
         is_chosen = crate in self.changed or which in self.edits or which in self.always
         return self.takes_all or is_chosen or self.parts[crate] == self.turn
 
-    def told(self):
-        """Returns what is chosen, in a line."""
+    def text(self):
+        """Returns the choice in a line."""
         if self.crates:
             return f"all of {', '.join(sorted(self.crates))}"
         if self.takes_all:
             return "all"
         changed = ", ".join(sorted(self.changed)) or "none"
         part = f"every {PARTS}th crate of crates.txt from number {self.turn + 1}, {len(self.always)} that every run tries"
-        return f"{part}, and all of what changed since {self.since[:9]}: {changed}"
+        return f"{part}, and those changed since {self.since[:9]}; crates changed since: {changed}"

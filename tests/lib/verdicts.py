@@ -1,17 +1,19 @@
-"""Judges what the prover said of an edit, without asking it.
+"""Judges the messages of the prover on an edit.
 
-A goal that is left counts against the edit, unless an answer written by hand for its clause names a goal that is gone, so that this may
-be the same one under a new name; one for which the prover found values that make it false counts in any case, and none does where an
-invariant failed. Where nothing counts so and answers failed, the edit is checked without these, and so is the right body: it is refused
-where a goal is left for whose clause the right body leaves none. What both leave decides nothing, and then the edit is refused only if the
-answer for just such a goal failed, by its type or its search and not as it names what the edit took away, on more than `Unit`.
+A goal that is left counts against the edit. It doesn't count if an answer written by hand for its clause names a goal that is gone, since
+it may be that goal under a new name; if the prover found values that make it false, it counts in any case. If an invariant failed, no goal
+counts.
+
+If no goal counts and answers failed, two further checks leave these answers out: one of the edit and one of the right body. The edit is
+refused if it leaves a goal for whose clause the right body leaves none. A goal that both leave decides nothing by itself. Then the edit is
+refused only if the answer for that goal failed, on more than `Unit`, by its type or its search, and not by a name that the edit took away.
 """
 import re
 
 NOTE = re.compile(r"(?m)^note: (src/\S+?):(\d+):\d+: it is not proved (.*)$")
 IN_NOTE = re.compile(r"\(`([^`]+)`\)")
 IS_FALSE = "allow values at which this goal is false"
-# Of a search that came to its limits only the function's line tells.
+# A search that came to its limits shows only in the line of its function.
 UNPROVED = re.compile(r"(?m)^fn \w+::(\S+): no proof: .*`search` did not prove (.*)$")
 FAILED = re.compile(r"(?m)^(?:\./)?proofs/(\S+)\.antt:(\d+):\d+: (error.*(?:\n  .*)*)$")
 OF_FAILED = re.compile(r"error: `([^`]+)`: ")
@@ -24,12 +26,12 @@ GOAL = re.compile(r"(?m)^note: `\S+` of proofs/\S+ must prove: (.*)$")
 ENDED = re.compile(r"(?m)^(?:logic=(?P<whole>not-proved|proved)|only=(?P<asked>\d+) proved=(?P<proved>\d+))")
 UNKNOWN = re.compile(r"(?m)^rattle: error: .* has no function `(\S+)`")
 PROVED = re.compile(r"(?m)^fn \w+::(\S+): proved$")
-# What begins a declaration of a proof file, and what ends the one before it.
+# Matches the line that begins a declaration of a proof file, and so ends the one before it.
 DECLARATION = re.compile(r"(?:(?:pub|abbrev|private|unfoldable) )*([^\s:]+) :(?: |$)|use |module |mutual\b")
 
 
 def clause_of(goal):
-    """Returns what a goal is of, whatever the steps before it are called: the kind and the name of its clause."""
+    """Returns the kind and the name of the clause of a goal, whatever the names of the steps before it."""
     steps, _, clause = goal.partition("-clause-")
     words = steps.split("-")
     kinds = [it for it in words if it in ("returns", "requires", "preserved", "initial")]
@@ -37,7 +39,7 @@ def clause_of(goal):
 
 
 class Failure:
-    """An answer, an invariant or a lemma in which the prover found an error."""
+    """Holds an error that the prover found in an answer, an invariant or a lemma."""
 
     def __init__(self, path, line, why):
         self.folder, _, self.file = path.rpartition("/")
@@ -51,16 +53,16 @@ class Failure:
         self.is_by_name = False
 
     def only_names(self, failures, seen=()):
-        """Returns whether it only names what the edit took away; what fails with a lemma fails as that does."""
+        """Returns whether it fails only by a name that the edit took away, itself or through the lemmas that it cites."""
         if self.depends and self.depends[1] not in seen:
             below = [it for it in failures if it is not self and self.depends[1] in it.names]
             return all(it.only_names(failures, (*seen, self.depends[1])) for it in below)
-        # A message with a long path goes on in a second line.
+        # A message with a long path continues in a second line.
         return bool(NAME_IS_GONE.search(" ".join(self.why.split("\n")[:2])))
 
 
 class Said:
-    """What a check printed."""
+    """Reads the output of a check."""
 
     def __init__(self, text):
         self.text, self.ended = text, ENDED.search(text)
@@ -75,7 +77,7 @@ class Said:
         self.goals = GOAL.findall(text)
 
     def part(self, is_noted, is_unproved, is_failed):
-        """Returns what is said of a function: of goals at the places, paths and folders of proofs that are its own."""
+        """Returns the messages on one function, which three predicates recognize: by source line, by path and by folder of proofs."""
         goals = {name: False for path, name in self.unproved if is_unproved(path)}
         for file, line, name, is_false in self.notes:
             if is_noted(file, line):
@@ -83,26 +85,26 @@ class Said:
         return Part(goals, [it for it in self.failures if (it.is_answer or it.is_invariant) and is_failed(it.folder)])
 
     def whole(self):
-        """Returns what is said of all functions."""
+        """Returns the messages on all functions."""
         return self.part(*[lambda *_: True] * 3)
 
 
 class Part:
-    """What a check says of a function: the goals that it leaves, each with whether it is shown false, and what failed in its proof."""
+    """Holds the messages on a function: the goals that are left, each with whether it is shown false, and the failures of its proof."""
 
     def __init__(self, goals, failures):
         self.goals, self.failures = goals, failures
         self.answers = [it for it in failures if it.is_answer]
 
     def is_refused(self):
-        """Returns whether a goal is left that tells by itself."""
+        """Returns whether a goal is left that decides by itself."""
         if len(self.answers) < len(self.failures):
             return False
         gone = {clause_of(name) for it in self.answers if it.is_gone for name in it.names}
         return any(is_false or clause_of(name) not in gone for name, is_false in self.goals.items())
 
     def refusal_beside(self, right, taken):
-        """Returns in words why it is refused without the answers that were taken out, beside the right body without them, or nothing."""
+        """Returns why it is refused without the answers that were left out, compared with the right body, or an empty text."""
         if self.failures:
             return ""
         left = {clause_of(it) for it in right.goals}
@@ -116,7 +118,7 @@ class Part:
 
 
 def without(text, names):
-    """Returns a proof file without the declarations of these names, each line where it stood."""
+    """Returns a proof file without the declarations of these names. The other lines keep their numbers."""
     lines, is_out = [], False
     for line in text.split("\n"):
         found = DECLARATION.match(line)
