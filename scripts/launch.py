@@ -39,6 +39,8 @@ def say(text):
 
 def shown(file):
     """Returns the name of a file as one line shows it."""
+    if file == "-":
+        return "standard input"
     return "".join(it if it.isprintable() else "?" for it in os.fsencode(file).decode(errors="replace"))
 
 
@@ -75,6 +77,15 @@ def opened(file):
     return descriptor
 
 
+def is_readable(file):
+    """Returns whether a file can probably be read. It isn't opened, since that may take bytes of a pipe."""
+    try:
+        mode = os.fstat(STANDARD_INPUT).st_mode if file == "-" else os.stat(file).st_mode
+    except OSError:
+        return False
+    return not stat.S_ISDIR(mode) and (file == "-" or os.access(file, os.R_OK))
+
+
 def read(name, file):
     """Returns the bytes of an input, or the error by which it can't be read."""
     try:
@@ -86,10 +97,9 @@ def read(name, file):
         return error
 
 
-def unread(name, file, error):
+def unread(error):
     """Returns the answer to an input that can't be read."""
-    what = "standard input" if file == "-" else shown(file)
-    return Answer(READ_FAILED, b"", f"{name}: {what} can't be read: {error.strerror}\n".encode())
+    return Answer(READ_FAILED, b"", f"can't be read: {error.strerror}\n".encode())
 
 
 def run_built(name, flags, text):
@@ -112,22 +122,20 @@ def built_answers(name, arguments):
     """Yields each file with its bytes and the answer of the built program."""
     for file in arguments.files:
         text = read(name, file)
-        answer = unread(name, file, text) if isinstance(text, OSError) else run_built(name, arguments.flags, text)
+        answer = unread(text) if isinstance(text, OSError) else run_built(name, arguments.flags, text)
         yield file, text, answer
 
 
 def unproved_answers(name, arguments):
     """Yields each file with its bytes and the answer of the program as it is compiled without proof, once for all. Raises BuildFailed."""
-    held = {it: read(name, it) for it in arguments.files if it != "-"}
-    if "-" in arguments.files or any(isinstance(it, bytes) for it in held.values()):
+    if any(map(is_readable, arguments.files)):
         warn_unproved(name)
-    if "-" in arguments.files:
-        held["-"] = read(name, "-")
+    held = {it: read(name, it) for it in arguments.files}
     readable = {it: text for it, text in held.items() if isinstance(text, bytes)}
     found = run_unproved.run(name, [(arguments.flags, it) for it in readable.values()]) if readable else []
     answers = dict(zip(readable, found))
     for file in arguments.files:
-        yield file, held[file], answers.get(file) or unread(name, file, held[file])
+        yield file, held[file], answers.get(file) or unread(held[file])
 
 
 def reason_of(name, text, answer):
@@ -143,18 +151,17 @@ def reason_of(name, text, answer):
 
 def hand_on(name, file, text, answer, is_named, is_json):
     """Writes an answer and its errors, with the name of the file if there are several. The heading of JSON is on standard error."""
-    has_output = bool(answer.output) or answer.status == 0
-    if is_named and has_output and is_json:
-        say(f"{shown(file)}:")
-    elif is_named and has_output:
-        write(f"{shown(file)}:\n".encode())
+    label = shown(file)
+    if is_named and (answer.output or answer.status == 0):
+        say(f"{label}:") if is_json else write(f"{label}:\n".encode())
     write(answer.output)
-    prefix = f"{shown(file)}: " if is_named and answer.status != READ_FAILED else ""
+    is_own = isinstance(text, OSError) or answer.status in (run_unproved.BEYOND_A_TRY, run_unproved.FAILED)
+    prefix = f"{label}: " if is_named or isinstance(text, OSError) else ""
     if answer.errors:
-        say(prefix + answer.errors.decode(errors="backslashreplace").rstrip("\n"))
-    reason = reason_of(name, text, answer)
-    if reason:
-        say(f"{name}: {prefix}{reason}")
+        own = f"{name}: " if is_own else ""
+        say(own + prefix + answer.errors.decode(errors="backslashreplace").rstrip("\n"))
+    elif reason_of(name, text, answer):
+        say(f"{name}: {prefix}{reason_of(name, text, answer)}")
 
 
 def hand_on_all(name, arguments, answers):
@@ -176,12 +183,11 @@ def hand_on_all(name, arguments, answers):
 
 
 def run_in_place(name, arguments):
-    """Becomes the built program, with the only file as its standard input. Returns the exit status if that can't be read."""
+    """Becomes the built program, with the only file as its standard input. Returns the exit status if that file can't be read."""
     try:
         source = opened(arguments.files[0])
     except OSError as error:
-        say(unread(name, arguments.files[0], error).errors.decode(errors="backslashreplace").rstrip("\n"))
-        return READ_FAILED
+        return hand_on_all(name, arguments, [(arguments.files[0], error, unread(error))])
     if os.isatty(source):
         say(f"{name}: waits for {AWAITED[name]} on standard input, ended by Ctrl-D")
     os.dup2(source, 0)

@@ -11,7 +11,7 @@ import typing
 CRATES = pathlib.Path(__file__).resolve().parent.parent / "crates"
 # How an input ends that has no answer: by a limit of `rt try`, or as it fails.
 BEYOND_A_TRY, FAILED = 70, 71
-LIMITS = "1 MiB of output and 60 seconds"
+LIMITS = "at most 1 MiB of output and 60 seconds"
 # `rt try` also interprets the program, for so many steps. One step is enough, as it can't interpret all that the programs call.
 FLAGS = ["--steps", "1"]
 CASE = re.compile(rb"(?m)^case=(\d+) run=(\S+)(?: status=(\d+))? .*proved=no\n")
