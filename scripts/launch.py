@@ -144,8 +144,10 @@ def reason_of(name, text, answer):
     if name == "typer" and answer.status == BAD_USAGE and bad:
         from explain_line import reason
         number = int(bad[1])
-        line = text.split(b"\n")[number - 1]
-        return f"line {number}: {reason(line)}"
+        lines = text.removesuffix(b"\n").split(b"\n")
+        more = len(lines) - number
+        rest = f"; {more} more line{'s' if more > 1 else ''} without a reply" if more else ""
+        return f"line {number}: {reason(lines[number - 1])}{rest}"
     return ENDS_OF_TYPER.get(answer.status) if name == "typer" else None
 
 
