@@ -76,7 +76,7 @@ def stride_of(plain):
 
 
 def suggested(word):
-    """Returns the type that a word of another shading language, or a word without its scalar, stands for, None if it is none."""
+    """Returns the type that a word of another shading language, or a word without its scalar, means, None if none."""
     if word in OTHER_SCALARS:
         return OTHER_SCALARS[word]
     short = re.fullmatch(r"(vec[234]|mat[234]x[234])([iufhbd])", word)
@@ -205,7 +205,8 @@ def typed_reason(kind, rest):
     count = FORMS[kind].count("TYPE")
     wrong = split_reason(rest) or types_reason(rest[:count])
     if not wrong and len(rest) != count:
-        return f"`{kind}` needs {count} type{'s' if count > 1 else ''}, and the line has {len(rest)}; the form is `{FORMS[kind]}`"
+        counted = f"{count} type{'s' if count > 1 else ''}"
+        return f"`{kind}` needs {counted}, and the line has {len(rest)}; the form is `{FORMS[kind]}`"
     return wrong
 
 

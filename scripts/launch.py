@@ -1,7 +1,8 @@
-"""Runs ./report and ./typer on files: scripts/launch.py NAME ARGUMENT.., with standard input as file descriptor 3 (scripts/launch).
+"""Runs ./report and ./typer on files: scripts/launch.py NAME ARGUMENT.., with standard input as descriptor 3.
 
-If the proved program is built and no source is newer, that answers. Otherwise the toolchain compiles the same sources with checks, once for
-all inputs, and proves nothing (scripts/run_unproved.py); two lines on standard error say so. Arguments are checked before anything else.
+If the proved program is built and no source is newer, that answers. Otherwise the toolchain compiles the same sources
+with checks, once for all inputs, and proves nothing (scripts/run_unproved.py); two lines on standard error say so.
+Arguments are checked before anything else.
 """
 import os
 import pathlib
@@ -34,6 +35,7 @@ class OutputFailed(Exception):
 
 
 def say(text):
+    """Prints a line on standard error."""
     print(text, file=sys.stderr, flush=True)
 
 
@@ -53,7 +55,8 @@ def parsed_for_typer(words):
     files = words[:end] + words[end + 1 :]
     check_files(files)
     if files and files[0] in ("call", "rules", "layout", "convert", "module") and not os.path.exists(files[0]):
-        raise WrongArgument(f"`{files[0]}` is no file; a question is a line of the input, as in: echo '{' '.join(files)}' | ./typer")
+        example = f"echo '{' '.join(files)}' | ./typer"
+        raise WrongArgument(f"`{files[0]}` is no file; a question is a line of the input, as in: {example}")
     return Arguments([], files)
 
 
@@ -127,7 +130,7 @@ def built_answers(name, arguments):
 
 
 def unproved_answers(name, arguments):
-    """Yields each file with its bytes and the answer of the program as it is compiled without proof, once for all. Raises BuildFailed."""
+    """Yields each file with its bytes and the answer of the program, compiled once without proof. Raises BuildFailed."""
     if any(map(is_readable, arguments.files)):
         warn_unproved(name)
     held = {it: read(name, it) for it in arguments.files}
@@ -185,7 +188,7 @@ def hand_on_all(name, arguments, answers):
 
 
 def run_in_place(name, arguments):
-    """Becomes the built program, with the only file as its standard input. Returns the exit status if that file can't be read."""
+    """Becomes the built program, with the only file as standard input. Returns a status if that can't be read."""
     try:
         source = opened(arguments.files[0])
     except OSError as error:

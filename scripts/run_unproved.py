@@ -1,4 +1,4 @@
-"""Answers by a program of crates/ that isn't proved: the toolchain's `rt try` compiles its sources with checks, and runs it on each input.
+"""Answers by a program of crates/ that isn't proved: `rt try` compiles its sources with checks, and runs it on each input.
 
 One build answers all inputs of a call. An input has no answer if it or its output exceeds a limit of `rt try`.
 """
@@ -12,7 +12,7 @@ CRATES = pathlib.Path(__file__).resolve().parent.parent / "crates"
 # How an input ends that has no answer: by a limit of `rt try`, or as it fails.
 BEYOND_A_TRY, FAILED = 70, 71
 LIMITS = "at most 1 MiB of output and 60 seconds"
-# `rt try` also interprets the program, for so many steps. One step is enough, as it can't interpret all that the programs call.
+# `rt try` also interprets the program for so many steps, in vain: it can't interpret all that the programs call.
 FLAGS = ["--steps", "1"]
 CASE = re.compile(rb"(?m)^case=(\d+) run=(\S+)(?: status=(\d+))? .*proved=no\n")
 OUTPUT = re.compile(rb"(?m)^== (\d+)\n")
@@ -31,7 +31,7 @@ class BuildFailed(Exception):
 
 
 def try_cases(name, folder):
-    """Has the toolchain compile the program and run it on each file of a folder. Returns standard output and standard error."""
+    """Has the toolchain compile the program and run it on each file of a folder. Returns both of its outputs."""
     command = ["rt", "try", *FLAGS, "--cases", str(folder)]
     try:
         ran = subprocess.run(command, cwd=CRATES / name, stdin=subprocess.DEVNULL, capture_output=True)
