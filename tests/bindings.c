@@ -1,5 +1,5 @@
-// Tries the calls of pethuvazh.h on buffers of seven sizes about that of the text and with memory that is refused: tests/bindings links it
-// over the archive with --wrap for malloc, realloc and free, and gives it a module on standard input. It prints a line 'passed' or
+// Tries the calls of pethuvazh.h on buffers of seven sizes near that of the text, and with allocations that fail: tests/bindings links it
+// with the archive and --wrap for malloc, realloc and free, and gives it a module on standard input. It prints a line 'passed' or
 // 'failed WHAT' for each check.
 #include "pethuvazh.h"
 #include <stdio.h>
@@ -20,23 +20,23 @@ void *__real_malloc(size_t);
 void *__real_realloc(void *, size_t);
 void __real_free(void *);
 
-// How many blocks are in use, and which request is refused next; 0 for none.
+// How many blocks are in use, and which allocation fails next; 0 for none.
 static long live, left;
-static int was_refused;
+static int has_failed;
 
-static int is_refused(void) {
+static int fails(void) {
     if (left == 0 || --left > 0) return 0;
-    return was_refused = 1;
+    return has_failed = 1;
 }
 
 void *__wrap_malloc(size_t size) {
-    void *at = is_refused() ? NULL : __real_malloc(size);
+    void *at = fails() ? NULL : __real_malloc(size);
     live += at != NULL;
     return at;
 }
 
 void *__wrap_realloc(void *old, size_t size) {
-    void *at = is_refused() ? NULL : __real_realloc(old, size);
+    void *at = fails() ? NULL : __real_realloc(old, size);
     live += old == NULL && at != NULL;
     return at;
 }
@@ -79,23 +79,23 @@ static void try_rooms(long flags) {
     }
 }
 
-// Each request for memory is refused in turn: then there is no text, no block is left, and nothing is written.
-static void try_refusals(long flags) {
+// Each allocation fails in turn: then there is no text, no block is left, and nothing is written.
+static void try_failures(long flags) {
     size_t wanted, length;
     uint32_t status = call(flags, sizeof buffer, &wanted);
     memcpy(whole, buffer, wanted);
-    long request = 0;
+    long number = 0;
     int is_fine = 1;
-    for (was_refused = 1; was_refused && is_fine;) {
-        was_refused = 0;
-        left = ++request;
+    for (has_failed = 1; has_failed && is_fine;) {
+        has_failed = 0;
+        left = ++number;
         uint32_t ended = call(flags, sizeof buffer, &length);
         left = 0;
         int is_whole = ended == status && length == wanted && memcmp(buffer, whole, wanted) == 0;
         int is_none = ended == PETHUVAZH_OUT_OF_MEMORY && length == 0 && is_untouched(0, sizeof buffer);
-        is_fine = live == 0 && (is_whole || (was_refused && is_none));
+        is_fine = live == 0 && (is_whole || (has_failed && is_none));
     }
-    check(is_fine && request > 1, "a refused request", (unsigned long)request);
+    check(is_fine && number > 1, "an allocation that fails", (unsigned long)number);
 }
 
 static void try_flags(void) {
@@ -145,7 +145,7 @@ int main(void) {
     long flags[] = {0, PETHUVAZH_FOR_PEOPLE, -1};
     for (size_t index = 0; index < sizeof flags / sizeof *flags; index++) {
         try_rooms(flags[index]);
-        try_refusals(flags[index]);
+        try_failures(flags[index]);
     }
     try_flags();
     try_lines();

@@ -1,7 +1,7 @@
-"""Compares the JSON that the program `report` answers with an answer of naga's own code.
+"""Compares the JSON report of a module with the answer of naga's own code.
 
-Left free is which of several causes of the first faulty place is named, and which origin of non-uniformity: what is named has to be one of
-those that hold.
+Two things may differ: which of several causes at the first faulty location is named, and which origin of non-uniformity. The one that is
+named must be among those that hold.
 """
 import json
 
@@ -25,6 +25,7 @@ def variant(value):
 
 
 def operands(expression):
+    """Returns the handles of the operands of an expression."""
     name, data = variant(expression)
     if name == "ArrayLength":
         return [data]
@@ -62,7 +63,7 @@ def statements(block):
 
 
 def is_source(module, function, name, data):
-    """Returns whether what the expression gives may differ among invocations by itself."""
+    """Returns whether the value of the expression may differ among invocations by itself."""
     if name == "FunctionArgument":
         arguments = function["arguments"]
         binding = arguments[data].get("binding") if data < len(arguments) else None
@@ -99,43 +100,44 @@ def origins(module):
     return [([{it for _, it in one} for one in each], {it for _, it in result}) for each, result in found]
 
 
-def take_origin(told, wanted, possible):
-    """Puts the wanted origin in place of the one that is told, where that is a possible one."""
-    this, that = told["non_uniform_result"], wanted["non_uniform_result"]
+def take_origin(found, wanted, possible):
+    """Puts the wanted origin in place of the one that was found, if that is a possible one."""
+    this, that = found["non_uniform_result"], wanted["non_uniform_result"]
     if this is not None and that is not None and this in possible:
-        told["non_uniform_result"] = that
+        found["non_uniform_result"] = that
 
 
-def take_origins(told, wanted, module):
-    places = [(kind, at) for kind in ("functions", "entry_points") for at in range(len(wanted[kind]))]
-    for (kind, at), (each, result) in zip(places, origins(module)):
-        this, that = told[kind][at], wanted[kind][at]
+def take_origins(found, wanted, module):
+    """Puts the wanted origins of an info in place of the possible ones that were found."""
+    locations = [(kind, at) for kind in ("functions", "entry_points") for at in range(len(wanted[kind]))]
+    for (kind, at), (each, result) in zip(locations, origins(module)):
+        this, that = found[kind][at], wanted[kind][at]
         take_origin(this["uniformity"], that["uniformity"], result)
         for one, other, possible in zip(this["expressions"], that["expressions"], each):
             take_origin(one["uniformity"], other["uniformity"], possible)
 
 
-def first_difference(told, wanted, path=""):
-    if isinstance(told, dict) and isinstance(wanted, dict) and list(told) == list(wanted):
-        parts = [(f"{path}.{it}", told[it], wanted[it]) for it in wanted]
-    elif isinstance(told, list) and isinstance(wanted, list) and len(told) == len(wanted):
-        parts = [(f"{path}[{at}]", *it) for at, it in enumerate(zip(told, wanted))]
+def first_difference(found, wanted, path=""):
+    """Returns where two values first differ, and how."""
+    if isinstance(found, dict) and isinstance(wanted, dict) and list(found) == list(wanted):
+        parts = [(f"{path}.{it}", found[it], wanted[it]) for it in wanted]
+    elif isinstance(found, list) and isinstance(wanted, list) and len(found) == len(wanted):
+        parts = [(f"{path}[{at}]", *it) for at, it in enumerate(zip(found, wanted))]
     else:
         parts = []
     for below, this, that in parts:
         if this != that or json.dumps(this) != json.dumps(that):
             return first_difference(this, that, below)
-    return f"{path}: {str(told):.100}, wanted {str(wanted):.100}"
+    return f"{path}: {str(found):.100}, wanted {str(wanted):.100}"
 
 
-def difference(told, wanted, module, causes):
-    """Returns None where what is told is the wanted answer but for what is free, else where it differs; `causes` are those that stand at
-    the first faulty place."""
+def difference(found, wanted, module, causes):
+    """Returns where an answer differs from the wanted one, or None. `causes` are those that hold at the first faulty location."""
     try:
-        if "refused" in wanted and told["refused"]["cause"] in (causes or []):
-            told["refused"]["cause"] = wanted["refused"]["cause"]
+        if "refused" in wanted and found["refused"]["cause"] in (causes or []):
+            found["refused"]["cause"] = wanted["refused"]["cause"]
         if "info" in wanted:
-            take_origins(told["info"], wanted["info"], module)
+            take_origins(found["info"], wanted["info"], module)
     except (KeyError, IndexError, TypeError) as error:
         return f"{type(error).__name__} {error}"
-    return None if json.dumps(told) == json.dumps(wanted) else first_difference(told, wanted)
+    return None if json.dumps(found) == json.dumps(wanted) else first_difference(found, wanted)

@@ -1,5 +1,5 @@
-// Loaded before the C library (LD_PRELOAD), it refuses the request for memory whose number REFUSE names, each one where that is negative,
-// and says so on standard error.
+// Loaded before the C library (LD_PRELOAD), it fails the allocation whose number FAIL_ALLOC names, every one if that is negative, and says
+// so on standard error.
 typedef unsigned long size;
 
 char *getenv(const char *);
@@ -8,18 +8,18 @@ long write(int, const void *, size);
 void *__libc_malloc(size);
 void *__libc_realloc(void *, size);
 
-static int is_refused(void) {
+static int fails(void) {
     static int is_read = 0;
     static long left = 0;
-    static const char told[] = "refuse: this request is refused\n";
+    static const char line[] = "fail_alloc: this allocation fails\n";
     if (!is_read) {
-        const char *number = getenv("REFUSE");
+        const char *number = getenv("FAIL_ALLOC");
         left = number ? atol(number) : 0;
         is_read = 1;
     }
     if (left == 0 || (left > 0 && --left > 0)) return 0;
-    return write(2, told, sizeof told - 1) > 0;
+    return write(2, line, sizeof line - 1) > 0;
 }
 
-void *malloc(size bytes) { return is_refused() ? 0 : __libc_malloc(bytes); }
-void *realloc(void *at, size bytes) { return is_refused() ? 0 : __libc_realloc(at, bytes); }
+void *malloc(size bytes) { return fails() ? 0 : __libc_malloc(bytes); }
+void *realloc(void *at, size bytes) { return fails() ? 0 : __libc_realloc(at, bytes); }

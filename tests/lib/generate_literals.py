@@ -1,5 +1,5 @@
-"""Makes literals as JSON: the name of each and the text of its value, with the bits of a float or the value of what is none, or None where
-the written rules refuse it.
+"""Makes literals as JSON: the name of each and the text of its value, with the bits of a float or the value of any other, or None if the
+written rules refuse it.
 """
 import decimal
 import re
@@ -7,18 +7,18 @@ import struct
 
 # Each literal of a float with the format of its bits.
 FLOATS = {"F16": "F16", "F32": "F32", "F64": "F64", "AbstractFloat": "F64"}
-# The formats, each with struct's codes of a float and of its bits, how many bits stand behind the exponent, and where it is infinite.
+# The formats, each with struct's codes of a float and of its bits, the bits after the exponent, and the least number that is infinite.
 FORMATS = {"F16": ("<e", "<H", 10, 2**16), "F32": ("<f", "<I", 23, 2**128), "F64": ("<d", "<Q", 52, 2**1024)}
 # The bounds of integers. An integer is the bits of an f16.
 INTEGERS = {f"U{bits}": (0, 2**bits - 1) for bits in (16, 32, 64)}
 INTEGERS |= {f"I{bits}": (-(2 ** (bits - 1)), 2 ** (bits - 1) - 1) for bits in (16, 32, 64)}
 INTEGERS |= {"AbstractInt": INTEGERS["I64"], "F16": INTEGERS["U16"]}
-# Enough digits for the middle of any two f64, and less than any of them can tell.
+# Enough digits for the middle of any two f64, and less than the distance of any two of their middles.
 EXACT, LITTLE = decimal.Context(prec=1300), decimal.Decimal("1e-900")
 
 
 def middles(kind):
-    """Numbers at the middle of two neighbouring floats and close to it, with the bits of the nearest one, at the middle the even one."""
+    """Yields numbers at and near the middle of two neighbouring floats, with the bits of the nearest one, at the middle the even one."""
     of_float, of_bits, digits, infinite = FORMATS[kind]
     (one,) = struct.unpack(of_bits, struct.pack(of_float, 1.0))
     # The greatest exponent is twice that of 1.
@@ -33,18 +33,18 @@ def middles(kind):
 
 
 def spellings(number):
-    """Texts of a number that is not 0, with its point at several places."""
+    """Returns texts of a number that is not 0, with its point at several positions."""
     text = f"{number:f}"
     whole, fraction = text.split(".") if "." in text else (text, "0")
     return f"{whole}.{fraction}", f"{(whole + fraction).lstrip('0')}e-{len(fraction)}", f"0.{whole}{fraction}E+{len(whole)}"
 
 
 def floats(rows):
-    """Floats by rows that have a text and the bits of each format, and those about the middle of two."""
+    """Yields floats of rows that have a text and the bits of each format, and those near the middle of two."""
     for row in rows:
         for name, kind in FLOATS.items():
             yield name, row["text"], row[kind]
-            # An integer is a number too, where it isn't the bits of an f16.
+            # An integer is a number too, except for an f16, of which it is the bits.
             if name != "F16" and re.fullmatch(r"-?\d+\.0", row["text"]):
                 yield name, row["text"].removesuffix(".0"), row[kind]
     with decimal.localcontext(EXACT):
@@ -58,7 +58,7 @@ def floats(rows):
 
 
 def integers():
-    """Integers at the bounds of their types and beside them, and forms that no integer has."""
+    """Yields integers at the bounds of their types and next to them, and forms that no integer has."""
     for name, (least, greatest) in INTEGERS.items():
         yield from ((name, str(value), value) for value in (least, greatest))
         yield from ((name, str(value), None) for value in (least - 1, greatest + 1))
@@ -67,4 +67,5 @@ def integers():
 
 
 def literals(rows):
+    """Returns all literals, each a name, the text of its value and the wanted result."""
     return [*floats(rows), *integers(), ("Bool", "false", "false"), ("Bool", "true", "true")]

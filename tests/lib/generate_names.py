@@ -1,4 +1,4 @@
-"""Makes modules as JSON for the names of built-in functions, operators and storage formats, with what the written rules give for each."""
+"""Makes modules as JSON for the names of built-in functions, operators and storage formats, each with the answer by the written rules."""
 
 FLOATS, INTEGERS = ("Unorm", "Snorm", "Float"), ("Uint", "Sint")
 # All storage formats.
@@ -6,7 +6,7 @@ FORMATS = [f"{channels}8{kind}" for channels in ("R", "Rg", "Rgba") for kind in 
 FORMATS += [f"{channels}16{kind}" for channels in ("R", "Rg", "Rgba") for kind in (*FLOATS, *INTEGERS)]
 FORMATS += [f"{channels}32{kind}" for channels in ("R", "Rg", "Rgba") for kind in ("Float", *INTEGERS)]
 FORMATS += ["Bgra8Unorm", "Rgb10a2Unorm", "Rgb10a2Uint", "Rg11b10Ufloat", "R64Uint"]
-# Operators that take no array, and tell their name where they are given one.
+# Operators that take no array, and that a refusal names if they are given one.
 COMPARISONS = ["Equal", "NotEqual", "Less", "LessEqual", "Greater", "GreaterEqual"]
 OPERATORS = [*COMPARISONS, "LogicalAnd", "LogicalOr", "Multiply"]
 RELATIONAL = ["IsNan", "IsInf"]
@@ -17,12 +17,13 @@ TRUE = {"Literal": {"Bool": True}}
 
 
 def module_of(**fields):
-    """Returns a module that is empty but for these fields."""
+    """Returns a module that is empty except for these fields."""
     lists = ("types", "constants", "overrides", "global_variables", "global_expressions", "functions", "entry_points", "diagnostic_filters")
     return {**{name: [] for name in lists}, "special_types": {"predeclared_types": {}}, **fields}
 
 
 def function_of(expressions):
+    """Returns a function with these expressions and an empty body."""
     return {"arguments": [], "local_variables": [], "expressions": expressions, "named_expressions": {}, "body": []}
 
 
@@ -32,7 +33,7 @@ def refusal_of(error, name):
 
 
 def refused(functions):
-    """Yields operations on what none of them takes: the name of each, its module and its refusal. No built-in function takes a bool."""
+    """Yields operations that none of their operands fit, each by its name, its module and its refusal: no function takes a bool."""
     for name in functions:
         call = {"Math": {"fun": name, "arg": 0}}
         yield name, module_of(functions=[function_of([TRUE, call])]), refusal_of("BuiltinArgumentsInvalid", name)
@@ -44,7 +45,7 @@ def refused(functions):
 
 
 def scalar_of(name):
-    """Returns what a texel of the storage format is made of."""
+    """Returns the scalar of a texel of the storage format."""
     kind = next((kind for kind in INTEGERS if name.endswith(kind)), "Float")
     return {"kind": kind, "width": 8 if name == "R64Uint" else 4}
 

@@ -1,6 +1,6 @@
-"""The loads of scripts/measure_calls: modules as JSON and calls of built-in functions, each of a given size.
+"""Makes the loads of scripts/measure_calls: modules as JSON and calls of built-in functions, each of a given size.
 
-The expressions stand in groups of ten: a float, a vector of it, and what is made of those. The mixes differ in the last two of a group.
+Expressions come in groups of ten: a float, a vector of it, and operations on these. The mixes differ in the last two of a group.
 """
 import json
 
@@ -19,7 +19,7 @@ def math(fun, first, second):
     return {"Math": {"fun": fun, "arg": first, "arg1": second, "arg2": None, "arg3": None}}
 
 
-# What each mix has in place of a group's last two expressions: no built-in functions, those with regular sets, and one with a list too.
+# The last two expressions of a group in each mix: no built-in functions, two with regular sets, and one with a list of overloads too.
 LAST = {
     "without_builtins": lambda at: [{"Relational": {"fun": "All", "argument": at + 4}}, binary("Multiply", at, at + 1)],
     "without_lists": lambda at: [math("Max", at + 1, at + 2), math("Pow", at + 2, at + 1)],
@@ -28,7 +28,7 @@ LAST = {
 
 
 def group(mix, at):
-    """Returns the ten expressions of a group whose first is at a place."""
+    """Returns the ten expressions of a group whose first has this handle."""
     scalar, vector, total, test = at, at + 1, at + 2, at + 4
     return [
         {"Literal": {"F32": 0}},
@@ -86,22 +86,22 @@ def of_expressions(mix, count):
 
 
 def one_function(mix):
-    """Returns what makes a module of one function of a mix."""
+    """Returns the maker of a module of one function of a mix."""
     return lambda size: module([of_expressions(mix, size)])
 
 
 def functions_of(count):
-    """Returns what makes a module of functions that have so many expressions each, and as many expressions in all as is asked for."""
+    """Returns the maker of a module of functions with so many expressions each, and with a given number of expressions in all."""
     return lambda size: module([of_expressions("without_lists", count)] * (size // count))
 
 
 def calls(callee, result=None):
-    """Returns a call of a function, whose result is an expression where one is given."""
+    """Returns a call of a function, whose result is an expression if one is given."""
     return {"Call": {"function": callee, "arguments": [], "result": result}}
 
 
 def chained_calls(size):
-    """Returns a module of functions of which each gives back the sum of a number and of what the one before gives back."""
+    """Returns a module of functions, each of which returns the sum of a number and of the result of the one before."""
     first = function([{"Literal": {"U32": 1}}], [{"Return": {"value": 0}}], result=0)
     expressions = [{"Literal": {"U32": 1}}, None, binary("Add", 0, 1)]
 
@@ -138,7 +138,7 @@ def looped_local(size):
 
 
 def chained_locals(size):
-    """Returns a module of so many local variables in a Loop, each given what the one behind it holds, and the last of all an argument."""
+    """Returns a module of so many local variables in a Loop: each gets the value of the next one, and the last gets an argument."""
     variables = [{"LocalVariable": it} for it in range(size)]
     loads = [{"Load": {"pointer": it + 2}} for it in range(size - 1)]
     steps = [({"Emit": {"start": it, "end": it + 1}}, {"Store": {"pointer": it - size, "value": it}}) for it in range(size + 1, 2 * size)]
@@ -224,7 +224,7 @@ def all_types(size):
 
 
 def type_at(place):
-    """Returns the type of a place, over the one of half that place."""
+    """Returns the type of a number, over the type of half that number."""
     base = place // 2
     return [
         {"Scalar": FLOAT},
@@ -239,7 +239,7 @@ def type_at(place):
 
 
 def leaves():
-    """Returns a module of what is compared and converted: scalars, and a vector, a matrix and a pointer over each."""
+    """Returns a module of types to compare and convert: scalars, and a vector, a matrix and a pointer over each."""
     found = []
     for scalar in (FLOAT, ABSTRACT[0], UINT, ABSTRACT[1]):
         found.append({"Scalar": scalar})

@@ -1,5 +1,5 @@
-//! Reports on the modules of `tests/data/modules`, beside what naga's own code found. That the bytes are those of the program `report` is
-//! for `tests/bindings` to say, which builds that.
+//! Reports on the modules of `tests/data/modules`, and compares the reports with the answers of naga's own code. That the bytes are those
+//! of the program `report` is for `tests/bindings` to check, which builds that.
 
 use pethuvazh::{answer_lines, report_json, report_text, BoundsCheckPolicies, BoundsCheckPolicy};
 use pethuvazh::{Error, Options, Report, Uniformity};
@@ -7,7 +7,7 @@ use std::fs;
 use std::path::PathBuf;
 
 fn samples() -> PathBuf {
-    PathBuf::from(env!("CARGO_MANIFEST_DIR")).join("../../tests/data/lines")
+    PathBuf::from(env!("CARGO_MANIFEST_DIR")).join("../../tests/data")
 }
 
 fn lines(name: &str) -> Vec<String> {
@@ -17,7 +17,7 @@ fn lines(name: &str) -> Vec<String> {
     text.lines().map(str::to_owned).collect()
 }
 
-/// Returns the number behind a key of the line.
+/// Returns the number after a key of the line.
 fn number(line: &str, key: &str) -> u32 {
     let from = line.find(&format!("\"{key}\":")).unwrap() + key.len() + 3;
     let digits = line[from..]
@@ -27,7 +27,7 @@ fn number(line: &str, key: &str) -> u32 {
     digits.collect::<String>().parse().unwrap()
 }
 
-/// Returns a line's module, and what is checked of it.
+/// Returns a line's module, and the options for it.
 fn case(line: &str) -> (&str, Options) {
     let from = line.find("\"module\":").unwrap() + "\"module\":".len();
     let capabilities = number(&line[..from], "capabilities");
@@ -45,7 +45,7 @@ fn case(line: &str) -> (&str, Options) {
 
 #[test]
 fn modules_are_accepted_as_by_naga() {
-    let (modules, answers) = (lines("json/modules.jsonl"), lines("json/answers.jsonl"));
+    let (modules, answers) = (lines("modules/modules.jsonl"), lines("modules/answers.jsonl"));
     assert_eq!(modules.len(), answers.len());
     for (index, (line, answer)) in modules.iter().zip(&answers).enumerate() {
         let (module, options) = case(line);
@@ -59,7 +59,7 @@ fn modules_are_accepted_as_by_naga() {
 
 #[test]
 fn options_are_heeded() {
-    let module = fs::read(samples().join("json/real/derivative.json")).unwrap();
+    let module = fs::read(samples().join("modules/real/derivative.json")).unwrap();
     let all = Options::default();
     let any_flow = Options {
         uniformity: Uniformity::Off,
@@ -71,7 +71,7 @@ fn options_are_heeded() {
 
 #[test]
 fn more_is_reported_on_request() {
-    let module = fs::read(samples().join("json/real/textured_quad.json")).unwrap();
+    let module = fs::read(samples().join("modules/real/textured_quad.json")).unwrap();
     let policies = BoundsCheckPolicies {
         index: BoundsCheckPolicy::Restrict,
         image_load: BoundsCheckPolicy::ReadZeroSkipWrite,
@@ -96,7 +96,7 @@ fn more_is_reported_on_request() {
 }
 
 #[test]
-fn what_is_no_module_is_told() {
+fn inputs_that_are_no_module_are_reported() {
     for bytes in [b"".as_slice(), b"\xff", b"[]", b"{}", b"fn main() {}"] {
         let Err(Error::NotModule(why)) = report_json(bytes, Options::default()) else {
             panic!("{bytes:?} is a module");
@@ -115,7 +115,10 @@ fn what_is_no_module_is_told() {
 #[test]
 fn lines_are_answered_as_by_naga() {
     for name in ["call", "rules", "layout", "convert", "module"] {
-        let (asked, wanted) = (lines(&format!("{name}.in")), lines(&format!("{name}.out")));
+        let (asked, wanted) = (
+            lines(&format!("lines/{name}.in")),
+            lines(&format!("lines/{name}.out")),
+        );
         for (asked, wanted) in asked.chunks(1000).zip(wanted.chunks(1000)) {
             let answers = answer_lines(&asked.join("\n")).unwrap();
             assert_eq!(answers.text, wanted.join("\n") + "\n");
@@ -125,7 +128,7 @@ fn lines_are_answered_as_by_naga() {
 }
 
 #[test]
-fn lines_that_are_none_are_told() {
+fn bad_lines_are_reported() {
     let answers = answer_lines("call Abs f32\nfoo\ncall Abs f32\n").unwrap();
     assert_eq!(answers.text, "f32\nbad line 2\n");
     assert!(!answers.is_complete);
@@ -134,7 +137,7 @@ fn lines_that_are_none_are_told() {
 
 #[test]
 fn threads_may_call_at_once() {
-    let modules = lines("json/modules.jsonl");
+    let modules = lines("modules/modules.jsonl");
     let cases: Vec<_> = modules.iter().map(|line| case(line)).collect();
     let report = |(module, options): &(&str, Options)| report_json(module.as_bytes(), *options);
     let wanted: Vec<Result<Report, Error>> = cases.iter().map(report).collect();
@@ -155,7 +158,7 @@ fn threads_may_call_at_once() {
 /// What is proved says nothing of stack.
 #[test]
 fn little_stack_is_enough() {
-    for line in lines("json/modules.jsonl") {
+    for line in lines("modules/modules.jsonl") {
         let work = move || {
             let (module, options) = case(&line);
             assert!(report_json(module.as_bytes(), options).is_ok());

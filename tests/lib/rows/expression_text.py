@@ -1,7 +1,7 @@
 """Reads the expressions of module texts (tests/data/rows/README.md)."""
 import re
 
-from type_text import KINDS, SCALARS, SIZES, scalar
+from rows.type_text import KINDS, SCALARS, SIZES, scalar
 
 NUMBERS = ["Constant", "Override", "FunctionArgument", "GlobalVariable", "LocalVariable", "CallResult", "ArrayLength"]
 UNITS = ["RayQueryProceedResult", "SubgroupBallotResult"]
@@ -23,13 +23,13 @@ MATH = """Abs Min Max Clamp Saturate Cos Cosh Sin Sinh Tan Tanh Acos Asin Atan A
     Pack2x16snorm Pack2x16unorm Pack2x16float Pack4xI8 Pack4xU8 Pack4xI8Clamp Pack4xU8Clamp Unpack4x8snorm Unpack4x8unorm
     Unpack2x16snorm Unpack2x16unorm Unpack2x16float Unpack4xI8 Unpack4xU8""".split()
 DERIVATIVE = re.compile(r"Derivative(?:(X|Y|Width)(Coarse|Fine|None)?)?")
-# What behind the coordinate the level of a sample takes.
+# The fields that the level of a sample takes after the coordinate.
 LEVELS = {"Auto": [], "Zero": [], "Exact": ["level"], "Bias": ["level"], "Gradient": ["x", "y"]}
 QUERIES = {"ImageNumLevels": "NumLevels", "ImageNumLayers": "NumLayers", "ImageNumSamples": "NumSamples"}
 
 
 def literal(clause):
-    """Returns a literal: 0 or false where nothing stands behind the name."""
+    """Returns a literal: 0 or false if nothing follows the name."""
     name = clause.name.removeprefix("Literal") or "U32"
     word = clause.word(0) if clause.has(0) else "false" if name == "Bool" else "0"
     clause.most(1)
@@ -58,7 +58,7 @@ def derivative(clause):
 
 
 def sample(clause):
-    """Returns the fields of a sample: an image, a sampler, a coordinate, what the level needs, and the options."""
+    """Returns the fields of a sample: an image, a sampler, a coordinate, the fields of the level, and the options."""
     name = clause.name.removeprefix("Sample")
     found = clause.fields("image", "sampler", "coordinate", *LEVELS[name])
     given = [found.pop(it) for it in LEVELS[name]]
@@ -75,7 +75,7 @@ def tile(clause, first):
 
 
 def cooperative_load(clause):
-    """Returns the fields of a cooperative load: a matrix of 8 by 8 and role A where no operand says otherwise."""
+    """Returns the fields of a cooperative load: a matrix of 8 by 8 and role A if no operand says otherwise."""
     sizes = [it for it in clause.operands if "x" in it] or ["8x8"]
     roles = [it for it in clause.operands if it in "abc"] or ["a"]
     columns, rows = (SIZES[int(it)] for it in sizes[0].split("x"))
@@ -84,7 +84,7 @@ def cooperative_load(clause):
 
 
 def operation(clause):
-    """Returns the operation on operands that the clause tells, None where it tells none."""
+    """Returns the operation of the clause on operands, or None."""
     name = clause.name
     if name in UNARY:
         return {"Unary": {"op": name, **clause.fields("expr")}}
@@ -100,7 +100,7 @@ def operation(clause):
 
 
 def of_image(clause):
-    """Returns the expression of an image that the clause tells, None where it tells none."""
+    """Returns the expression of the clause on an image, or None."""
     name = clause.name
     if name.removeprefix("Sample") in LEVELS and name.startswith("Sample"):
         return {"ImageSample": sample(clause)}
@@ -113,7 +113,7 @@ def of_image(clause):
 
 
 def composed(clause):
-    """Returns the expression with operands of several kinds that the clause tells, None where it tells none."""
+    """Returns the expression of the clause with operands of several kinds, or None."""
     name = clause.name
     if name == "Compose":
         return {name: {"ty": clause.ty(0), "components": [clause.number(it) for it in range(1, len(clause.operands))]}}
@@ -127,7 +127,7 @@ def composed(clause):
 
 
 def expression(clause):
-    """Returns the expression that the clause tells, None where it tells none."""
+    """Returns the expression of the clause, or None."""
     name = clause.name
     if re.fullmatch(r"Literal([A-Z]\w*)?", name):
         return {"Literal": literal(clause)}

@@ -1,9 +1,9 @@
 """Reads modules as text (tests/data/rows/README.md) into the JSON that serde's derives print of naga's."""
 import re
 
-from expression_text import expression
-from statement_text import Blocks
-from type_text import TextError, Types, binding, flags, need, parts, scalar, values
+from rows.expression_text import expression
+from rows.statement_text import Blocks
+from rows.type_text import TextError, Types, binding, flags, need, parts, scalar, values
 
 OPTIONS = {"clamp", "comparison", "committed", "row_major"}
 VALUES = {"depth", "gather", "index", "offset", "result"}
@@ -24,7 +24,7 @@ TOKEN = re.compile(r"'[^']*'|\S+")
 
 
 def tokens(text):
-    """Returns the words of a text, which blanks outside of quotes separate, as they do { and }; a ; outside of types stands by itself."""
+    """Returns the words of a text: blanks outside of quotes separate them, { and } are words, and so is ; outside of types."""
     words = []
     for word in TOKEN.findall(text):
         start = depth = 0
@@ -38,7 +38,7 @@ def tokens(text):
 
 
 class Clause:
-    """A name with what stands behind it."""
+    """Holds a name with the words that follow it."""
 
     def __init__(self, name, types):
         self.name, self.types = name, types
@@ -46,7 +46,7 @@ class Clause:
         self.text = self.binding = self.flags = None
 
     def add(self, word):
-        """Takes a word that stands behind the name."""
+        """Takes a word that follows the name."""
         if word.startswith("'"):
             self.text = word[1:-1]
         elif word.startswith("@"):
@@ -84,7 +84,7 @@ class Clause:
         return self.types.mentioned(self.word(place))
 
     def fields(self, *names, first=0):
-        """Returns the operands from a place on by name: a type where it is ty, absent or a number where it ends in ?, an option with !."""
+        """Returns the operands from a position on by name: ty is a type, a name with ? may be absent, one with ! is an option."""
         found, place = {}, first
         for name in names:
             if name.endswith("!"):
@@ -110,7 +110,7 @@ def clauses(words, types):
             if word in "{}":
                 yield word
         else:
-            need(clause, f"{word} stands behind no name")
+            need(clause, f"{word} follows no name")
             clause.add(word)
     if clause:
         yield clause
@@ -130,7 +130,7 @@ def global_of(clause):
 
 
 def predeclared(clause):
-    """Returns the argument of a built-in function that gives two values, under the name of its result."""
+    """Returns the argument of a built-in function with two results, under the name of the result."""
     word = clause.word(0)
     if word.startswith("vec"):
         return {clause.name: values(*parts(word))["Vector"]}
@@ -138,7 +138,7 @@ def predeclared(clause):
 
 
 class Module:
-    """A module that is being read."""
+    """Reads a module."""
 
     def __init__(self):
         self.types = Types()
@@ -186,7 +186,7 @@ class Module:
             else:
                 rows[-1].append(word)
         for clause in clauses(rows[0], self.types):
-            need(clause not in ("{", "}"), "a block stands outside of a function")
+            need(clause not in ("{", "}"), "a block is outside of a function")
             self.declare(clause)
         for words in rows[1:]:
             self.add_function(words)
@@ -194,7 +194,7 @@ class Module:
 
 
 class Function:
-    """A function that is being read."""
+    """Reads a function."""
 
     def __init__(self):
         self.entry, self.blocks = None, Blocks()
@@ -215,7 +215,7 @@ class Function:
                 self.blocks.take(clause)
 
     def declare(self, clause):
-        """Takes what is neither an expression nor a statement, and tells whether the clause is of that."""
+        """Takes a clause that is neither an expression nor a statement, and returns whether it is such."""
         name = clause.name
         if name == "EntryPoint":
             stage = clause.word(0) if clause.has(0) else "fragment"
@@ -243,7 +243,7 @@ class Function:
 
 
 def module_of(text):
-    """Returns the module that the text tells, as JSON's objects."""
+    """Returns the module of a text, as objects of JSON."""
     try:
         return Module().read(text)
     except (IndexError, KeyError, ValueError) as error:

@@ -1,8 +1,8 @@
-"""Reads the statements of module texts (tests/data/rows/README.md), and the blocks that they stand in."""
+"""Reads the statements of module texts (tests/data/rows/README.md), and their blocks."""
 import re
 
-from expression_text import tile
-from type_text import need
+from rows.expression_text import tile
+from rows.type_text import need
 
 UNITS = ["Break", "Continue", "Kill"]
 FIELDS = {
@@ -38,7 +38,7 @@ def call(clause):
 
 
 def ray_query(clause):
-    """Returns a step of a ray query: the query, and what the step needs."""
+    """Returns a step of a ray query: the query, and the operands of the step."""
     name = clause.name
     found = clause.fields("query", *RAY_QUERY[name].split())
     query = found.pop("query")
@@ -46,7 +46,7 @@ def ray_query(clause):
 
 
 def subgroup(clause):
-    """Returns the statement of a subgroup that the clause tells, None where it tells none."""
+    """Returns the statement of the clause on a subgroup, or None."""
     name = clause.name
     if name == "BroadcastFirst" or name in SWAPS:
         mode = {"QuadSwap": SWAPS[name]} if name in SWAPS else name
@@ -62,7 +62,7 @@ def subgroup(clause):
 
 
 def other(clause):
-    """Returns the statement with operands of several kinds that the clause tells, None where it tells none."""
+    """Returns the statement of the clause with operands of several kinds, or None."""
     name = clause.name
     if name == "CooperativeStore":
         return {name: {"target": clause.number(0), "data": tile(clause, 1)}}
@@ -76,7 +76,7 @@ def other(clause):
 
 
 def statement(clause):
-    """Returns the statement without blocks that the clause tells, None where it tells none."""
+    """Returns the statement of the clause without blocks, or None."""
     name = clause.name
     if name in UNITS:
         clause.most(0)
@@ -89,7 +89,7 @@ def statement(clause):
 
 
 class Blocks:
-    """The blocks that are open, from the body of the function on."""
+    """Holds the blocks that are open, from the body of the function on."""
 
     def __init__(self):
         self.open, self.head = [[]], None
@@ -114,13 +114,13 @@ class Blocks:
             self.open.pop()
 
     def last(self, name, head):
-        """Returns what the statement before has, which has to be of this name."""
+        """Returns the fields of the statement before, which must have this name."""
         last = self.open[-1][-1] if self.open[-1] else None
-        need(isinstance(last, dict) and name in last, f"{head} stands behind no {name}")
+        need(isinstance(last, dict) and name in last, f"{head} follows no {name}")
         return last[name]
 
     def begun(self, head):
-        """Adds the block that the head begins, empty, where it belongs, and returns it."""
+        """Adds the empty block of the head to its statement, and returns it."""
         name, within, block = head.name, self.open[-1], []
         if name == "Block":
             within.append({"Block": block})

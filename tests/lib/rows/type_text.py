@@ -20,7 +20,7 @@ BUILTINS = {"Position": {"Position": {"invariant": False}}, "Barycentric": {"Bar
 
 
 class TextError(Exception):
-    """A text that isn't one of this language."""
+    """Reports a text that isn't one of this language."""
 
 
 def need(condition, what):
@@ -34,7 +34,7 @@ def number(word):
 
 
 def split(text, mark=","):
-    """Returns the parts of a text between marks that stand outside of all brackets."""
+    """Returns the parts of a text between marks outside of all brackets."""
     parts, depth = [""], 0
     for letter in text:
         depth += (letter in "<{") - (letter in ">}")
@@ -86,7 +86,7 @@ def storage_format(word):
 
 
 def image(word, given):
-    """Returns the image of this name, with what stands between its brackets."""
+    """Returns the image of this name, with the text between its brackets."""
     if word == "texture_external":
         return {"Image": {"dim": "D2", "arrayed": False, "class": "External"}}
     found = IMAGE.fullmatch(word)
@@ -105,7 +105,7 @@ def image(word, given):
 
 
 def values(word, given):
-    """Returns what is made of scalars alone, a sampler, an acceleration structure or a ray query, None for what is none of these."""
+    """Returns a type over scalars alone, a sampler, an acceleration structure or a ray query, None for any other type."""
     matrix = re.fullmatch(r"(coop_)?mat(\d+)x(\d+)", word)
     if matrix:
         columns, rows = (SIZES[int(it)] for it in matrix.groups()[1:])
@@ -128,7 +128,7 @@ def value_pointer(where, pointed, *flag_words):
 
 
 def parts(text):
-    """Returns the name of a type and what stands between its brackets."""
+    """Returns the name of a type and the text between its brackets."""
     name, opened, inside = text.partition("<")
     need(not opened or inside.endswith(">"), f"{text} lacks its end")
     return name, split(inside[:-1])
@@ -139,13 +139,13 @@ def up(size, alignment):
 
 
 class Types:
-    """The types of a module, in order, which grow by what texts mention."""
+    """Holds the types of a module, in order, to which each text that is read adds the types that it needs."""
 
     def __init__(self):
         self.items = []
 
     def layout(self, handle):
-        """Returns the size and the alignment of a type, 0 and 1 of what has none."""
+        """Returns the size and the alignment of a type, 0 and 1 if it has none."""
         (kind, held), = self.items[handle]["inner"].items() if handle < len(self.items) else ((None, None),)
         if kind in ("Scalar", "Atomic"):
             return held["width"], held["width"]
@@ -185,7 +185,7 @@ class Types:
         return {"Struct": {"members": [self.member(it) for it in split(members)], "span": number(span)}}
 
     def inner(self, text):
-        """Returns the type that a text is, once those that it names are there."""
+        """Returns the type of a text, after adding the types that it names."""
         if text.startswith("struct{"):
             return self.struct(text)
         if text in SCALARS or text.startswith("scalar<"):
@@ -203,7 +203,7 @@ class Types:
         self.items.append({"name": name, "inner": self.inner(text)})
 
     def mentioned(self, text):
-        """Returns the handle of the type that the text names, which is added where it isn't there."""
+        """Returns the handle of the type of a text, which is added if it isn't there."""
         if text.isdecimal():
             return int(text)
         if text.startswith("#"):
