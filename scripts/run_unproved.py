@@ -1,137 +1,91 @@
-#!/usr/bin/env python3
-"""Answers by a program of crates/ that isn't proved: the toolchain's `rt try` compiles its sources with checks, and runs it.
+"""Answers by a program of crates/ that isn't proved: `rt try` compiles its sources with checks, and runs it on each input.
 
-    scripts/run_unproved.py NAME WORD..      answers standard input
-
-The output and the exit status of the program are handed on. The programs end with 0 to 6; a status above tells that there is no answer: 70
-where the input or the answer is past what a try takes, 71 where the try failed, whose lines are then kept in a file that is named.
+One build answers all inputs of a call. An input has no answer if it or its output exceeds a limit of `rt try`.
 """
-import os
 import pathlib
 import re
 import subprocess
-import sys
 import tempfile
+import typing
 
-sys.dont_write_bytecode = True
-from crates import TOP
-
-# How the programs themselves end where a read or a write fails.
-READ_FAILED, WRITE_FAILED = 3, 4
-PAST_A_TRY, FAILED = 70, 71
-# What `rt try` takes of standard input, and what it gives of standard output; it has limits of steps and seconds, too.
-MOST_INPUT = 64 << 20
-LIMITS = "64 MiB of input, 1 MiB of output and 60 seconds"
-# It also runs the program on an interpreter, for so many steps; that doesn't know all that these call, and would tell nothing.
+CRATES = pathlib.Path(__file__).resolve().parent.parent / "crates"
+# How an input ends that has no answer: by a limit of `rt try`, or as it fails.
+BEYOND_A_TRY, FAILED = 70, 71
+LIMITS = "at most 1 MiB of output and 60 seconds"
+# `rt try` also interprets the program for so many steps, in vain: it can't interpret all that the programs call.
 FLAGS = ["--steps", "1"]
-# What it says of its two runs, beside what the program writes to standard error.
-CHATTER = re.compile(rb"(?:interpreter|checked|rt): |run=\S+ .*proved=no$")
-ENDED = re.compile(rb"run=ended status=(\d+) .*proved=no$")
-CASE_ENDED = re.compile(rb"(?m)^case=(\d+) run=ended status=(\d+) ")
+CASE = re.compile(rb"(?m)^case=(\d+) run=(\S+)(?: status=(\d+))? .*proved=no\n")
+OUTPUT = re.compile(rb"(?m)^== (\d+)\n")
 
 
-def say(name, text):
-    print(f"{name}: {text}", file=sys.stderr, flush=True)
+class Answer(typing.NamedTuple):
+    """The end of a program on an input: its exit status, standard output and standard error."""
+
+    status: int
+    output: bytes
+    errors: bytes
 
 
-def given_input(to):
-    """Writes standard input to a file, as the toolchain takes a pause in it for its end, and returns whether a try takes as much."""
-    count = 0
-    while more := os.read(0, 1 << 20):
-        count += len(more)
-        if count >= MOST_INPUT:
-            return False
-        to.write(more)
-    to.seek(0)
-    return True
+class BuildFailed(Exception):
+    """The program can't be compiled or run. The only argument is what the toolchain printed."""
 
 
-def past_a_try(name):
-    say(name, f"no answer: a try takes less than {LIMITS}; what ./prove {name} builds takes more")
-    return PAST_A_TRY
-
-
-def failed(name, said):
-    """Keeps what the toolchain said in a file, and says where."""
-    with tempfile.NamedTemporaryFile(prefix=f"{name}-try-", suffix=".log", delete=False) as log:
-        log.write(said)
-    say(name, f"no answer: the try failed, and what the toolchain said is in {log.name}")
-    return FAILED
-
-
-def tried(name, flags, source=subprocess.DEVNULL):
-    """Has the toolchain compile and run the program, and returns the output and what it said, None and why where it doesn't start."""
+def try_cases(name, folder):
+    """Has the toolchain compile the program and run it on each file of a folder. Returns both of its outputs."""
+    command = ["rt", "try", *FLAGS, "--cases", str(folder)]
     try:
-        how = {"stdin": source, "stdout": subprocess.PIPE, "stderr": subprocess.PIPE}
-        ran = subprocess.run(["rt", "try", *FLAGS, *flags], cwd=TOP / "crates" / name, **how)
-        return ran.stdout, ran.stderr
+        ran = subprocess.run(command, cwd=CRATES / name, stdin=subprocess.DEVNULL, capture_output=True)
     except OSError as error:
-        return None, f"rt, the command of the Rattle toolchain, doesn't start: {error.strerror}\n".encode()
+        raise BuildFailed(f"rt, the command of the Rattle toolchain, doesn't start: {error.strerror}\n".encode())
+    return ran.stdout, ran.stderr
 
 
-def answer(name, words, source):
-    """Answers a file, hands on what the program writes, and returns how it ends."""
-    told, said = tried(name, ["--", *words] if words else [], source)
-    lines = said.splitlines(True)
-    last = lines[-1].rstrip(b"\n") if lines else b""
-    ended = ENDED.match(last)
-    if not ended:
-        return past_a_try(name) if last.startswith(b"run=no-answer ") else failed(name, said)
-    sys.stderr.buffer.write(b"".join(it for it in lines if not CHATTER.match(it)))
-    sys.stderr.flush()
-    try:
-        sys.stdout.buffer.write(told)
-        sys.stdout.flush()
-    except OSError:
-        os.dup2(os.open(os.devnull, os.O_WRONLY), 1)
-        return WRITE_FAILED
-    return int(ended[1])
+def write_case(folder, number, flags, text):
+    """Writes an input and its flags as `rt try` reads them."""
+    (folder / str(number)).write_bytes(text)
+    if flags:
+        (folder / f"{number}.args").write_text("".join(f"{it}\n" for it in flags))
 
 
-def answers(name, asked):
-    """Returns status and output of the program on each of many inputs, given by words and text, all by one build.
+def answer_of(ended, output, errors):
+    """Returns the answer of an input from how its run ended."""
+    kind, status = ended
+    if kind == b"ended":
+        return Answer(int(status), output, errors)
+    if kind == b"no-answer":
+        return Answer(BEYOND_A_TRY, b"", f"no answer: a run without proof has {LIMITS}\n".encode())
+    return Answer(FAILED, b"", b"no answer: the program stopped at a check:\n" + errors)
 
-    The status of one that didn't end is None, and where the program can't be compiled what the toolchain said is printed.
-    """
+
+def run(name, asked):
+    """Returns the answers to inputs, each given by flags and bytes. Raises BuildFailed if there are none."""
     with tempfile.TemporaryDirectory() as room:
         folder = pathlib.Path(room) / "cases"
         folder.mkdir()
-        for number, (words, text) in enumerate(asked):
-            (folder / str(number)).write_bytes(text)
-            if words:
-                (folder / f"{number}.args").write_text("".join(f"{it}\n" for it in words))
-        told, said = tried(name, ["--cases", str(folder)])
-    ended = {int(it[1]): int(it[2]) for it in CASE_ENDED.finditer(said)}
-    if not ended:
-        print(said.decode(errors="replace"))
-    outputs = re.split(rb"(?m)^== (\d+)\n", told or b"")
-    outputs = dict(zip(map(int, outputs[1::2]), outputs[2::2]))
-    return [(ended.get(it), outputs.get(it, b"")) for it in range(len(asked))]
+        for number, (flags, text) in enumerate(asked):
+            write_case(folder, number, flags, text)
+        output, said = try_cases(name, folder)
+    pieces = OUTPUT.split(output)
+    outputs = dict(zip(map(int, pieces[1::2]), pieces[2::2]))
+    found, last = {}, 0
+    for it in CASE.finditer(said):
+        number = int(it[1])
+        found[number] = answer_of((it[2], it[3]), outputs.get(number, b""), said[last : it.start()])
+        last = it.end()
+    if asked and not found:
+        raise BuildFailed(said)
+    missing = Answer(FAILED, b"", b"no answer: the toolchain stopped before this input\n")
+    return [found.get(it, missing) for it in range(len(asked))]
 
 
-def unread(name):
-    """Says that the input can't be read, and returns the exit status."""
-    print(f"{name}: the input can't be read", file=sys.stderr)
-    return READ_FAILED
+def answers(name, asked):
+    """Returns status and output of the program on inputs, each given by flags and bytes, by one build.
 
-
-def main():
-    name, *words = sys.argv[1:]
+    The status is None for an input without an answer. If the program can't be compiled, this prints what the toolchain printed.
+    """
     try:
-        # Where it is closed, a file that is opened would take its number.
-        os.fstat(0)
-    except OSError:
-        return unread(name)
-    with tempfile.TemporaryFile() as source:
-        try:
-            is_taken = given_input(source)
-        except OSError:
-            return unread(name)
-        return answer(name, words, source) if is_taken else past_a_try(name)
-
-
-if __name__ == "__main__":
-    try:
-        sys.exit(main())
-    except KeyboardInterrupt:
-        sys.exit(130)
+        found = run(name, asked)
+    except BuildFailed as failure:
+        print(failure.args[0].decode(errors="replace"))
+        return [(None, b"")] * len(asked)
+    return [(None, b"") if it.status in (BEYOND_A_TRY, FAILED) else (it.status, it.output) for it in found]
