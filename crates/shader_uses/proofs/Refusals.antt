@@ -50,9 +50,9 @@ pub narrowed : (accepting : List «Type» → ℕ → TypeInner → Rule → Boo
 narrowed accepting types arguments i ty all before after within at first step =
     let calls = supplying 0 (take i arguments) in
     let more : supplying 0 (take (i + 1) arguments) ≡ calls ++ Arg i ty ∷ [] =
-        ap (supplying 0) (take_more arguments i ty within ∙ ap (λ t. take i arguments ++ t ∷ []) at)
-        ∙ supplying_more 0 (take i arguments) ty
-        ∙ ap (λ n. calls ++ Arg n ty ∷ []) (ap (λ n. 0 + n) (length-take-le i arguments (omega arith)) ∙ omega arith) in
+    ap (supplying 0) (take_more arguments i ty within ∙ ap (λ t. take i arguments ++ t ∷ []) at)
+    ∙ supplying_more 0 (take i arguments) ty
+    ∙ ap (λ n. calls ++ Arg n ty ∷ []) (ap (λ n. 0 + n) (length-take-le i arguments (omega arith)) ∙ omega arith) in
     step
     ∙ ap (filter (accepting types i ty)) first
     ∙ filter_two (accepting types i ty) (λ rule. list_all (passes accepting types rule) calls)

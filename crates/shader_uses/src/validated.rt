@@ -7,8 +7,7 @@ ghost use Rattle.shader_typing.specs.ValidationError.{ValidationError};
 
 use shader_typing::ir::Module;
 use shader_typing::valid::{
-    Capabilities, MOST_LEVELS, ModuleInfo, ValidationError, ValidationFlags, nests_within,
-    validate,
+    Capabilities, MOST_LEVELS, ModuleInfo, ValidationError, ValidationFlags, nests_within, validate,
 };
 use std::alloc::Global;
 

@@ -26,7 +26,7 @@ loop-i-preserved c =
     let argument = c.index-arguments-i.result in
     let before = rules_in c.loop-i.left in
     let step : rules_in c.in_ok-next.next ≡ filter (accepting types c.loop-i.i argument) before =
-        c.in_ok-next.ensures.rules ∙ ap (λ a. filter (a types c.loop-i.i argument) before) c.loop-i.invariant.kind in
+    c.in_ok-next.ensures.rules ∙ ap (λ a. filter (a types c.loop-i.i argument) before) c.loop-i.invariant.kind in
     record {
       rules = narrowed accepting types c.args.arguments.now c.loop-i.i argument (rules_of c.args.function) before
           (rules_in c.in_ok-next.next) (omega arith) (sym c.index-arguments-i.is) c.loop-i.invariant.rules step;
@@ -42,7 +42,7 @@ returns-then-is_empty-clause-refused c = λ why is.
     let argument = c.index-arguments-i.result in
     let before = rules_in c.loop-i.left in
     let step : rules_in c.in_ok-next.next ≡ filter (accepting types c.loop-i.i argument) before =
-        c.in_ok-next.ensures.rules ∙ ap (λ a. filter (a types c.loop-i.i argument) before) c.loop-i.invariant.kind in
+    c.in_ok-next.ensures.rules ∙ ap (λ a. filter (a types c.loop-i.i argument) before) c.loop-i.invariant.kind in
     let none : rules_in c.in_ok-next.next ≡ [] = search rules in
     subst (λ (v : Refusal). remaining accepting types (supplying 0 (take (v.argument + 1) c.args.arguments.now)) (rules_of c.args.function)
     ≡ []) (same_Some _ _ is)
