@@ -43,8 +43,10 @@ fn double(alloc: Global, ty: Handle<mark::Type>) -> Result<Function, AllocError>
 ///
 /// `AllocError` if memory can't be allocated.
 pub fn doubling_module(alloc: Global) -> Result<Module, AllocError>
-    ensures types { IfOk result (λ built. built.types ≡ unnamed (TypeInner.Scalar Scalar.U32) ∷ []) }
-    ensures functions { IfOk result (λ built. (length built.functions ≡ 1) × All (Doubles 0) built.functions) }
+    ensures types { IfOk result (λ built.
+        built.types ≡ unnamed (TypeInner.Scalar Scalar.U32) ∷ []) }
+    ensures functions { IfOk result (λ built.
+        (length built.functions ≡ 1) × All (Doubles 0) built.functions) }
 {
     let mut module = Module::new(alloc);
     let inner = TypeInner::Scalar(Scalar::U32);

@@ -1,9 +1,8 @@
 //! Why a call of a built-in function is refused.
 ghost use Rattle.std.specs.Prelude.{◌≡◌, ◌≢◌, ◌<◌, ◌+◌, [], None, Some, All, IfOk, length, take};
-ghost use Rattle.shader_typing.specs.OverloadsBuiltins.{acceptance_of, rules_of};
 ghost use Rattle.shader_typing.specs.OverloadsCounts.{arguments_at};
-ghost use Rattle.shader_typing.specs.Remaining.{remaining, supplying};
 ghost use Rattle.shader_typing.specs.TypeTree.{IsBackward, PointsBelow};
+ghost use Rattle.shader_uses.specs.Refused.{overloads_for};
 
 use shader_typing::ir::{MathFunction, Module, TypeInner};
 use shader_typing::proc::{MathOverloads, OverloadSet, TypeResolution};
@@ -18,7 +17,8 @@ pub struct Refusal {
     pub allowed: Vec<TypeResolution>,
 }
 
-/// Explains why no overload of a built-in function accepts arguments of these types. `None` if some overload does.
+/// Explains why no overload of a built-in function accepts arguments of these types. `None` if one
+/// does.
 ///
 /// # Errors
 ///
@@ -32,11 +32,12 @@ pub fn refusal_of(
     requires backward { IsBackward «module».now.types }
     requires in_range { All (PointsBelow (length «module».now.types)) arguments.now }
     ensures accepted { IfOk result (λ refusal. refusal ≡ None → 0 < length arguments.now →
-        remaining (acceptance_of function) «module».now.types (supplying 0 arguments.now) (rules_of function) ≢ []) }
+        overloads_for «module».now.types function arguments.now ≢ []) }
     ensures refused { IfOk result (λ refusal. (why : Refusal) → refusal ≡ Some why →
-        remaining (acceptance_of function) «module».now.types (supplying 0 (take (why.argument + 1) arguments.now)) (rules_of function) ≡ []) }
-    ensures allowed { IfOk result (λ refusal. (why : Refusal) → refusal ≡ Some why → why.allowed.items ≡ arguments_at why.argument
-        (remaining (acceptance_of function) «module».now.types (supplying 0 (take why.argument arguments.now)) (rules_of function))) }
+        overloads_for «module».now.types function (take (why.argument + 1) arguments.now) ≡ []) }
+    ensures allowed { IfOk result (λ refusal. (why : Refusal) → refusal ≡ Some why →
+        why.allowed.items ≡ arguments_at why.argument
+        (overloads_for «module».now.types function (take why.argument arguments.now))) }
 {
     let mut left = function.overloads(alloc)?;
     for (i, argument) in arguments.iter().enumerate() {

@@ -7,14 +7,15 @@ use shader_typing::ir::Module;
 use shader_typing::uniformity::{BodyLocation, find_divergence};
 use std::alloc::{AllocError, Global};
 
-/// Returns the first function or entry point that lets only some invocations reach an operation that needs all of them, as a barrier or
-/// a derivative does. `None` if there is no such one.
+/// Returns the first function or entry point in which only some invocations may reach an operation
+/// that needs all of them, such as a barrier or a derivative. `None` if there is none.
 ///
 /// # Errors
 ///
 /// `AllocError` if memory can't be allocated, or a function has 2^32 statements.
 pub fn first_divergence(alloc: Global, module: &Module) -> Result<Option<BodyLocation>, AllocError>
-    ensures { IfOk result (λ first. (known : List (List Rule)) × AreAllKnown «module».now known × IsVerdict «module».now known first) }
+    ensures { IfOk result (λ first. (known : List (List Rule)) ×
+        AreAllKnown «module».now known × IsVerdict «module».now known first) }
 {
     let uniformity = find_divergence(alloc, module)?;
     let fault = uniformity.fault;

@@ -32,8 +32,10 @@ pub fn validated(
     capabilities: Capabilities,
 ) -> Result<ModuleInfo, Invalid>
     ensures valid { IfOk result (IsValidated «module».now (settings_of flags capabilities)) }
-    ensures deep { IfErr result (λ invalid. invalid ≡ Invalid.TooDeep → ¬ NestsWithin MOST_LEVELS «module».now) }
-    ensures reason { IfErr result (λ invalid. (reason : ValidationError) → invalid ≡ Invalid.Reason reason →
+    ensures deep { IfErr result (λ invalid. invalid ≡ Invalid.TooDeep →
+        ¬ NestsWithin MOST_LEVELS «module».now) }
+    ensures reason { IfErr result (λ invalid. (reason : ValidationError) →
+        invalid ≡ Invalid.Reason reason →
         IsReason «module».now (settings_of flags capabilities) reason) }
 {
     if !nests_within(module, MOST_LEVELS) {
