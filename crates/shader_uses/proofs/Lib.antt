@@ -1,2 +1,3 @@
 pub mod Maxima
+pub mod Refusals
 pub mod Vertex

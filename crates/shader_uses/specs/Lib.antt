@@ -1,1 +1,3 @@
+pub mod Doubling
+pub mod Refused
 pub mod Vertex

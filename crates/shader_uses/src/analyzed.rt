@@ -84,13 +84,15 @@ pub fn writes(
     requires exact { IsExactRecord «module».now info.now }
     requires there { function < length «module».now.functions }
     requires global { global < length «module».now.global_variables }
-    ensures { (f : Function) → slice_get «module».now.functions function ≡ Some f → IsTrue result ↔ Uses «module».now f global Writes }
+    ensures { (f : Function) → slice_get «module».now.functions function ≡ Some f →
+        IsTrue result ↔ Uses «module».now f global Writes }
 {
     let _function = &module.functions[function];
     info[function][global].intersects(GlobalUse::WRITE)
 }
 
-/// Returns whether a function samples a global image with a global sampler, by itself or in a function that it calls.
+/// Returns whether a function samples a global image with a global sampler, by itself or in a
+/// function that it calls.
 #[tactic(auto, using(shader_typing::proofs::Answering::function_count, shader_typing::proofs::Answering::samples))]
 pub fn samples(
     module: &Module,

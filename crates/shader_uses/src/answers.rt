@@ -5,18 +5,22 @@ ghost use Rattle.shader_typing.specs.WellFormed.{IsWellFormed};
 
 use crate::analyzed::{Refused, analyzed, kills, result_varies, samples, writes};
 use crate::bounds::checks_of;
+use crate::built::doubling_module;
+use crate::explained::refusal_of;
 use crate::layouts::vertex_layout;
 use crate::overloads::max_of_u32_and_literal;
 use crate::processed::entry_point_of_two;
 use crate::reading::{Unread, read};
 use crate::typed::type_of_third;
 use crate::typifying::scalar_of_sum;
+use crate::uniform::first_divergence;
+use crate::validated::validated;
 use shader_json_module::ReadError;
 use shader_typing::arena::Handle;
-use shader_typing::ir::{Module, Scalar, TypeInner, mark};
+use shader_typing::ir::{MathFunction, Module, Scalar, TypeInner, mark};
 use shader_typing::proc::index::{BoundsCheckPolicies, BoundsCheckPolicy};
 use shader_typing::proc::{TypeResolution, types_backward};
-use shader_typing::valid::{ModuleInfo, check_module};
+use shader_typing::valid::{Capabilities, ModuleInfo, ValidationFlags, check_module};
 use std::alloc::{AllocError, Global};
 
 /// Adds what the uses say that take no module.
@@ -24,7 +28,50 @@ fn add_constants(alloc: Global, text: &mut String) -> Result<(), AllocError> {
     let layout = vertex_layout(alloc)?;
     writeln!(text, "{layout:?}")?;
     let conclusion = max_of_u32_and_literal(alloc)?;
-    writeln!(text, "max {conclusion:?}")
+    writeln!(text, "max {conclusion:?}")?;
+    add_built(alloc, text)
+}
+
+/// Adds whether a module is valid.
+fn add_validity(alloc: Global, text: &mut String, module: &Module) -> Result<(), AllocError> {
+    let flags = ValidationFlags::CONTROL_FLOW_UNIFORMITY;
+    match validated(alloc, module, flags, Capabilities(0)) {
+        Ok(info) => {
+            drop(info);
+            text.push_str("valid\n")
+        }
+        Err(invalid) => writeln!(text, "{invalid:?}"),
+    }
+}
+
+/// Adds whether the module that is built by hand is valid.
+fn add_built(alloc: Global, text: &mut String) -> Result<(), AllocError> {
+    let module = doubling_module(alloc)?;
+    text.push_str("built ")?;
+    let added = add_validity(alloc, text, &module);
+    drop(module);
+    added
+}
+
+/// Adds where control flow first isn't uniform although it must be.
+fn add_flow(alloc: Global, text: &mut String, module: &Module) -> Result<(), AllocError> {
+    match first_divergence(alloc, module)? {
+        Some(location) => writeln!(text, "diverges {location:?}"),
+        None => text.push_str("uniform\n"),
+    }
+}
+
+/// Adds why `max` of a `u32` and an `f32` is refused.
+fn add_refusal(alloc: Global, text: &mut String, module: &Module) -> Result<(), AllocError> {
+    if !types_backward(&module.types) {
+        return text.push_str("max over no types\n");
+    }
+    let arguments = [
+        TypeInner::Scalar(Scalar::U32),
+        TypeInner::Scalar(Scalar::F32),
+    ];
+    let refusal = refusal_of(alloc, module, MathFunction::Max, &arguments)?;
+    writeln!(text, "max {refusal:?}")
 }
 
 /// Adds the scalar of the sum of the first type's zero value and 1.
@@ -189,6 +236,9 @@ fn add_module(alloc: Global, text: &mut String, module: &Module) -> Result<(), A
     add_sum(alloc, text, module)?;
     add_third(alloc, text, module)?;
     add_entry_point(alloc, text, module)?;
+    add_refusal(alloc, text, module)?;
+    add_validity(alloc, text, module)?;
+    add_flow(alloc, text, module)?;
     add_info(alloc, text, module)
 }
 

@@ -5,12 +5,16 @@
 mod analyzed;
 mod answers;
 mod bounds;
+mod built;
+mod explained;
 mod layouts;
 mod overloads;
 mod processed;
 mod reading;
 mod typed;
 mod typifying;
+mod uniform;
+mod validated;
 
 use crate::answers::answers;
 use std::io::{self, Read};

@@ -12,7 +12,8 @@ use std::alloc::{AllocError, Global};
 ///
 /// `AllocError` if memory can't be allocated.
 pub fn max_of_u32_and_literal(alloc: Global) -> Result<Conclusion, AllocError>
-    ensures { IfOk result (λ conclusion. conclusion ≡ Conclusion.Value (TypeInner.Scalar Scalar.U32)) }
+    ensures { IfOk result (λ conclusion.
+        conclusion ≡ Conclusion.Value (TypeInner.Scalar Scalar.U32)) }
 {
     let types = UniqueArena::new(alloc);
     let set = MathFunction::Max.overloads(alloc)?;

@@ -39,7 +39,7 @@ pub fn append(
     Ok(handle)
 }
 
-/// Returns the scalar of `a + 1u`, where `a` is the zero value of a type, or none if the sum is no scalar.
+/// Returns the scalar of `a + 1u`, if that is a scalar. `a` is the zero value of a type.
 ///
 /// # Errors
 ///
