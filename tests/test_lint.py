@@ -14,7 +14,7 @@ import document_lists
 import documents
 from programs import script
 
-lint, lint_additions = script("../scripts/lint"), script("../scripts/lint_additions")
+lint, lint_additions = script("scripts/lint"), script("scripts/lint_additions")
 
 
 def found(rule, path, text):
