@@ -24,7 +24,8 @@ filter_two p q r both (x ∷ xs) =
     ]
     ∙ ap (λ b. cond b (x ∷ filter r xs) (filter r xs)) (sym (both x))
 
-supplying_more : (k : ℕ) (tys : List TypeInner) (ty : TypeInner) → supplying k (tys ++ ty ∷ []) ≡ supplying k tys ++ Arg (k + length tys) ty ∷ []
+supplying_more : (k : ℕ) (tys : List TypeInner) (ty : TypeInner) →
+    supplying k (tys ++ ty ∷ []) ≡ supplying k tys ++ Arg (k + length tys) ty ∷ []
 supplying_more k [] ty = ap (λ n. Arg n ty ∷ []) (omega arith)
 supplying_more k (t ∷ tys) ty =
     ap (λ calls. Arg k t ∷ calls) (supplying_more (k + 1) tys ty ∙ ap (λ n. supplying (k + 1) tys ++ Arg n ty ∷ []) (omega arith))

@@ -93,7 +93,7 @@ pub fn writes(
 
 /// Returns whether a function samples a global image with a global sampler, by itself or in a
 /// function that it calls.
-#[tactic(auto, using(shader_typing::proofs::Answering::function_count, shader_typing::proofs::Answering::samples))]
+#[tactic(auto, using(shader_typing::proofs::Answering::function_count))]
 pub fn samples(
     module: &Module,
     info: &ModuleInfo,
