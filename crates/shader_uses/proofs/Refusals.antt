@@ -6,7 +6,6 @@ use Rattle.std.proofs.lemmas.List.Folds.{list_all-append}
 use Rattle.std.specs.List.{filter, list_all}
 use Rattle.shader_typing.specs.Remaining.{passes, remaining, supplying}
 use Rattle.shader_typing.specs.Rule.{Rule}
-use Rattle.shader_typing.specs.SetCall.{SetCall}
 use Rattle.shader_typing.specs.SetCall.TheVariants.{Arg}
 use Rattle.shader_typing.specs.TypeInner.{TypeInner}
 use Rattle.shader_typing.specs.«Type».{«Type»}
