@@ -182,7 +182,7 @@ def hand_on_all(name, arguments, answers):
     except run_unproved.BuildFailed as failure:
         with tempfile.NamedTemporaryFile(prefix=f"{name}-try-", suffix=".log", delete=False) as log:
             log.write(failure.args[0])
-        say(f"{name}: no answer: the program can't be compiled; {log.name} has what the toolchain printed")
+        say(f"{name}: no answer: the program can't be compiled; the output of the toolchain is in {log.name}")
         highest = run_unproved.FAILED
     return highest
 
