@@ -130,9 +130,9 @@ def array_reason(word, items):
         return f"in {shown(word)}, {plain_reason(base)}"
     if len(items) != 3 or "" in items or not is_plain(base):
         return f"{shown(word)} is no type; an array has a type, a count and a stride in bytes, as {example(word)}"
-    for what, item in zip(("count", "stride"), items[1:]):
+    for part, item in zip(("count", "stride"), items[1:]):
         if not is_number(item):
-            return f"the {what} {shown(item)} is no decimal from 0 to 4,294,967,295 without leading zeros"
+            return f"the {part} {shown(item)} is no decimal from 0 to 4,294,967,295 without leading zeros"
     return "the count of an array is at least 1" if items[1] == "0" else None
 
 
@@ -161,7 +161,7 @@ def types_reason(words):
 
 
 def split_reason(words):
-    """Returns what is wrong if a type is split into several words, None if none is."""
+    """Returns an error if a type is split into several words, None if none is."""
     for at, word in enumerate(words[:-1]):
         if word.count("<") > word.count(">"):
             return f"a type has no space in it: here is one after {shown(word)}"
@@ -211,13 +211,13 @@ def typed_reason(kind, rest):
 
 
 def space_reason(text):
-    """Returns what is wrong with the spaces of a line, None if nothing is."""
-    for space, what in SPACES.items():
+    """Returns the error in the spaces of a line, None if there is none."""
+    for space, name in SPACES.items():
         if text.endswith(space) and text != space:
             end = "; a line feed alone ends a line" if space == "\r" else ""
-            return f"a line ends right after its last word: here is {what}{end}"
+            return f"a line ends right after its last word: here is {name}{end}"
         if space in text:
-            return f"one space separates two words: here is {what}"
+            return f"one space separates two words: here is {name}"
     if text.endswith(" "):
         return "a line ends right after its last word: here is a space"
     if text.startswith(" "):

@@ -62,11 +62,13 @@ def parsed_for_typer(words):
 
 def write(text):
     """Writes to standard output. Raises OutputFailed if that fails."""
+    if sys.stdout is None:
+        raise OutputFailed
     try:
         sys.stdout.buffer.write(text)
         sys.stdout.buffer.flush()
     except OSError:
-        # What Python writes at its end then has somewhere to go.
+        # Python writes the rest of its buffer at its end, which must not fail again.
         os.dup2(os.open(os.devnull, os.O_WRONLY), 1)
         raise OutputFailed
 
@@ -150,13 +152,16 @@ def reason_of(name, text, answer):
         lines = text.removesuffix(b"\n").split(b"\n")
         more = len(lines) - number
         rest = f"; {more} more line{'s' if more > 1 else ''} without a reply" if more else ""
-        return f"line {number}: {reason(lines[number - 1])}{rest}"
+        return f"line {number}: {reason(lines[number - 1]) or 'this is no question'}{rest}"
     return ENDS_OF_TYPER.get(answer.status) if name == "typer" else None
 
 
 def hand_on(name, file, text, answer, is_named, is_json):
-    """Writes an answer and its errors, with the name of the file if there are several. The heading of JSON is on standard error."""
-    label = shown(file)
+    """Writes an answer and its errors, with the name of the file if there are several.
+
+    The name goes to standard error if the answer is JSON, so that each line of standard output is one answer.
+    """
+    label, reason = shown(file), reason_of(name, text, answer)
     if is_named and (answer.output or answer.status == 0):
         say(f"{label}:") if is_json else write(f"{label}:\n".encode())
     write(answer.output)
@@ -165,8 +170,8 @@ def hand_on(name, file, text, answer, is_named, is_json):
     if answer.errors:
         own = f"{name}: " if is_own else ""
         say(own + prefix + answer.errors.decode(errors="backslashreplace").rstrip("\n"))
-    elif reason_of(name, text, answer):
-        say(f"{name}: {prefix}{reason_of(name, text, answer)}")
+    elif reason:
+        say(f"{name}: {prefix}{reason}")
 
 
 def hand_on_all(name, arguments, answers):
@@ -182,7 +187,7 @@ def hand_on_all(name, arguments, answers):
     except run_unproved.BuildFailed as failure:
         with tempfile.NamedTemporaryFile(prefix=f"{name}-try-", suffix=".log", delete=False) as log:
             log.write(failure.args[0])
-        say(f"{name}: no answer: the program can't be compiled; {log.name} has what the toolchain printed")
+        say(f"{name}: no answer: the program can't be compiled; the output of the toolchain is in {log.name}")
         highest = run_unproved.FAILED
     return highest
 
@@ -205,7 +210,7 @@ def run_in_place(name, arguments):
     os.execv(program, [program, *arguments.flags])
 
 
-def answer(name, arguments):
+def answer_files(name, arguments):
     """Answers all files, and returns the exit status."""
     arguments.files = arguments.files or ["-"]
     drawn = {"--json", "--drawing", "--no-drawing"}.intersection(arguments.flags)
@@ -236,7 +241,7 @@ def main():
     except WrongArgument as wrong:
         say(f"{name}: {shown(str(wrong))}; see ./{name} --help")
         return BAD_USAGE
-    return answer(name, arguments)
+    return answer_files(name, arguments)
 
 
 if __name__ == "__main__":

@@ -66,7 +66,7 @@ def one_of(names):
 
 
 def wrong_policies(word):
-    """Returns what is wrong with an argument that sets policies of bounds checks, None if nothing is."""
+    """Returns the error in an argument that sets policies of bounds checks, None if there is none."""
     for part in word.split(","):
         kind, sign, policy = part.partition("=")
         if not sign:
@@ -79,7 +79,7 @@ def wrong_policies(word):
 
 
 def wrong_flag(word):
-    """Returns what is wrong with an argument that begins with a dash and is no flag."""
+    """Returns the error in an argument that begins with a dash and is no flag."""
     key, sign, value = word.partition("=")
     if key in VALUES:
         values = f"which is {VALUES[key]}"
@@ -123,7 +123,7 @@ def parsed(words):
 
 
 def twice(one, other):
-    """Returns what is wrong with two arguments that set the same thing."""
+    """Returns the error in two arguments that set the same thing."""
     return f"`{one}` is given twice" if one == other else f"`{one}` and `{other}` set the same thing"
 
 

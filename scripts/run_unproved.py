@@ -27,7 +27,7 @@ class Answer(typing.NamedTuple):
 
 
 class BuildFailed(Exception):
-    """The program can't be compiled or run. The only argument is what the toolchain printed."""
+    """The program can't be compiled or run. The only argument is the output of the toolchain."""
 
 
 def try_cases(name, folder):
@@ -81,7 +81,7 @@ def run(name, asked):
 def answers(name, asked):
     """Returns status and output of the program on inputs, each given by flags and bytes, by one build.
 
-    The status is None for an input without an answer. If the program can't be compiled, this prints what the toolchain printed.
+    The status is None for an input without an answer. The output of the toolchain is printed if it can't compile.
     """
     try:
         found = run(name, asked)
