@@ -45,7 +45,10 @@ fn case(line: &str) -> (&str, Options) {
 
 #[test]
 fn modules_are_accepted_as_by_naga() {
-    let (modules, answers) = (lines("modules/modules.jsonl"), lines("modules/answers.jsonl"));
+    let (modules, answers) = (
+        lines("modules/modules.jsonl"),
+        lines("modules/answers.jsonl"),
+    );
     assert_eq!(modules.len(), answers.len());
     for (index, (line, answer)) in modules.iter().zip(&answers).enumerate() {
         let (module, options) = case(line);
