@@ -2,9 +2,6 @@
 import pathlib
 import re
 
-# The linter still takes these from here.
-from mutants import FUNCTION, Edit, controls_of, edits_of
-
 TOP = pathlib.Path(__file__).resolve().parents[2]
 
 
