@@ -138,3 +138,10 @@ abbrev pub WritesTexel : Step → Type 0
 WritesTexel (Leaf (ImageStore image coordinate array_index value)) = Unit {0}
 WritesTexel (Leaf (ImageAtomic image coordinate array_index fun value)) = Unit {0}
 WritesTexel _ = ⊥
+
+-- the statement writes to memory
+abbrev pub WritesMemory : Step → Type 0
+WritesMemory (Leaf (Store pointer value)) = Unit {0}
+WritesMemory (Leaf (Atomic pointer fun value result)) = Unit {0}
+WritesMemory (Leaf (CooperativeStore target tile)) = Unit {0}
+WritesMemory _ = ⊥

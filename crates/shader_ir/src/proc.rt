@@ -11,6 +11,7 @@ mod sizes;
 mod type_methods;
 mod type_resolution;
 mod type_trees;
+mod visitor;
 
 pub use alignment::Alignment;
 pub use backward::types_backward;
@@ -26,3 +27,4 @@ pub use scalars::{
 };
 pub use sizes::{MAX_TYPE_SIZE, sizes_in_range, sizes_in_range_from};
 pub use type_resolution::{TypeResolution, compare_types};
+pub use visitor::{Visitor, visit_expression, visit_statement};

@@ -317,7 +317,7 @@ impl Layouter {
         Ok(())
     }
 
-    /// Removes all layouts and keeps their memory for reuse.
+    /// Removes all layouts. Their memory is kept for reuse, which no clause promises.
     pub fn clear(&mut self)
         ensures { self.new ≡ [] }
     {
