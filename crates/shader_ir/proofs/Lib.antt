@@ -1,5 +1,6 @@
 pub mod ConversionLemmas
 pub mod CopyLemmas
+pub mod CursorLemmas
 pub mod KeyLemmas
 pub mod LayoutLawLemmas
 pub mod LayoutLemmas

@@ -1,3 +1,4 @@
+pub mod Access
 pub mod Alignments
 pub mod Body
 pub mod BodyCode
@@ -5,6 +6,7 @@ pub mod BodyFalls
 pub mod BodyOf
 pub mod BodySize
 pub mod Conversion
+pub mod Cursors
 pub mod Empty
 pub mod ExpressionKinds
 pub mod StoredLayouts

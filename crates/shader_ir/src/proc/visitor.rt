@@ -39,6 +39,21 @@ fn visit_optional<V: Visitor>(operand: Option<Handle<mark::Expression>>, visitor
     }
 }
 
+/// Visits three operands that are read.
+#[inline(always)]
+fn visit_three<V: Visitor>(
+    first: Handle<mark::Expression>,
+    second: Handle<mark::Expression>,
+    third: Handle<mark::Expression>,
+    visitor: &mut V,
+)
+    ensures { visitor.new ≡ fold V.step visitor.old (retained (read first ∷ read second ∷ read third ∷ [])) }
+{
+    visitor.visit(first, Label::Read);
+    visitor.visit(second, Label::Read);
+    visitor.visit(third, Label::Read);
+}
+
 /// Visits operands that are all read.
 #[inline]
 fn visit_list<V: Visitor>(operands: &[Handle<mark::Expression>], visitor: &mut V)
@@ -56,7 +71,10 @@ fn visit_level<V: Visitor>(level: SampleLevel, visitor: &mut V)
 {
     match level {
         SampleLevel::Auto | SampleLevel::Zero => {}
-        SampleLevel::Exact(operand) | SampleLevel::Bias(operand) => visitor.visit(operand, Label::Read),
+        SampleLevel::Exact(operand) | SampleLevel::Bias(operand) => visitor.visit(
+            operand,
+            Label::Read,
+        ),
         SampleLevel::Gradient { x, y } => {
             visitor.visit(x, Label::Read);
             visitor.visit(y, Label::Read);
@@ -131,7 +149,10 @@ pub fn visit_expression<V: Visitor>(expression: &Expression, visitor: &mut V)
         | Expression::Relational { argument: one, .. }
         | Expression::As { expr: one, .. }
         | Expression::RayQueryVertexPositions { query: one, .. }
-        | Expression::RayQueryGetIntersection { query: one, .. } => visitor.visit(*one, Label::Read),
+        | Expression::RayQueryGetIntersection { query: one, .. } => visitor.visit(
+            *one,
+            Label::Read,
+        ),
         Expression::CooperativeLoad { tile, .. } => {
             visitor.visit(tile.pointer, Label::Read);
             visitor.visit(tile.stride, Label::Read);
@@ -139,21 +160,6 @@ pub fn visit_expression<V: Visitor>(expression: &Expression, visitor: &mut V)
         Expression::CooperativeMultiplyAdd { a, b, c } => visit_three(*a, *b, *c, visitor),
         _ => {}
     }
-}
-
-/// Visits three operands that are read.
-#[inline(always)]
-fn visit_three<V: Visitor>(
-    first: Handle<mark::Expression>,
-    second: Handle<mark::Expression>,
-    third: Handle<mark::Expression>,
-    visitor: &mut V,
-)
-    ensures { visitor.new ≡ fold V.step visitor.old (retained (read first ∷ read second ∷ read third ∷ [])) }
-{
-    visitor.visit(first, Label::Read);
-    visitor.visit(second, Label::Read);
-    visitor.visit(third, Label::Read);
 }
 
 /// Visits the operands of an expression that reads texels of an image.
