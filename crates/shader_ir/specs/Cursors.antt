@@ -26,7 +26,7 @@ operands_left (rest.Expression expression position) = drop position (expression_
 operands_left (rest.Statement statement position) = drop position (statement_operands (step_of statement.now))
 operands_left (rest.List list) = reads list.now
 
--- an expression or a statement that is not a list has at most eight operands
+-- not more than eight operands, except in a list
 abbrev pub IsShort : Rest → Type 0
 IsShort (rest.Expression expression position) = length (expression_operands expression.now) ≤ 8
 IsShort (rest.Statement statement position) = length (statement_operands (step_of statement.now)) ≤ 8

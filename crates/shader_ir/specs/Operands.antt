@@ -36,6 +36,10 @@ abbrev pub gradient_y : SampleLevel → Option ℕ
 gradient_y (Gradient x y) = Some y
 gradient_y _ = None
 
+-- the operands of a level, of which a gradient has two
+abbrev pub level_operands : SampleLevel → List (Option (ℕ × Label))
+level_operands level = read_optional (level_handle level) ∷ read_optional (gradient_y level) ∷ []
+
 -- the level whose size is queried
 abbrev pub query_level : query.ImageQuery → Option ℕ
 query_level (Size level) = level
@@ -66,7 +70,7 @@ expression_operands (Swizzle size vector pattern) = retained (read vector ∷ []
 expression_operands (Load pointer) = retained (read pointer ∷ [])
 expression_operands (ImageSample image sampler gather clamp_to_edge coordinate array_index offset level depth_ref) =
     retained (read image ∷ read sampler ∷ read coordinate ∷ read_optional array_index ∷ read_optional depth_ref ∷ read_optional offset
-    ∷ read_optional (level_handle level) ∷ read_optional (gradient_y level) ∷ [])
+    ∷ level_operands level)
 expression_operands (ImageLoad image coordinate array_index sample level) =
     retained (read image ∷ read coordinate ∷ read_optional array_index ∷ read_optional sample ∷ read_optional level ∷ [])
 expression_operands (ImageQuery image query) = retained (Some (image, Query) ∷ read_optional (query_level query) ∷ [])

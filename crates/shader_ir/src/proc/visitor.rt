@@ -4,8 +4,9 @@ ghost use Rattle.std.specs.List.{fold};
 ghost use Rattle.std.specs.Option.{option_to_list};
 ghost use Rattle.shader_ir.specs.Body.{RayPipeline};
 ghost use Rattle.shader_ir.specs.BodyOf.{step_of};
-ghost use Rattle.shader_ir.specs.Operands.{exchange_compare, expression_operands, gather_index, gradient_y, level_handle, query_level};
-ghost use Rattle.shader_ir.specs.Operands.{ray_query_operands, simple_operands, statement_operands, IsArithmetic, TakesTexels, WritesMemory, WritesTexel};
+ghost use Rattle.shader_ir.specs.Operands.{exchange_compare, expression_operands, gather_index, level_operands, query_level};
+ghost use Rattle.shader_ir.specs.Operands.{ray_query_operands, simple_operands, statement_operands};
+ghost use Rattle.shader_ir.specs.Operands.{IsArithmetic, TakesTexels, WritesMemory, WritesTexel};
 ghost use Rattle.shader_ir.specs.Slots.{read, read_optional, reads, retained};
 
 use crate::proc::Label;
@@ -67,7 +68,7 @@ fn visit_list<V: Visitor>(operands: &[Handle<mark::Expression>], visitor: &mut V
 /// Visits the handles of a level.
 #[inline(always)]
 fn visit_level<V: Visitor>(level: SampleLevel, visitor: &mut V)
-    ensures { visitor.new ≡ fold V.step visitor.old (retained (read_optional (level_handle level) ∷ read_optional (gradient_y level) ∷ [])) }
+    ensures { visitor.new ≡ fold V.step visitor.old (retained (level_operands level)) }
 {
     match level {
         SampleLevel::Auto | SampleLevel::Zero => {}
