@@ -5,6 +5,7 @@ mod refusals;
 mod same;
 mod scalars;
 mod texts;
+mod visits;
 
 /// The message of a test that fails only when out of memory.
 const OUT_OF_MEMORY: &str = "out of memory";
