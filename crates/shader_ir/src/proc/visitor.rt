@@ -40,6 +40,19 @@ fn visit_optional<V: Visitor>(operand: Option<Handle<mark::Expression>>, visitor
     }
 }
 
+/// Visits two operands that are read.
+#[inline(always)]
+fn visit_two<V: Visitor>(
+    first: Handle<mark::Expression>,
+    second: Handle<mark::Expression>,
+    visitor: &mut V,
+)
+    ensures { visitor.new ≡ fold V.step visitor.old (retained (read first ∷ read second ∷ [])) }
+{
+    visitor.visit(first, Label::Read);
+    visitor.visit(second, Label::Read);
+}
+
 /// Visits three operands that are read.
 #[inline(always)]
 fn visit_three<V: Visitor>(
@@ -154,10 +167,7 @@ pub fn visit_expression<V: Visitor>(expression: &Expression, visitor: &mut V)
             *one,
             Label::Read,
         ),
-        Expression::CooperativeLoad { tile, .. } => {
-            visitor.visit(tile.pointer, Label::Read);
-            visitor.visit(tile.stride, Label::Read);
-        }
+        Expression::CooperativeLoad { tile, .. } => visit_two(tile.pointer, tile.stride, visitor),
         Expression::CooperativeMultiplyAdd { a, b, c } => visit_three(*a, *b, *c, visitor),
         _ => {}
     }
@@ -210,10 +220,7 @@ fn visit_arithmetic_operands<V: Visitor>(expression: &Expression, visitor: &mut 
     ensures { visitor.new ≡ fold V.step visitor.old (expression_operands expression.now) }
 {
     match expression {
-        Expression::Binary { left, right, .. } => {
-            visitor.visit(*left, Label::Read);
-            visitor.visit(*right, Label::Read);
-        }
+        Expression::Binary { left, right, .. } => visit_two(*left, *right, visitor),
         Expression::Select {
             condition,
             accept,
@@ -344,10 +351,7 @@ fn visit_ray_query_operands<V: Visitor>(fun: RayQueryFunction, visitor: &mut V)
         RayQueryFunction::Initialize {
             acceleration_structure,
             descriptor,
-        } => {
-            visitor.visit(acceleration_structure, Label::Read);
-            visitor.visit(descriptor, Label::Read);
-        }
+        } => visit_two(acceleration_structure, descriptor, visitor),
         RayQueryFunction::GenerateIntersection { hit_t } => visitor.visit(hit_t, Label::Read),
         RayQueryFunction::Proceed { .. }
         | RayQueryFunction::ConfirmIntersection
