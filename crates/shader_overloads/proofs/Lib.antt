@@ -20,3 +20,4 @@ pub mod ArgumentLemmas
 pub mod AgreementLemmas
 pub mod NarrowLawLemmas
 pub mod CombinationLemmas
+pub mod CallLemmas

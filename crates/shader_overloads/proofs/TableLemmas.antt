@@ -1,12 +1,15 @@
 -- Walks over the rules whose numbers are in a mask.
 use Rattle.std.proofs.Common.{◌≡◌, ◌≢◌, ℕ, zero, suc, ◌<◌, ◌≤◌, Bool, true, false, not, ◌&&◌, ◌||◌, List, [], ◌∷◌, ◌++◌, length, refl, sym}
 use Rattle.std.proofs.Common.{◌∙◌, ap, arith, inl, inr, nat_eq, Option, Some, None, slice_get, get_or, append_assoc, IfNone, IfSome, ◌↔◌}
+use Rattle.std.specs.Prelude.{if◌then◌else◌, ◌-◌, nat_lt}
 use Rattle.std.specs.Option.{is_some}
 use Rattle.std.specs.List.{filter}
 use Rattle.std.proofs.lemmas.Bool.{and_parts, both_ways, cases_eq, cases_lt, eq-eqb, ne_eqb}
+use Rattle.std.proofs.lemmas.Nat.Bits.{bit_at-zero}
 use Rattle.shader_ir.specs.declared.types.«Type».{«Type»}
 use Rattle.shader_overloads.specs.declared.mask.Mask.{Mask}
 use Rattle.shader_overloads.specs.declared.rule.Rule.{Rule}
+use Rattle.shader_overloads.specs.Bits.{has_bit}
 use Rattle.shader_overloads.specs.Masks.{IsBelow, IsLeastPosition, IsTaken, NumberFits, has_position, rules_at}
 use Rattle.shader_overloads.specs.Remaining.{RuleFits, RulesFit}
 use Rattle.shader_overloads.proofs.ListLemmas.{element_at, first_within, items_where-filter, items_where-first}
@@ -141,6 +144,21 @@ listed_next mask left next table_rules done more number rule at taken grown so =
 
 pub none_at : (mask : Mask) (table_rules : List Rule) → ((k : ℕ) → has_position mask k ≡ false) → rules_at mask table_rules ≡ []
 none_at mask table_rules none = items_where-none (has_position mask) table_rules (λ i h. none i)
+
+no_word_has : (a b x y z : Bool) → x ≡ false → y ≡ false → z ≡ false → (if a then x else if b then y else z) ≡ false
+no_word_has true b x y z low middle high = low
+no_word_has false true x y z low middle high = middle
+no_word_has false false x y z low middle high = high
+
+no_bit : (k : ℕ) → has_bit 0 k ≡ false
+no_bit k = ap (λ b. nat_eq b 1) (bit_at-zero k)
+
+no_number : (k : ℕ) → has_position (record { low = 0; middle = 0; high = 0 }) k ≡ false
+unfolding has_position
+no_number k = no_word_has (nat_lt k 64) (nat_lt k 128) _ _ _ (no_bit k) (no_bit (k - 64)) (no_bit (k - 128))
+
+pub no_rules : (table_rules : List Rule) → rules_at (record { low = 0; middle = 0; high = 0 }) table_rules ≡ []
+no_rules table_rules = none_at (record { low = 0; middle = 0; high = 0 }) table_rules no_number
 
 -- ---- the first rule
 

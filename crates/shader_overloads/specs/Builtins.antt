@@ -1,5 +1,5 @@
 -- The rules of each built-in function, written out.
-use Rattle.std.specs.Prelude.{ℕ, Bool, List, [], ◌∷◌, ◌++◌, map}
+use Rattle.std.specs.Prelude.{ℕ, Bool, List, [], ◌∷◌, ◌++◌, Option, map, slice_get}
 use Rattle.std.specs.List.{flat_map}
 use Rattle.shader_ir.specs.declared.operators.MathFunction.{MathFunction}
 use Rattle.shader_ir.specs.declared.operators.MathFunction.TheVariants as f
@@ -19,7 +19,7 @@ use Rattle.shader_overloads.specs.declared.regular.ConclusionRule.TheVariants as
 use Rattle.shader_overloads.specs.declared.rule.Conclusion.TheVariants.{Value}
 use Rattle.shader_overloads.specs.declared.rule.Rule.{Rule}
 use Rattle.shader_overloads.specs.Rules.{regular_rules}
-use Rattle.shader_overloads.specs.Remaining.{accepts, list_accepts}
+use Rattle.shader_overloads.specs.Remaining.{accepts, list_accepts, remaining, supplying}
 
 -- ---- constructors and scalars, in the order of the rules
 
@@ -202,3 +202,8 @@ acceptance_of f.ExtractBits = list_accepts
 acceptance_of f.InsertBits = list_accepts
 acceptance_of f.Mix = list_accepts
 acceptance_of _ = accepts
+
+-- the rule that a call means: the first that accepts arguments of these types, if there is one
+abbrev pub rule_meant : List «Type» → MathFunction → List TypeInner → Option Rule
+rule_meant types function arguments =
+    slice_get (remaining (acceptance_of function) types (supplying 0 arguments) (rules_of function)) 0

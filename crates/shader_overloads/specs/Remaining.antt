@@ -111,3 +111,8 @@ has_no_struct rule = list_all (λ argument. not (is_free_struct argument)) rule.
 abbrev pub CallFits : List «Type» → SetCall → Type 0
 CallFits types (Arg i ty) = PointsBelow (length types) ty
 CallFits types ConcreteOnly = Unit {0}
+
+-- the type that a call supplies isn't a struct
+abbrev pub SuppliesNoStruct : SetCall → Type 0
+SuppliesNoStruct (Arg i ty) = IsNoStruct ty
+SuppliesNoStruct ConcreteOnly = Unit {0}

@@ -36,11 +36,13 @@ impl From<Regular> for AnyOverloadSet {
 }
 
 impl OverloadSet for AnyOverloadSet {
-    ghost use Rattle.shader_overloads.specs.AnySet.{rules_in, acceptance_in};
+    ghost use Rattle.shader_overloads.specs.AnySet.{rules_in, acceptance_in, is_regular};
 
     ghost rules = { rules_in };
 
     ghost accepting = { acceptance_in };
+
+    ghost is_free = { is_regular };
 
     fn copy(&self, alloc: Global) -> Result<AnyOverloadSet, AllocError> {
         match self {

@@ -1,8 +1,9 @@
 //! The rule that a call of a built-in function means.
-ghost use Rattle.std.specs.Prelude.{◌≡◌, All, IfOk, length, slice_get};
+ghost use Rattle.std.specs.Prelude.{◌≡◌, ◌⊎◌, All, IfErr, IfOk, IsSome, IsTrue, length};
 ghost use Rattle.shader_ir.specs.TypeTree.{IsBackward, PointsBelow};
 ghost use Rattle.shader_overloads.specs.AnySet.{acceptance_in, rules_in};
-ghost use Rattle.shader_overloads.specs.Builtins.{acceptance_of, rules_of};
+ghost use Rattle.shader_overloads.specs.BuiltinGroups.{is_listed};
+ghost use Rattle.shader_overloads.specs.Builtins.{acceptance_of, rule_meant, rules_of};
 ghost use Rattle.shader_overloads.specs.Remaining.{RulesFit, remaining, supplying};
 
 use crate::{MathOverloads, OverloadSet, Rule};
@@ -16,7 +17,8 @@ use std::alloc::{AllocError, Global};
 ///
 /// # Errors
 ///
-/// `AllocError` if allocating the rule fails, or the rules of a function that has a list.
+/// `AllocError` if allocating the rule fails, or the rules of a function that has a list. So of any other function a call that no rule
+/// accepts is always answered.
 pub fn rule_of(
     alloc: Global,
     function: MathFunction,
@@ -25,8 +27,8 @@ pub fn rule_of(
 ) -> Result<Option<Rule>, AllocError>
     requires backward { IsBackward types.now }
     requires in_range { All (PointsBelow (length types.now)) arguments.now }
-    ensures { IfOk result (λ rule. rule
-        ≡ slice_get (remaining (acceptance_of function) types.now (supplying 0 arguments.now) (rules_of function)) 0) }
+    ensures rule { IfOk result (λ rule. rule ≡ rule_meant types.now function arguments.now) }
+    ensures memory { IfErr result (λ _. IsTrue (is_listed function) ⊎ IsSome (rule_meant types.now function arguments.now)) }
 {
     let mut left = function.overloads(alloc)?;
     for (i, argument) in arguments.iter().enumerate() {

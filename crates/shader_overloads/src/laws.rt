@@ -1,5 +1,7 @@
-//! Laws about rules, overload sets and the sets that they are built from. Each law is the contract of a function that does nothing.
-ghost use Rattle.std.specs.Prelude.{◌≡◌, ◌∷◌, ◌++◌, []};
+//! Laws about rules, overload sets and the sets that they are built from. Each law is the contract of a function that does nothing, or that
+//! returns a constant.
+ghost use Rattle.std.specs.Prelude.{◌≡◌, ◌∷◌, ◌++◌, ◌↔◌, [], IsTrue};
+ghost use Rattle.shader_ir.specs.declared.types.TypeInner.{TypeInner};
 ghost use Rattle.shader_ir.specs.Scalars.{abstract_float, abstract_int, floats, integers, scalar};
 ghost use Rattle.shader_overloads.specs.AcceptanceLaws.{AcceptancesAgree, AcceptsByKey, AcceptsCanonicalForms};
 ghost use Rattle.shader_overloads.specs.BitLaws.{OneBitsAddUp, OneBitsArePowers, OneBitsGrow};
@@ -7,9 +9,10 @@ ghost use Rattle.shader_overloads.specs.Builtins.{scalars_and_vectors, square_ma
 ghost use Rattle.shader_overloads.specs.Constructors.{constructors_in};
 ghost use Rattle.shader_overloads.specs.NarrowLaws.{CallsCommute, CallsRepeat};
 ghost use Rattle.shader_overloads.specs.Remaining.{accepts, list_accepts};
+ghost use Rattle.shader_overloads.specs.SameType.{same_type};
 ghost use Rattle.shader_overloads.specs.ScalarSets.{scalars_in};
 
-use crate::{ConstructorSet, ConstructorSize, ScalarSet};
+use crate::{ConstructorSet, ConstructorSize, Regular, ScalarSet};
 use shader_ir::{ScalarKind, VectorSize};
 
 /// States that each named set of scalars contains exactly the scalars that its name says.
@@ -60,12 +63,24 @@ pub fn constructor_sets_are_named()
     ensures square_matrices { constructors_in ConstructorSet.SQUARE_MATRICES ≡ square_matrices }
 {}
 
+/// States that `Regular::EMPTY` has no rules. Returns that set, as no clause can name a constant of a type that contracts see as a list.
+pub fn empty_set_has_no_rules() -> Regular
+    ensures { result ≡ [] }
+{
+    Regular::EMPTY
+}
+
 /// States that the items of `OneBitsIter`, which contracts see as the list of a number's set bits, are strictly increasing powers of two
 /// that add up to the number.
 pub fn one_bits_add_up()
     ensures powers { OneBitsArePowers }
     ensures growing { OneBitsGrow }
     ensures sum { OneBitsAddUp }
+{}
+
+/// States that the comparison of types by codes, by which a list accepts a type as the same, is equality.
+pub fn same_types_are_equal()
+    ensures { (left right : TypeInner) → IsTrue (same_type left right) ↔ (left ≡ right) }
 {}
 
 /// States that whether a rule accepts a type depends on the type's key alone, both in regular sets and in lists.

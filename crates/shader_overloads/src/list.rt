@@ -21,7 +21,8 @@ use std::rc::RcSlice;
 
 /// A list of rules, some of which may be ruled out; contracts see the remaining rules.
 ///
-/// Copies share the rules. The caller puts the rules in order of preference; no function requires it.
+/// Copies share the rules, so that a copy costs the same for any number of them; no clause promises that. The caller puts the rules in
+/// order of preference; no function requires it.
 #[derive(Drop)]
 pub struct List {
     set: Masked<ListTable>,
@@ -133,11 +134,14 @@ fn is_no_struct(inner: &TypeInner) -> bool
 }
 
 impl OverloadSet for List {
+    ghost use Rattle.std.specs.Prelude.{false};
     ghost use Rattle.shader_overloads.specs.Remaining.{list_accepts};
 
     ghost rules = { λ set. set };
 
     ghost accepting = { λ _. list_accepts };
+
+    ghost is_free = { λ _. false };
 
     fn copy(&self, _alloc: Global) -> Result<List, AllocError> {
         let set = self.set.copy()?;
@@ -184,7 +188,7 @@ impl OverloadSet for List {
     }
 }
 
-/// The rules of a list, numbered by their positions. Copies share them.
+/// The rules of a list, numbered by their positions. Copies share them, as [`List`] says.
 #[derive(Drop)]
 pub struct ListTable {
     rules: RcSlice<Rule>,

@@ -8,7 +8,7 @@ ghost use Rattle.shader_overloads.specs.ScalarSets.{scalars_in};
 ghost use Rattle.shader_overloads.specs.Builtins.{acceptance_of, rules_of, scalars_and_vectors};
 ghost use Rattle.shader_overloads.specs.BuiltinGroups.{float_functions, geometric_functions, is_among, is_listed, matrix_functions};
 ghost use Rattle.shader_overloads.specs.BuiltinGroups.{number_functions, packing_functions, rules_if, splitting_functions};
-ghost use Rattle.shader_overloads.specs.AnySet.{rules_in, acceptance_in};
+ghost use Rattle.shader_overloads.specs.AnySet.{rules_in, acceptance_in, is_regular};
 ghost use Rattle.shader_overloads.specs.Remaining.{RulesFit};
 
 use crate::{AnyOverloadSet, ConclusionRule, ConstructorSet, Regular, ScalarSet};
@@ -225,6 +225,7 @@ impl MathOverloads for MathFunction {
     fn overloads(self, alloc: Global) -> Result<AnyOverloadSet, AllocError>
         ensures rules { IfOk result (λ set. rules_in set ≡ rules_of self) }
         ensures kind { IfOk result (λ set. ◌≡◌ {A = List «Type» → ℕ → TypeInner → Rule → Bool} (acceptance_in set) (acceptance_of self)) }
+        ensures regular { IfOk result (λ set. is_regular set ≡ not (is_listed self)) }
         ensures fits { IfOk result (λ set. (types : List «Type») → RulesFit types (rules_in set)) }
         ensures found { is_listed self ≡ false → IsOk result }
     {

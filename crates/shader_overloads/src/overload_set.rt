@@ -44,10 +44,15 @@ pub trait OverloadSet: Sized + Drop {
     /// Whether a rule has an argument at a position that accepts a value of a type, as sets of this kind decide it.
     ghost accepting: { Self → List «Type» → ℕ → TypeInner → Rule → Bool };
 
-    /// Returns an equal set. No rules are copied.
+    /// Whether a set is copied and narrowed without allocation.
+    ghost is_free: { Self → Bool };
+
+    /// Returns an equal set. Copies of a list share its rules, so as to cost little; no clause promises that.
     fn copy(&self, alloc: Global) -> Result<Self, AllocError>
         ensures rules { IfOk result (λ set. rules set ≡ rules self.now) }
-        ensures kind { IfOk result (λ set. accepting set ≡ accepting self.now) };
+        ensures kind { IfOk result (λ set. accepting set ≡ accepting self.now) }
+        ensures free { IfOk result (λ set. is_free set ≡ is_free self.now) }
+        ensures found { IsTrue (is_free self.now) → IsOk result };
 
     /// Returns whether no rule remains.
     fn is_empty(&self) -> bool
@@ -76,7 +81,9 @@ pub trait OverloadSet: Sized + Drop {
         requires fits { RulesFit types.now (rules self.now) }
         ensures rules { IfOk result (λ set. rules set ≡ filter (accepting self.now types.now i ty.now) (rules self.now)) }
         ensures kind { IfOk result (λ set. accepting set ≡ accepting self.now) }
-        ensures fits { IfOk result (λ set. RulesFit types.now (rules set)) };
+        ensures free { IfOk result (λ set. is_free set ≡ is_free self.now) }
+        ensures fits { IfOk result (λ set. RulesFit types.now (rules set)) }
+        ensures found { IsTrue (is_free self.now) → IsOk result };
 
     /// Returns the rules without abstract arguments.
     fn concrete_only(self, types: &UniqueArena<Type, mark::Type>) -> Self
@@ -84,6 +91,7 @@ pub trait OverloadSet: Sized + Drop {
         requires fits { RulesFit types.now (rules self) }
         ensures rules { rules result ≡ filter (has_concrete_arguments types.now) (rules self) }
         ensures kind { accepting result ≡ accepting self }
+        ensures free { is_free result ≡ is_free self }
         ensures fits { RulesFit types.now (rules result) };
 
     /// Returns the first rule.
@@ -158,7 +166,20 @@ pub enum SetCall {
     ConcreteOnly,
 }
 
-ghost use Rattle.shader_overloads.specs.Remaining.{CallFits, RulesFit, remaining};
+ghost use Rattle.shader_overloads.specs.Remaining.{CallFits, RulesFit, SuppliesNoStruct, remaining};
+
+impl SetCall {
+    /// Returns an equal call. Allocates only for the members of a struct.
+    pub fn copy(&self, alloc: Global) -> Result<SetCall, AllocError>
+        ensures copy { IfOk result (λ call. call ≡ self.now) }
+        ensures ok { SuppliesNoStruct self.now → IsOk result }
+    {
+        match self {
+            SetCall::Arg(i, ty) => Ok(SetCall::Arg(*i, ty.copy(alloc)?)),
+            SetCall::ConcreteOnly => Ok(SetCall::ConcreteOnly),
+        }
+    }
+}
 
 /// Returns the set that remains after the calls, in their order.
 pub fn narrow<S: OverloadSet>(
@@ -172,7 +193,9 @@ pub fn narrow<S: OverloadSet>(
     requires rules_fit { RulesFit types.now (S.rules set) }
     ensures rules { IfOk result (λ left. S.rules left ≡ remaining (S.accepting set) types.now calls.now (S.rules set)) }
     ensures kind { IfOk result (λ left. S.accepting left ≡ S.accepting set) }
+    ensures free { IfOk result (λ left. S.is_free left ≡ S.is_free set) }
     ensures fits { IfOk result (λ left. RulesFit types.now (S.rules left)) }
+    ensures found { IsTrue (S.is_free set) → IsOk result }
 {
     let mut left = set;
     for call in calls {

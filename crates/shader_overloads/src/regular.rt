@@ -83,7 +83,7 @@ impl Regular {
 }
 
 impl OverloadSet for Regular {
-    ghost use Rattle.std.specs.Prelude.{List, ℕ, Bool};
+    ghost use Rattle.std.specs.Prelude.{List, ℕ, Bool, true};
     ghost use Rattle.shader_ir.specs.declared.types.«Type».{«Type»};
     ghost use Rattle.shader_ir.specs.declared.types.TypeInner.{TypeInner};
     ghost use Rattle.shader_overloads.specs.declared.rule.Rule.{Rule};
@@ -92,6 +92,8 @@ impl OverloadSet for Regular {
     ghost rules = { λ set. set };
 
     ghost accepting = { λ _. accepts };
+
+    ghost is_free = { λ _. true };
 
     /// Allocates nothing.
     fn copy(&self, _alloc: Global) -> Result<Regular, AllocError>

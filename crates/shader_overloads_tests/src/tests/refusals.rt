@@ -5,6 +5,7 @@
 ghost use Rattle.std.specs.Prelude.{All};
 ghost use Rattle.shader_overloads.specs.Remaining.{CallFits};
 
+use crate::tests::calls::{rule_of_five, rule_of_two};
 use crate::tests::{Built, SCALAR, VEC2, counted, inner, is_rule, list_allowed, list_rules};
 use shader_arena::UniqueArena;
 use shader_ir::proc::types_backward;
@@ -112,6 +113,47 @@ fn refused_sets_can_be_built_again(rt: HostRuntime) {
         prefers_two(&rt, alloc, &left);
         drop(left);
     }
+}
+
+/// Asserts that a call on two scalars means a rule, if it is repeated after a failure.
+fn means_again<R: Abort + Print>(
+    rt: &R,
+    alloc: Global,
+    function: MathFunction,
+    left: Scalar,
+    right: Scalar,
+) {
+    let rule = again(rt, "rule_of", &|| rule_of_two(alloc, function, left, right));
+    let is_some = rule.is_some();
+    drop(rule);
+    assert!(rt; is_some);
+}
+
+/// Asserts that the call means no rule, and is answered at once.
+fn means_none<R: Abort>(rt: &R, call: Result<Option<Rule>, AllocError>) {
+    let rule = call.expect(rt, OUT_OF_MEMORY);
+    let is_none = rule.is_none();
+    drop(rule);
+    assert!(rt; is_none);
+}
+
+/// Tests calls of both kinds of functions. Where no rule of a regular set is meant, nothing is built, so that call isn't repeated.
+#[test]
+fn refused_calls_can_be_made_again(rt: HostRuntime) {
+    let alloc = rt.alloc();
+    means_again(
+        &rt,
+        alloc,
+        MathFunction::Max,
+        Scalar::U32,
+        Scalar::ABSTRACT_INT,
+    );
+    means_none(
+        &rt,
+        rule_of_two(alloc, MathFunction::Max, Scalar::F32, Scalar::F64),
+    );
+    means_none(&rt, rule_of_five(alloc, MathFunction::Abs));
+    means_again(&rt, alloc, MathFunction::Ldexp, Scalar::F32, Scalar::I32);
 }
 
 const VECTOR: Built = (VEC2, Scalar::F16);

@@ -10,6 +10,7 @@ pub loop-call-preserved : goal.loop-call-preserved
 loop-call-preserved g c =
     let rules = g.S.OverloadSet.rules in
     let accepting = g.S.OverloadSet.accepting in
+    let is_free = g.S.OverloadSet.is_free in
     elim c.match-call.branch [
       | in-Arg+in_ok-left-in-Arg w ↦
           let step = ap rules w.left-is ∙ w.in_ok-left-in-Arg.ensures.rules
@@ -18,6 +19,7 @@ loop-call-preserved g c =
             rest = narrowed (accepting c.args.set) c.args.types.now c.args.calls.now c.loop-call.call-index c.call-item.result _
                 (rules c.loop-call.left) _ _ c.loop-call-test.true (sym c.call-item.is ∙ w.in-Arg.is) step c.loop-call.invariant.rest;
             kind = ap accepting w.left-is ∙ w.in_ok-left-in-Arg.ensures.kind ∙ c.loop-call.invariant.kind;
+            free = ap is_free w.left-is ∙ w.in_ok-left-in-Arg.ensures.free ∙ c.loop-call.invariant.free;
             fits = fewer_fit c.args.types.now _ _ _ step c.loop-call.invariant.fits;
           }
       | in-ConcreteOnly w ↦
@@ -27,6 +29,7 @@ loop-call-preserved g c =
                 (rules c.loop-call.left) _ _ c.loop-call-test.true (sym c.call-item.is
                 ∙ w.in-ConcreteOnly.is) step c.loop-call.invariant.rest;
             kind = ap accepting w.left-is ∙ w.concrete_only.ensures.kind ∙ c.loop-call.invariant.kind;
+            free = ap is_free w.left-is ∙ w.concrete_only.ensures.free ∙ c.loop-call.invariant.free;
             fits = fewer_fit c.args.types.now _ _ _ step c.loop-call.invariant.fits;
           }
     ]
