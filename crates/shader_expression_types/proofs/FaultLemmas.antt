@@ -12,7 +12,7 @@ use Rattle.shader_analysis_spec.specs.StepFaults.{StepFault}
 use Rattle.shader_analysis_spec.specs.Infos.{IsWitness}
 use Rattle.shader_analysis_spec.specs.Program.{Function, Module, Expression, IsExpressionAt}
 use Rattle.shader_analysis_spec.specs.Steps.{StepOrigin}
-use Rattle.shader_expression_types.proofs.TypedLemmas.{typed}
+use Rattle.shader_expression_types.proofs.TypedLemmas.{derives_result, refused_or_out, typed}
 use Rattle.shader_expression_types.specs.Checked.{IsOfTyping, IsSound, NamesFault, untyped_error}
 use Rattle.shader_expression_types.specs.Indexed.{access_refusal, base_refusal, index_refusal, needed_for, alone}
 use Rattle.shader_expression_types.specs.Typed.{AreOfTheFirst, IsResultOf}
@@ -183,7 +183,8 @@ module _ (m : Module) (infos : List FunctionInfo) (f : Function) (facts : List F
         NamesFault m infos f capabilities (untyped_error (length types) failure)
     names_failure memory failure reported flags =
         names_untyped (StepFault m (infos_of infos) f (settings_of flags capabilities)) (length types) memory failure
-        (⊎_elim (λ refused. inl (untyped refused)) (λ out_of_memory. inr out_of_memory) reported)
+        (⊎_elim (λ refused. inl (untyped refused)) (λ out_of_memory. inr out_of_memory)
+        (refused_or_out (function_context m f) f.expressions (length types) memory failure reported))
 
     pub sound : (resolution : TypeResolution) → Derives (function_context m f) f.expressions (length types) resolution →
         access_refusal capabilities m.types facts types x ≡ None → IsSound m infos f capabilities (length types)
@@ -242,8 +243,9 @@ module _ (m : Module) (infos : List FunctionInfo) (f : Function) (facts : List F
     pub sound_at : (memory : Memory) (resolution : TypeResolution) →
         IsResultOf (function_context m f) f.expressions (length types) memory (Ok resolution) →
         access_refusal capabilities m.types facts types x ≡ None → IsSound m infos f capabilities e
-    sound_at memory resolution derives reported = subst (IsSound m infos f capabilities) (sym position)
-        (sound types first x is_there earlier resolution derives reported)
+    sound_at memory resolution result reported = subst (IsSound m infos f capabilities) (sym position)
+        (sound types first x is_there earlier resolution
+        (derives_result (function_context m f) f.expressions (length types) memory resolution result) reported)
 
 -- past the expressions there is no fault
 pub sound_beyond : (m : Module) (infos : List FunctionInfo) (f : Function) (capabilities : Capabilities) (types : List TypeResolution) →

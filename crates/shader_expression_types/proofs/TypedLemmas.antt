@@ -1,20 +1,21 @@
 -- The outcome of type resolution is what the derivable types require.
-use Rattle.std.proofs.Common.{◌≡◌, ap, sym, subst, ◌⊎◌, inl, inr, ℕ, ◌<◌, List, Some, Result, Ok}
+use Rattle.std.proofs.Common.{◌≡◌, sym, subst, ◌⊎◌, inl, inr, ℕ, ◌<◌, List, Some, Result, Ok}
 use Rattle.std.proofs.Common.{Err, IsOkAnd, slice_get, length, get_or, None, ◌≤◌, refl, All, arith}
 use Rattle.std.proofs.lemmas.List.Elements.{All-contains}
 use Rattle.std.proofs.lemmas.Option.{slice_get_cases}
 use Rattle.shader_ir.specs.declared.proc.type_resolution.TypeResolution.{TypeResolution}
-use Rattle.shader_analysis_spec.specs.Derivable.{Answers, plain, by_one, by_two, Derives, given}
+use Rattle.shader_analysis_spec.specs.Derivable.{Answers, plain, by_one, by_two, Derives, IsRefused, given}
 use Rattle.shader_analysis_spec.specs.Program.{Expression, Label, expression_operands}
-use Rattle.shader_expression_types.specs.Typed.{AreOfTheFirst, IsResultOf}
+use Rattle.shader_expression_types.specs.Typed.{AreOfTheFirst, HasOutcome, IsResultOf}
 use Rattle.shader_expression_types.proofs.ListLemmas.{at_position}
 use Rattle.shader_ir.specs.Key.{FitsTypes, HoldsNoMembers}
 use Rattle.shader_resolve.proofs.GivenLemmas.{GivesNoMembers, KeepsNoMembers, fits-no_members, no_members_kept}
 use Rattle.shader_resolve.proofs.MemoryLemmas.{for_type}
+use Rattle.shader_resolve.proofs.StoredLemmas.{without_copy}
 use Rattle.shader_resolve.specs.declared.error.ResolveError.{ResolveError}
 use Rattle.shader_resolve.specs.Context.{Context}
 use Rattle.shader_resolve.specs.DerivesByRule.{OperandAnswer, DerivesByRule, Answered}
-use Rattle.shader_resolve.specs.Outcome.{Given, Meets, Memory, Outcome, Refusal, Refused}
+use Rattle.shader_resolve.specs.Outcome.{Given, IsOutOfMemory, Meets, Memory, Outcome, Refused, refusal_of}
 use Rattle.shader_resolve.specs.TypingRules.{TypingRule, Plain, One, Two, typing_rule}
 use Rattle.shader_resolve.specs.WellFormed.{OperandsBelow}
 
@@ -31,26 +32,24 @@ module _ (context : Context) (expressions : List Expression) (types : List TypeR
     at (inr past) = absurd (omega (arith, past.0))
 
   module _ (e : ℕ) (x : Expression) (is : slice_get expressions e ≡ Some x) (below : OperandsBelow (length types) x) (memory : Memory) where
+    -- the outcome of the typing rule is the expression's
+    has_outcome : (outcome : Outcome) → Answers context expressions e outcome → HasOutcome context expressions e outcome
+    has_outcome (Given resolution) answers = given answers refl
+    has_outcome (Refused refusal) answers = record {
+      expression = x;
+      is_there = is;
+      operands = λ operand among.
+          let there = typed operand.0 (All-contains (λ (o : ℕ × Label). o.0 < length types) (expression_operands x) operand
+          below among) in
+          (there.0, there.2);
+      refused = answers;
+    }
+
     -- a result that meets the typing rule's outcome is the outcome for the expression
     concluded : (result : Result TypeResolution ResolveError) (outcome : Outcome) → GivesNoMembers outcome →
         Answers context expressions e outcome → Meets memory result outcome →
         IsResultOf context expressions e memory result
-    concluded (Ok resolution) (Given g) none answers meets = given answers (ap Given (sym meets))
-    concluded (Ok resolution) (Refused refusal) none answers meets = absurd meets
-    concluded (Err failure) (Given g) none answers (inl for_rule) = inr (for_type memory failure for_rule)
-    concluded (Err failure) (Given g) none answers (inr for_copy) = absurd (for_copy.0 none)
-    concluded (Err failure) (Refused refusal) none answers (inl same) =
-        let P : Refusal → Type 0 = λ r. Answers context expressions e (Refused r) in
-        inl (record {
-          expression = x;
-          is_there = is;
-          operands = λ operand among.
-              let there = typed operand.0 (All-contains (λ (o : ℕ × Label). o.0 < length types) (expression_operands x) operand
-              below among) in
-              (there.0, there.2);
-          refused = subst P (sym same) answers;
-        })
-    concluded (Err failure) (Refused refusal) none answers (inr out_of_memory) = inr out_of_memory
+    concluded result outcome none answers meets = (outcome, has_outcome outcome answers, without_copy memory result outcome none meets)
 
     module _ (fit : All (FitsTypes context.types) types)
         (Post : ℕ → OperandAnswer → Type 0) (determines : (operand : ℕ) (reported : OperandAnswer) → Post operand reported →
@@ -82,3 +81,17 @@ module _ (context : Context) (expressions : List Expression) (types : List TypeR
 
       pub is_reported : DerivesByRule memory Post result (typing_rule context x) → IsResultOf context expressions e memory result
       is_reported follows = by_rule (typing_rule context x) refl (no_members_kept context x) follows
+
+module _ (context : Context) (expressions : List Expression) (e : ℕ) (memory : Memory) where
+  -- a type that is the result is the expression's
+  pub derives_result : (resolution : TypeResolution) → IsResultOf context expressions e memory (Ok resolution) →
+      Derives context expressions e resolution
+  derives_result resolution (Given found, derives, same) = subst (Derives context expressions e) (sym same) derives
+  derives_result resolution (Refused refusal, refused, meets) = absurd meets
+
+  -- an error that is the result is the expression's refusal, or out of memory
+  pub refused_or_out : (failure : ResolveError) → IsResultOf context expressions e memory (Err failure) →
+      IsRefused context expressions e (refusal_of failure) ⊎ IsOutOfMemory memory failure
+  refused_or_out failure (Given found, derives, out_of_memory) = inr (for_type memory failure out_of_memory)
+  refused_or_out failure (Refused refusal, refused, (inl same)) = inl (subst (IsRefused context expressions e) (sym same) refused)
+  refused_or_out failure (Refused refusal, refused, (inr out_of_memory)) = inr out_of_memory

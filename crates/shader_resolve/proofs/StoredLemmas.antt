@@ -7,42 +7,45 @@ use Rattle.shader_ir.specs.declared.proc.type_resolution.TypeResolution.{TypeRes
 use Rattle.shader_ir.specs.Key.{FitsTypes, HoldsNoMembers}
 use Rattle.shader_resolve.proofs.GivenLemmas.{GivesNoMembers, KeepsNoMembers, answer-in_range, fits-no_members, no_members_kept}
 use Rattle.shader_resolve.proofs.QueriedLemmas.{queried, each-queried}
-use Rattle.shader_resolve.proofs.MemoryLemmas.{for_type}
 use Rattle.shader_resolve.specs.declared.error.ResolveError.{ResolveError}
 use Rattle.shader_resolve.specs.Context.{Context}
 use Rattle.shader_resolve.specs.DerivesByRule.{OperandAnswer, DerivesByRule, EachQueried, AnswerFits, AnswerInRange, memory_of}
-use Rattle.shader_resolve.specs.Outcome.{Given, Meets, Memory, Outcome, Refused}
+use Rattle.shader_resolve.specs.Outcome.{Given, Meets, MeetsWithoutCopy, Memory, Outcome, Refused}
 use Rattle.shader_resolve.specs.Stored.{IsOutcomeOf, outcome_at}
 use Rattle.shader_resolve.specs.TypingRules.{TypingRule, Plain, One, Two, typing_rule}
 use Rattle.shader_resolve.specs.WellFormed.{OperandsBelow}
 
-module _ (stored : List TypeResolution) (memory : Memory) where
-  concluded : (queries : TypingRule) (result : Result TypeResolution ResolveError) (outcome : Outcome) → GivesNoMembers outcome →
-      outcome_at stored queries ≡ Some outcome → Meets memory result outcome → IsOutcomeOf stored memory queries result
-  concluded queries (Ok resolution) (Given given) none at meets = at ∙ ap (λ r. Some (Given r)) (sym meets)
-  concluded queries (Ok resolution) (Refused refusal) none at meets = absurd meets
-  concluded queries (Err failure) (Given given) none at (inl for_rule) = inr (for_type memory failure for_rule)
-  concluded queries (Err failure) (Given given) none at (inr for_copy) = absurd (for_copy.0 none)
-  concluded queries (Err failure) (Refused refusal) none at (inl same) = inl (at ∙ ap (λ r. Some (Refused r)) (sym same))
-  concluded queries (Err failure) (Refused refusal) none at (inr out_of_memory) = inr out_of_memory
+-- a result that meets an outcome without members meets it without a copy
+pub without_copy : (memory : Memory) (result : Result TypeResolution ResolveError) (outcome : Outcome) → GivesNoMembers outcome →
+    Meets memory result outcome → MeetsWithoutCopy memory result outcome
+without_copy memory (Ok resolution) (Given given) none meets = meets
+without_copy memory (Ok resolution) (Refused refusal) none meets = meets
+without_copy memory (Err failure) (Given given) none (inl for_rule) = for_rule
+without_copy memory (Err failure) (Given given) none (inr for_copy) = absurd (for_copy.0 none)
+without_copy memory (Err failure) (Refused refusal) none meets = meets
 
+module _ (stored : List TypeResolution) (memory : Memory) where
   module _ (Post : ℕ → OperandAnswer → Type 0) (result : Result TypeResolution ResolveError)
       (no_members : (operand : ℕ) (t : TypeResolution) → slice_get stored operand ≡ Some t → HoldsNoMembers t)
       (determines : (operand : ℕ) (reported : OperandAnswer) → Post operand reported →
       IsOkAnd reported (λ t. slice_get stored operand ≡ Some t.now)) where
     derivation_gives : (queries : TypingRule) → KeepsNoMembers queries → DerivesByRule memory Post result queries →
         IsOutcomeOf stored memory queries result
-    derivation_gives (Plain outcome) keeps meets = concluded (Plain outcome) result outcome keeps refl meets
+    derivation_gives (Plain outcome) keeps meets = (outcome, refl, without_copy memory result outcome keeps meets)
     derivation_gives (One operand answer) keeps (Ok t, post, meets) =
-        let at = determines operand (Ok t) post in
-        concluded (One operand answer) result (answer t.now) (keeps t.now (no_members operand t.now at)) (ap (λ v. option_map answer v) at)
-        meets
+        let at = determines operand (Ok t) post in (
+          answer t.now,
+          ap (λ v. option_map answer v) at,
+          without_copy memory result (answer t.now) (keeps t.now (no_members operand t.now at)) meets,
+        )
     derivation_gives (One operand answer) keeps (Err failure, post, rest) = absurd (determines operand (Err failure) post)
     derivation_gives (Two left right answer) keeps (Ok t, post, (Ok u, last, meets)) =
         let at = determines left (Ok t) post in
-        let then = determines right (Ok u) last in
-        concluded (Two left right answer) result (answer t.now u.now)
-        (keeps t.now u.now (no_members left t.now at) (no_members right u.now then)) (rw at (rw then refl)) meets
+        let then = determines right (Ok u) last in (
+          answer t.now u.now,
+          rw at (rw then refl),
+          without_copy memory result (answer t.now u.now) (keeps t.now u.now (no_members left t.now at) (no_members right u.now then)) meets,
+        )
     derivation_gives (Two left right answer) keeps (Ok t, post, (Err failure, last, rest)) =
         absurd (determines right (Err failure) last)
     derivation_gives (Two left right answer) keeps (Err failure, post, rest) = absurd (determines left (Err failure) post)
@@ -85,3 +88,9 @@ module _ (context : Context) (x : Expression) (stored : List TypeResolution) (be
       (λ operand t at. fits-no_members context.types t (subst (FitsTypes context.types) (get_or_from_slice_get stored operand t t at)
       (fit operand t (slice_get_within stored operand t at))))
       determines (typing_rule context x) (no_members_kept context x) derives
+
+-- a type that meets the outcome at stored types is that outcome
+pub given_at : (stored : List TypeResolution) (memory : Memory) (rule : TypingRule) (resolution : TypeResolution) →
+    IsOutcomeOf stored memory rule (Ok resolution) → outcome_at stored rule ≡ Some (Given resolution)
+given_at stored memory rule resolution (Given given, at, same) = at ∙ ap (λ r. Some (Given r)) (sym same)
+given_at stored memory rule resolution (Refused refusal, at, meets) = absurd meets

@@ -102,3 +102,10 @@ module _ (memory : Memory) where
   Meets (Ok resolution) (Refused refusal) = ⊥
   Meets (Err failure) (Given given) = IsOutOfMemoryForType memory failure ⊎ IsOutOfMemoryForCopy given failure
   Meets (Err failure) (Refused refusal) = IsRefusal refusal failure
+
+  -- the same of an outcome whose type has no list of members, so that a copy of it takes no memory
+  abbrev pub MeetsWithoutCopy : Result TypeResolution ResolveError → Outcome → Type 0
+  MeetsWithoutCopy (Ok resolution) (Given given) = resolution ≡ given
+  MeetsWithoutCopy (Ok resolution) (Refused refusal) = ⊥
+  MeetsWithoutCopy (Err failure) (Given given) = IsOutOfMemoryForType memory failure
+  MeetsWithoutCopy (Err failure) (Refused refusal) = IsRefusal refusal failure

@@ -10,5 +10,6 @@ mod well_formed;
 pub use context::ResolveContext;
 pub use error::ResolveError;
 pub use well_formed::{
-    FaultAt, MOST_LEVELS, ModuleFault, ModuleLocation, check_module, find_fault, nests_within,
+    FaultAt, FaultAtReport, MOST_LEVELS, ModuleFault, ModuleFaultReport, ModuleLocation,
+    check_module, find_fault, nests_within,
 };

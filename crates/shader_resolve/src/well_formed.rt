@@ -8,6 +8,7 @@ mod expressions;
 mod functions;
 mod locations;
 mod nesting;
+mod report;
 mod statements;
 
 use data::check_data;
@@ -15,36 +16,37 @@ use expressions::check_expressions;
 use functions::check_function;
 pub use locations::{FaultAt, ModuleLocation, find_fault};
 pub use nesting::{MOST_LEVELS, nests_within};
+pub use report::{FaultAtReport, ModuleFaultReport};
 use shader_ir::Module;
 use thiserror::Error;
 
-/// The reason why a module isn't well formed.
+/// The reason why a module isn't well formed. It prints as the name of its variant, and `report` words it.
 #[derive(Clone, Copy, Debug, PartialEq, Eq, Error)]
 pub enum ModuleFault {
     /// A handle is past the end of its arena. The range of an `Emit` is left to `EmitRange`, and a global expression has no locals.
-    #[error("A handle is past the end of its arena")]
+    #[error("HandleOutOfRange")]
     HandleOutOfRange,
     /// A type names itself or a later type.
-    #[error("A type names itself or a later type")]
+    #[error("TypeNotEarlier")]
     TypeNotEarlier,
     /// An operand of an expression is that expression or a later one.
-    #[error("An operand is the expression itself or a later one")]
+    #[error("OperandNotEarlier")]
     OperandNotEarlier,
     /// A function calls itself or a later function, or names the result of such a call; or a global
     /// expression names the result of a call. To an entry point all functions are earlier.
-    #[error("A called function isn't an earlier one")]
+    #[error("CalleeNotEarlier")]
     CalleeNotEarlier,
     /// A call passes more or fewer arguments than its callee takes.
-    #[error("A call gives more or fewer arguments than its function takes")]
+    #[error("ArgumentCount")]
     ArgumentCount,
     /// The parent of a filter is that filter or a later one.
-    #[error("The parent of a diagnostic filter isn't an earlier one")]
+    #[error("FilterNotEarlier")]
     FilterNotEarlier,
     /// A function takes an argument of a `ValuePointer` type.
-    #[error("A function takes an argument of a value pointer type")]
+    #[error("ValuePointerArgument")]
     ValuePointerArgument,
     /// An `Emit` names an expression past the end of its function's.
-    #[error("An emitted range ends past the function's expressions")]
+    #[error("EmitRange")]
     EmitRange,
 }
 

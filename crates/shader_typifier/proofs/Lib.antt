@@ -1,3 +1,2 @@
 pub mod GrownLemmas
 pub mod RegisterLemmas
-pub mod TypedLemmas

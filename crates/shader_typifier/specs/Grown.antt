@@ -1,12 +1,12 @@
 -- Growth of a table of types.
-use Rattle.std.specs.Prelude.{◌≡◌, ◌≤◌, ◌⊎◌, ◌++◌, ◌∷◌, [], ℕ, List, take, Some, length, slice_get}
+use Rattle.std.specs.Prelude.{◌≡◌, ◌≤◌, ◌⊎◌, ◌++◌, ◌∷◌, [], ℕ, List, take, Err, Some, length, slice_get}
 use Rattle.shader_ir.specs.declared.expression.Expression.{Expression}
 use Rattle.shader_ir.specs.declared.proc.type_resolution.TypeResolution.{TypeResolution}
 use Rattle.shader_ir.specs.Key.{FitsTypes}
 use Rattle.shader_resolve.specs.Context.{Context, IsInRange}
 use Rattle.shader_resolve.specs.DerivesByRule.{memory_of}
-use Rattle.shader_resolve.specs.Outcome.{IsOutOfMemory, Given, Refused, refusal_of}
-use Rattle.shader_resolve.specs.Stored.{outcome_at}
+use Rattle.shader_resolve.specs.Outcome.{Given}
+use Rattle.shader_resolve.specs.Stored.{IsOutcomeOf, outcome_at}
 use Rattle.shader_resolve.specs.TypingRules.{typing_rule}
 use Rattle.shader_resolve.specs.WellFormed.{OperandsBelow}
 use Rattle.shader_resolve.specs.declared.error.ResolveError.{ResolveError}
@@ -28,17 +28,17 @@ module _ (context : Context) (stored : List TypeResolution) (x : Expression) whe
     pub reported : outcome_at stored (typing_rule context x) ≡ Some (Given resolution)
     pub unfit : FitsTypes context.types resolution → ⊥
 
-  -- memory ran out in the expression's rule, which allocates, or for its type, which the rule gives
-  pub data RunsOut (failure : ResolveError) : Type 0 where
-    in_rule : IsOutOfMemory (memory_of x) failure → RunsOut failure
-    for_type : (resolution : TypeResolution) → outcome_at stored (typing_rule context x) ≡ Some (Given resolution) →
-        failure ≡ resolve.OutOfMemory → RunsOut failure
+  -- memory ran out for the expression's type, which the table would store
+  pub record RunsOut (failure : ResolveError) : Type 0 where
+    pub resolution : TypeResolution
+    pub typed : IsTyped resolution
+    pub out_of_memory : failure ≡ resolve.OutOfMemory
 
   -- the error is a reason to reject the expression
   abbrev pub IsRefusedAs : TypifyError → Type 0
   IsRefusedAs error.HandleOutOfRange = (IsInRange context x → ⊥) ⊎ GivesNoType
   IsRefusedAs error.OperandNotEarlier = OperandsBelow (length stored) x → ⊥
-  IsRefusedAs (error.Resolve failure) = (outcome_at stored (typing_rule context x) ≡ Some (Refused (refusal_of failure))) ⊎ RunsOut failure
+  IsRefusedAs (error.Resolve failure) = IsOutcomeOf stored (memory_of x) (typing_rule context x) (Err failure) ⊎ RunsOut failure
 
 module _ (context : Context) (expressions : List Expression) where
   -- the table grows by the types of the next expressions, each given the types stored before it

@@ -1,3 +1,4 @@
+pub mod Copied
 pub mod Grown
 pub mod Laws
 pub mod Registered

@@ -1,6 +1,9 @@
 //! Errors of typing a function under construction.
+ghost use Rattle.std.specs.Prelude.{IfErr, IfOk};
+ghost use Rattle.shader_typifier.specs.Copied.{HasText, IsCopyOf};
+
 use shader_resolve::ResolveError;
-use std::alloc::{AllocError, AllocFailed};
+use std::alloc::{AllocError, AllocFailed, Global};
 use thiserror::Error;
 
 /// The reason why an expression is given no type.
@@ -38,5 +41,19 @@ impl<T: Drop> From<AllocFailed<T>> for TypifyError {
 
     fn from(_failed: AllocFailed<T>) -> TypifyError {
         TypifyError::Resolve(ResolveError::OutOfMemory)
+    }
+}
+
+impl TypifyError {
+    /// Returns an equal error with the same text. Allocates only if the error has a text.
+    pub fn copy(&self, alloc: Global) -> Result<TypifyError, AllocError>
+        ensures copy { IfOk result (IsCopyOf self.now) }
+        ensures memory { IfErr result (λ _. HasText self.now) }
+    {
+        match self {
+            TypifyError::HandleOutOfRange => Ok(TypifyError::HandleOutOfRange),
+            TypifyError::OperandNotEarlier => Ok(TypifyError::OperandNotEarlier),
+            TypifyError::Resolve(failure) => Ok(TypifyError::Resolve(failure.copy(alloc)?)),
+        }
     }
 }

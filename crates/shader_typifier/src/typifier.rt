@@ -149,6 +149,7 @@ impl Typifier {
         ensures idle { handle < length self.old → self.new ≡ self.old }
         ensures queried { OnErr result (length self.old ≤ handle) }
         ensures refused { IfErr result (IsRefusedNext context.now expressions.now self.new) }
+        ensures before { OnErr result (length self.new ≤ handle) }
         ensures fits { All (FitsTypes context.now.types) self.new }
     {
         for position in self.len()..handle.index() + 1 {
@@ -183,6 +184,7 @@ impl Typifier {
         ensures whole { OnOk result (handle < length self.new) }
         ensures no_more { length self.new ≤ handle + 1 }
         ensures refused { IfErr result (IsRefusedNext context.now expressions.now self.new) }
+        ensures before { OnErr result (length self.new ≤ handle) }
         ensures fits { All (FitsTypes context.now.types) self.new }
     {
         self.resolutions.truncate(handle.index());

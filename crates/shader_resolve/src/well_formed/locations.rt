@@ -90,7 +90,7 @@ impl fmt::Display for ModuleLocation {
     }
 }
 
-/// A violation of well-formedness and its location.
+/// A violation of well-formedness and its location. It prints the violation's name, and `report` words it.
 #[derive(Clone, Copy, Debug, PartialEq, Eq, Error)]
 #[error("{location}: {fault}")]
 pub struct FaultAt {

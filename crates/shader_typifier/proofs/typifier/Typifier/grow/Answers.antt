@@ -3,7 +3,7 @@ use Rattle.std.proofs.lemmas.List.{take-append-le}
 use Rattle.std.proofs.lemmas.List.Elements.{All-append, All-cons}
 use Rattle.std.proofs.Math.Seq.{take-length}
 use Rattle.shader_ir.specs.Key.{FitsTypes}
-use Rattle.shader_typifier.specs.Grown.{for_type, grows, stays}
+use Rattle.shader_typifier.specs.Grown.{grows, stays}
 use Rattle.shader_typifier.proofs.GrownLemmas.{grown_types_are_typed}
 use Rattle.shader_typifier.proofs.typifier.Typifier.grow.Goals as goal
 
@@ -58,7 +58,11 @@ returns-in-Err-clause-refused c =
     rw same (record {
       expression = c.index.result.now;
       is_there = subst (λ v. slice_get c.args.expressions.now v ≡ Some c.index.result.now) at c.index.ensures;
-      refused = inr (for_type c.in_ok-resolution.resolution c.in_ok-resolution.ensures.typed.reported refl);
+      refused = inr (record {
+        resolution = c.in_ok-resolution.resolution;
+        typed = c.in_ok-resolution.ensures.typed;
+        out_of_memory = refl;
+      });
     })
 
 pub returns-clause-typed : goal.returns-clause-typed

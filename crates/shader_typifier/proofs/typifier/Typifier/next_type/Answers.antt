@@ -1,9 +1,8 @@
-use Rattle.std.proofs.Common.{rules, refl, subst, inr}
+use Rattle.std.proofs.Common.{rules, refl, subst, inl, inr}
 use Rattle.shader_resolve.specs.DerivesByRule.{memory_of}
 use Rattle.shader_resolve.specs.TypingRules.{typing_rule}
-use Rattle.shader_resolve.proofs.StoredLemmas.{may_query, outcome_of, reported_in_range}
+use Rattle.shader_resolve.proofs.StoredLemmas.{given_at, may_query, outcome_of, reported_in_range}
 use Rattle.shader_resolve.specs.Stored.{IsOutcomeOf}
-use Rattle.shader_typifier.proofs.TypedLemmas.{is_refused_as}
 use Rattle.shader_typifier.proofs.typifier.Typifier.next_type.Goals as goal
 
 pub resolve-resolved-requires : goal.resolve-resolved-requires
@@ -26,8 +25,7 @@ pub returns-in-Err-clause-refused : goal.returns-in-Err-clause-refused
 returns-in-Err-clause-refused c =
     let queries = typing_rule c.args.context.now c.args.expression.now in
     let memory = memory_of c.args.expression.now in
-    is_refused_as c.args.context.now c.args.self.now c.args.expression.now c.in-Err.failure
-    (subst (IsOutcomeOf c.args.self.now memory queries) c.in-Err.is
+    inl (subst (IsOutcomeOf c.args.self.now memory queries) c.in-Err.is
     (outcome_of c.args.context.now c.args.expression.now c.args.self.now (search rules) c.requires.fit _
     c.resolve-resolved.result c.resolve-resolved.ensures.follows (λ operand reported post. search rules)))
 
@@ -38,9 +36,10 @@ returns-then-fits-clause-typed c =
     record {
       names = search rules;
       operands = search rules;
-      reported = subst (IsOutcomeOf c.args.self.now memory queries) c.in-Ok.is
+      reported = given_at c.args.self.now memory queries c.in-Ok.resolution
+          (subst (IsOutcomeOf c.args.self.now memory queries) c.in-Ok.is
           (outcome_of c.args.context.now c.args.expression.now c.args.self.now (search rules) c.requires.fit _
-          c.resolve-resolved.result c.resolve-resolved.ensures.follows (λ operand reported post. search rules));
+          c.resolve-resolved.result c.resolve-resolved.ensures.follows (λ operand reported post. search rules)));
       fits = search rules;
     }
 
@@ -50,8 +49,9 @@ returns-else-fits-clause-refused c =
     let memory = memory_of c.args.expression.now in
     inr (record {
       resolution = c.in-Ok.resolution;
-      reported = subst (IsOutcomeOf c.args.self.now memory queries) c.in-Ok.is
+      reported = given_at c.args.self.now memory queries c.in-Ok.resolution
+          (subst (IsOutcomeOf c.args.self.now memory queries) c.in-Ok.is
           (outcome_of c.args.context.now c.args.expression.now c.args.self.now (search rules) c.requires.fit _
-          c.resolve-resolved.result c.resolve-resolved.ensures.follows (λ operand reported post. search rules));
+          c.resolve-resolved.result c.resolve-resolved.ensures.follows (λ operand reported post. search rules)));
       unfit = λ fits. search rules;
     })
