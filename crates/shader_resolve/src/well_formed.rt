@@ -8,6 +8,7 @@ mod expressions;
 mod functions;
 mod locations;
 mod nesting;
+mod operands;
 mod report;
 mod statements;
 

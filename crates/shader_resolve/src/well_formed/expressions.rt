@@ -1,11 +1,11 @@
 //! Checks of expressions.
 ghost use Rattle.std.specs.Prelude.{◌≡◌, nat_lt};
-ghost use Rattle.shader_resolve.specs.ModuleTests.{check_expression, in_arena, is_below, names_in_range, operands_below};
+ghost use Rattle.shader_resolve.specs.ModuleTests.{check_expression, in_arena, is_below, names_in_range};
 ghost use Rattle.shader_resolve.specs.WellFormed.{expression_callee};
 
+use super::operands::expression_operands_below;
 use super::{Bounds, ModuleFault};
 use shader_arena::{Arena, Handle};
-use shader_ir::proc::{Operands, expression_operands};
 use shader_ir::{Expression, Module, mark};
 
 /// Returns whether a handle is below a bound.
@@ -25,18 +25,6 @@ pub fn is_optional_below<T>(handle: Option<Handle<T>>, bound: usize) -> bool
         Some(handle) => is_below(handle, bound),
         None => true,
     }
-}
-
-/// Returns whether all remaining operands are below a bound.
-pub fn operands_below(operands: Operands<'_>, bound: usize) -> bool
-    ensures { result ≡ operands_below bound operands.entry }
-{
-    for (operand, _) in operands {
-        if !is_below(operand, bound) {
-            return false;
-        }
-    }
-    true
 }
 
 /// Returns whether everything that an expression names besides its operands is in range.
@@ -102,8 +90,8 @@ pub fn check_expression(
     ensures { result ≡ check_expression «module».now bounds position expression.now }
 {
     let bound = position.min(bounds.expressions);
-    let is_earlier = operands_below(expression_operands(expression), bound);
-    if !is_earlier && !operands_below(expression_operands(expression), bounds.expressions) {
+    let is_earlier = expression_operands_below(expression, bound);
+    if !is_earlier && !expression_operands_below(expression, bounds.expressions) {
         return Err(ModuleFault::HandleOutOfRange);
     }
     if !names_in_range(module, bounds.locals, expression) {

@@ -6,10 +6,10 @@ ghost use Rattle.shader_resolve.specs.ModuleTests.{all_below, check_statement, c
 ghost use Rattle.shader_resolve.specs.ModuleTests.{in_within, is_emitted, statement_in_range, takes_arguments};
 ghost use Rattle.shader_resolve.specs.Statements.{proceed_result, statement_callee, statement_result};
 
-use super::expressions::{is_below, is_optional_below, operands_below};
+use super::expressions::{is_below, is_optional_below};
+use super::operands::statement_operands_below;
 use super::{Bounds, ModuleFault};
 use shader_arena::{Handle, Range};
-use shader_ir::proc::statement_operands;
 use shader_ir::{Block, Module, RayQueryFunction, Statement, mark};
 
 /// Returns the first violation in a block's statements, each statement before those in its blocks.
@@ -80,7 +80,7 @@ fn check_statement(
 fn statement_in_range(module: &Module, expressions: usize, statement: &Statement) -> bool
     ensures { result ≡ statement_in_range «module».now expressions (step_of statement.now) }
 {
-    operands_below(statement_operands(statement), expressions)
+    statement_operands_below(statement, expressions)
         && is_optional_below(statement_result(statement), expressions)
         && is_optional_below(statement_callee(statement), module.functions.len())
 }
