@@ -13,6 +13,7 @@ use Rattle.shader_ir.specs.Key.{FitsTypes}
 use Rattle.shader_ir.specs.declared.proc.type_resolution.TypeResolution.{TypeResolution}
 use Rattle.shader_resolve.proofs.ContextLemmas.{contexts_of_well_formed}
 use Rattle.shader_resolve.proofs.MemoryLemmas.{wanted}
+use Rattle.shader_resolve.proofs.StoredLemmas.{given_at}
 use Rattle.shader_resolve.specs.Context.{Context, IsInRange, TypesInRange, context_of}
 use Rattle.shader_resolve.specs.DerivesByRule.{memory_of}
 use Rattle.shader_resolve.specs.Outcome.{Given, Memory, refusal_of}
@@ -23,6 +24,7 @@ use Rattle.shader_resolve.specs.declared.error.ResolveError.{ResolveError}
 use Rattle.shader_resolve.specs.declared.error.ResolveError.TheVariants as resolve
 use Rattle.shader_passes.specs.Causes.{IsNamed}
 use Rattle.shader_expression_types.proofs.ListLemmas.{all_one_more, at_position, one_more}
+use Rattle.shader_expression_types.proofs.TypedLemmas.{derives_result, refused_or_out}
 use Rattle.shader_analysis.proofs.PositionLemmas.{found_at}
 use Rattle.shader_analysis.specs.AddedTypes.{AddsType, CanType, IsNextType, IsTypeRefusal, RunsOut, for_type, in_rule}
 use Rattle.shader_analysis.specs.Analyzed.{TypesComputed}
@@ -37,8 +39,9 @@ module _ (context : Context) (expressions : List Expression) (types : List TypeR
       (result : Result TypeResolution ResolveError) → IsOutcomeOf types memory (typing_rule context x) result → Determined memory result →
       (TypesInRange context → IfOk result (λ ty. FitsTypes context.types ty)) → IfOk result (IsNextType context expressions types)
   is_next x is memory (Ok ty) outcome reported fits = record {
-    by_rule = λ y is_y. subst (λ v. outcome_at types (typing_rule context v) ≡ Some (Given ty)) (same_Some x y (sym is ∙ is_y)) outcome;
-    derived = reported;
+    by_rule = λ y is_y. subst (λ v. outcome_at types (typing_rule context v) ≡ Some (Given ty)) (same_Some x y (sym is ∙ is_y))
+        (given_at types memory (typing_rule context x) ty outcome);
+    derived = λ first. derives_result context expressions (length types) memory ty (reported first);
     fits = fits;
   }
   is_next x is memory (Err failure) outcome reported fits = tt
@@ -46,7 +49,8 @@ module _ (context : Context) (expressions : List Expression) (types : List TypeR
   pub is_refusal : (x : Expression) → slice_get expressions (length types) ≡ Some x → (result : Result TypeResolution ResolveError) →
       Determined (memory_of x) result → IfErr result (IsTypeRefusal context expressions types)
   is_refusal x is (Ok ty) reported = tt
-  is_refusal x is (Err failure) reported = λ first. elim (reported first)
+  is_refusal x is (Err failure) reported = λ first.
+      elim (refused_or_out context expressions (length types) (memory_of x) failure (reported first))
       [ inl refused ↦ inl refused | inr out_of_memory ↦ inr (in_rule x is out_of_memory) ]
 
   -- the type that can't be stored is that of the next expression

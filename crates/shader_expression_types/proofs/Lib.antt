@@ -1,3 +1,3 @@
 mod FaultLemmas
 pub mod ListLemmas
-mod TypedLemmas
+pub mod TypedLemmas

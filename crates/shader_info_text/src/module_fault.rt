@@ -119,7 +119,7 @@ impl fmt::Display for ModuleFaultText<'_> {
             module: self.module,
             location: self.location,
         };
-        write!(f, "refused: {location}: {}\n", self.fault)
+        write!(f, "refused: {location}: {}\n", self.fault.report())
     }
 }
 

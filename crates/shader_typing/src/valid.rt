@@ -8,5 +8,6 @@ pub use shader_info::{
 };
 pub use shader_ir::proc::MAX_TYPE_SIZE;
 pub use shader_resolve::{
-    FaultAt, MOST_LEVELS, ModuleFault, ModuleLocation, check_module, find_fault, nests_within,
+    FaultAt, FaultAtReport, MOST_LEVELS, ModuleFault, ModuleFaultReport, ModuleLocation,
+    check_module, find_fault, nests_within,
 };

@@ -54,26 +54,77 @@ fn texts(rt: HostRuntime) {
         "Function main not defined",
     );
     shows(&rt, alloc, ResolveError::OutOfMemory, "OutOfMemory");
+}
+
+#[test]
+fn a_fault_shows_its_name(rt: HostRuntime) {
+    let alloc = rt.alloc();
+    for (fault, name) in [
+        (ModuleFault::HandleOutOfRange, "HandleOutOfRange"),
+        (ModuleFault::TypeNotEarlier, "TypeNotEarlier"),
+        (ModuleFault::OperandNotEarlier, "OperandNotEarlier"),
+        (ModuleFault::CalleeNotEarlier, "CalleeNotEarlier"),
+        (ModuleFault::ArgumentCount, "ArgumentCount"),
+        (ModuleFault::FilterNotEarlier, "FilterNotEarlier"),
+        (ModuleFault::ValuePointerArgument, "ValuePointerArgument"),
+        (ModuleFault::EmitRange, "EmitRange"),
+    ] {
+        shows(&rt, alloc, fault, name);
+    }
+    let location = ModuleLocation::EntryPointBody(0);
+    let found = FaultAt {
+        location,
+        fault: ModuleFault::EmitRange,
+    };
     shows(
         &rt,
         alloc,
-        ModuleFault::EmitRange,
-        "An emitted range ends past the function's expressions",
+        found,
+        "entry point 0, its statements: EmitRange",
     );
 }
 
 #[test]
-fn a_fault_shows_its_location(rt: HostRuntime) {
+fn a_report_words_the_fault(rt: HostRuntime) {
+    let alloc = rt.alloc();
+    shows(
+        &rt,
+        alloc,
+        ModuleFault::EmitRange.report(),
+        "An emitted range ends past the function's expressions",
+    );
+    shows(
+        &rt,
+        alloc,
+        ModuleFault::CalleeNotEarlier.report(),
+        "A called function isn't an earlier one",
+    );
+    shows(
+        &rt,
+        alloc,
+        ModuleFault::ArgumentCount.report(),
+        "A call gives more or fewer arguments than its function takes",
+    );
+    shows(
+        &rt,
+        alloc,
+        ModuleFault::ValuePointerArgument.report(),
+        "A function takes an argument of a value pointer type",
+    );
+}
+
+#[test]
+fn a_report_shows_the_location(rt: HostRuntime) {
     let alloc = rt.alloc();
     let location = ModuleLocation::FunctionExpression(Handle::from_index(1), Handle::from_index(2));
     let fault = ModuleFault::OperandNotEarlier;
     let text = "function [1], expression [2]: An operand is the expression itself or a later one";
-    shows(&rt, alloc, FaultAt { location, fault }, text);
+    shows(&rt, alloc, FaultAt { location, fault }.report(), text);
     let location = ModuleLocation::EntryPointBody(0);
     let fault = ModuleFault::EmitRange;
     let text =
         "entry point 0, its statements: An emitted range ends past the function's expressions";
-    shows(&rt, alloc, FaultAt { location, fault }, text);
+    shows(&rt, alloc, FaultAt { location, fault }.report(), text);
 }
 
 #[test]
