@@ -41,11 +41,9 @@ module _ (stored : List TypeResolution) (memory : Memory) where
     derivation_gives (One operand answer) keeps (Err failure, post, rest) = absurd (determines operand (Err failure) post)
     derivation_gives (Two left right answer) keeps (Ok t, post, (Ok u, last, meets)) =
         let at = determines left (Ok t) post in
-        let then = determines right (Ok u) last in (
-          answer t.now u.now,
-          rw at (rw then refl),
-          without_copy memory result (answer t.now u.now) (keeps t.now u.now (no_members left t.now at) (no_members right u.now then)) meets,
-        )
+        let then = determines right (Ok u) last in
+        let none = keeps t.now u.now (no_members left t.now at) (no_members right u.now then) in
+        (answer t.now u.now, rw at (rw then refl), without_copy memory result (answer t.now u.now) none meets)
     derivation_gives (Two left right answer) keeps (Ok t, post, (Err failure, last, rest)) =
         absurd (determines right (Err failure) last)
     derivation_gives (Two left right answer) keeps (Err failure, post, rest) = absurd (determines left (Err failure) post)
