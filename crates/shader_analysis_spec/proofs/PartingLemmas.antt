@@ -34,14 +34,13 @@ same_branch : {c : ℕ} {x y b : Body} (p : At parting (Then (If c x y) b)) → 
     (takes_branch true).accepts p ≡ (takes_branch false).accepts p
 same_branch {c} {x} {y} {b} p steady = absurd (steady (on_zero (If c x y) b p))
 
-same_case : {e : ℕ} {cs : Cases} {b : Body} (p : At parting (Then (Switch e cs) b)) →
-    (takes_branch true).selects p ≡ (takes_branch false).selects p
-same_case {e} {cs} {b} p = absurd (on_zero (Switch e cs) b p)
+no_switch : (e : ℕ) (cs : Cases) (b : Body) → At parting (Then (Switch e cs) b) → ⊥
+no_switch e cs b p = on_zero (Switch e cs) b p
 
 they_are_alike : Alike (λ e. e ≡ 0) (takes_branch true) (takes_branch false)
 they_are_alike = record {
   branches = λ p pw pv steady. same_branch p steady;
-  cases = λ p pw pv steady. same_case p;
+  cases = λ {e} {cs} {b} p pw pv steady. absurd (no_switch e cs b p);
 }
 
 no_part : (l : Simple) (x : Body) → Child (Leaf l) x → ⊥

@@ -2,7 +2,7 @@
 use Rattle.std.proofs.Common.{◌≡◌, refl, sym, ◌∙◌, ℕ, ◌+◌, ◌≤◌, ◌<◌, Bool, true, false, List}
 use Rattle.std.proofs.Common.{Option, Some, None, ◌⊎◌, inl, inr, arith, subst, IsTrue}
 use Rattle.std.proofs.lemmas.Option.{same_Some}
-use Rattle.std.proofs.Math.Nat.{eq-or-lt_of_le}
+use Rattle.std.proofs.Math.Nat.{eq-or-lt_of_le, min-eq_left, min-eq_right, min-le_right}
 use Rattle.shader_ir.specs.declared.statement.SwitchValue.{SwitchValue}
 use Rattle.shader_analysis_spec.specs.Program.{Function, Module, Step, Leaf, Simple, Emit, Break, Continue, Return, Kill, ControlBarrier}
 use Rattle.shader_analysis_spec.specs.Program.{MemoryBarrier, Store, ImageStore, Atomic, ImageAtomic, WorkGroupUniformLoad, Call, RayQuery}
@@ -32,7 +32,26 @@ use Rattle.shader_analysis_spec.proofs.KillsLemmas.{origin_within}
 use Rattle.std.specs.List.{slice_get, slice_index}
 use Rattle.std.proofs.lemmas.Option.{slice_get-get_or, slice_get_within}
 use Rattle.std.proofs.lemmas.Bool.{cases_lt}
-use Rattle.std.proofs.Common.{length, get_or}
+use Rattle.std.proofs.Common.{length, get_or, min}
+
+-- a case and those behind it are not more than all
+cases_within : {all cs : Cases} (k : CasesIn all cs) → case_number k + count cs ≡ count all
+cases_within from_first = omega arith
+cases_within (after k) = omega (arith, cases_within k)
+
+-- two walks that choose alike enter the same case
+same_case : (n a b k : ℕ) → min n a ≡ min n b → a ≡ k → k < n → b ≡ k
+same_case n a b k alike is lt = elim (cases_lt b n) [
+  | inl below ↦ sym (min-eq_right {n = b} {m = n} (omega (arith, below))) ∙ (sym alike ∙ (entered ∙ is))
+  | inr past ↦ absurd (omega (arith, lt, is, sym entered ∙ (alike ∙ min-eq_left {n = n} {m = b} (omega (arith, past)))))
+]
+  where
+    entered : min n a ≡ a
+    entered = min-eq_right {n = a} {m = n} (omega (arith, is, lt))
+
+-- and where one enters none, neither does the other
+both_past : (n a b : ℕ) → min n a ≡ min n b → n ≤ a → n ≤ b
+both_past n a b alike past = omega (arith, sym (min-eq_left {n = n} {m = a} past) ∙ alike, min-le_right n b)
 
 module _ (V K : ℕ → Type 0) (decided : (e : ℕ) → V e ⊎ (V e → ⊥)) (root : Body) where
   abbrev D : (b : Body) → At root b → Type 0
@@ -222,7 +241,7 @@ module _ (V K : ℕ → Type 0) (decided : (e : ℕ) → V e ⊎ (V e → ⊥)) 
           (X _ b p → ⊥) → Leaves v (Switch e all) b p
       of_past e all b p le pw pv nx = elim (decided e) [
         | inl ve ↦ varying_switch v e all b p ve nx
-        | inr never ↦ past (subst (λ n. count all ≤ n) (alike.cases p pw pv never) le)
+        | inr never ↦ past (both_past (count all) (w.selects p) (v.selects p) (alike.cases p pw pv never) le)
       ]
 
       -- if the first walk enters an undisrupted block, so does the second; if it reaches the end of a block that doesn't exit, so does the
@@ -233,7 +252,9 @@ module _ (V K : ℕ → Type 0) (decided : (e : ℕ) → V e ⊎ (V e → ⊥)) 
         enters_too _ _ _ p _ to_inner pw pv nd = to_inner
         enters_too _ _ _ p _ (to_accept e) pw pv nd = to_accept (sym (alike.branches p pw pv (λ vc. nd (in_branch p accepts vc))) ∙ e)
         enters_too _ _ _ p _ (to_reject e) pw pv nd = to_reject (sym (alike.branches p pw pv (λ vc. nd (in_branch p rejects vc))) ∙ e)
-        enters_too _ _ _ p _ (selected k e) pw pv nd = selected k (sym (alike.cases p pw pv (λ ve. nd (in_branch p (selects k) ve))) ∙ e)
+        enters_too _ _ _ p _ (selected {all = all} k e) pw pv nd =
+            let alike = alike.cases p pw pv (λ ve. nd (in_branch p (selects k) ve)) in
+            selected k (same_case (count all) (w.selects p) (v.selects p) (case_number k) alike e (omega (arith, cases_within k)))
         enters_too _ _ _ p _ (fallen {k = k} enters finishes) pw pv nd =
             let before = enters_too _ _ _ p (case_of k) enters pw pv (λ d. nd (fallen_into d)) in
             fallen before (finishes_too _ (inside p (case_of k)) finishes (into pw enters) (into pv before) (λ d. nd (fallen_into d))

@@ -1,5 +1,5 @@
 -- Walks through a body without loops, and noninterference between two of them.
-use Rattle.std.specs.Prelude.{◌≡◌, ℕ, suc, ◌≤◌, Bool, true, false, Option, List, IsTrue, ◌↔◌}
+use Rattle.std.specs.Prelude.{◌≡◌, ℕ, suc, min, ◌≤◌, Bool, true, false, Option, List, IsTrue, ◌↔◌}
 use Rattle.shader_ir.specs.declared.statement.SwitchValue.{SwitchValue}
 use Rattle.shader_analysis_spec.specs.Program.{Step, Leaf, Simple, Nested, If, Switch, Loop, Break, Continue}
 use Rattle.shader_analysis_spec.specs.Program.{Return, Kill, Call, Body, End, Then, Cases, NoCase, Case}
@@ -97,12 +97,13 @@ module _ {Kills : ℕ → Type 0} {root : Body} (w : Walk Kills root) where
     into : {s : Step} {b x : Body} {p : At root (Then s b)} {child : Child s x} → Passes _ p → Enters _ _ _ p child →
         Passes _ (inside p child)
 
--- two walks agree at every If and Switch that both pass and whose condition or selector has no origin
+-- two walks agree at every If and Switch that both pass and whose condition or selector has no origin; at a Switch they also agree if both
+-- enter no case, whatever their numbers
 pub record Alike (Varies : ℕ → Type 0) {Kills : ℕ → Type 0} {root : Body} (w v : Walk Kills root) : Type 0 where
   pub branches : {c : ℕ} {x y b : Body} (p : At root (Then (If c x y) b)) → Passes w _ p → Passes v _ p → (Varies c → ⊥) →
       w.accepts p ≡ v.accepts p
   pub cases : {e : ℕ} {cs : Cases} {b : Body} (p : At root (Then (Switch e cs) b)) → Passes w _ p → Passes v _ p → (Varies e → ⊥) →
-      w.selects p ≡ v.selects p
+      min (count cs) (w.selects p) ≡ min (count cs) (v.selects p)
 
 -- two walks that agree on uniform choices pass the same undisrupted path points, hence the same undisrupted Emits
 abbrev pub AlikeWalksAgree : (Varies Kills : ℕ → Type 0) → Body → Type 0
