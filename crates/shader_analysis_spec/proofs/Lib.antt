@@ -1,7 +1,6 @@
 pub mod BitsLemmas
 pub mod EarlierLemmas
 pub mod FaultLemmas
-pub mod FilterLemmas
 pub mod FindLemmas
 pub mod FlowLemmas
 pub mod Flags

@@ -12,7 +12,4 @@
 //! `Disruption` states what the definition of flow is good for: noninterference between two walks that differ in non-uniform choices alone.
 #![tactic(auto)]
 
-mod filters;
 pub mod laws;
-
-pub use filters::derivative_severity;

@@ -1,5 +1,6 @@
 pub mod CountLemmas
 pub mod FactLemmas
+pub mod FilterLemmas
 pub mod FlowLemmas
 pub mod StoredInfoLemmas
 pub mod MissingResourceLemmas

@@ -19,12 +19,12 @@ ghost use Rattle.shader_passes.specs.RecordedPairs.{HaveArguments, SameMembers, 
 ghost use Rattle.shader_analysis.specs.Analyzable.{ChecksFlow};
 
 use bitflags::Flags;
-use shader_analysis_spec::derivative_severity;
 use shader_arena::Handle;
 use shader_info::{ExpressionError, FunctionError, FunctionInfo, GlobalUse, ValidationFlags};
 use shader_ir::{Function, Items, Module, Severity, Statement, mark};
 use shader_passes::callees::{add_callee_uses, name_globals, uses_of_bits};
 use shader_passes::facts::Fact;
+use shader_passes::filters::derivative_severity;
 use shader_passes::flow::{FlowViolation, Results, flow_of_block};
 use shader_passes::pairs::Pairs;
 use shader_passes::ref_counts::RefCounts;

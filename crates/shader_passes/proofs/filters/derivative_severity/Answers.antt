@@ -1,5 +1,5 @@
-use Rattle.shader_analysis_spec.proofs.FilterLemmas.{leads_to_parent, parent_within}
-use Rattle.shader_analysis_spec.proofs.filters.derivative_severity.Goals as goal
+use Rattle.shader_passes.proofs.FilterLemmas.{leads_to_parent, parent_within}
+use Rattle.shader_passes.proofs.filters.derivative_severity.Goals as goal
 
 pub loop-next-preserved : goal.loop-next-preserved
 loop-next-preserved c =

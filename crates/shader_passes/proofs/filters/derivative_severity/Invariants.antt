@@ -1,6 +1,6 @@
 use Rattle.std.proofs.Common.{◌<◌, length, IfSome}
-use Rattle.shader_analysis_spec.proofs.FilterLemmas.{LeadsOn, height}
-use Rattle.shader_analysis_spec.proofs.filters.derivative_severity.Given as goal
+use Rattle.shader_passes.proofs.FilterLemmas.{LeadsOn, height}
+use Rattle.shader_passes.proofs.filters.derivative_severity.Given as goal
 
 abbrev pub invariant-loop-next : goal.invariant-loop-next
 invariant-loop-next l = record {
