@@ -130,10 +130,10 @@ kind_is IsCause (error.CountFull e) kind reported named = (CountFull e, named, c
 kind_is IsCause error.OutOfMemory kind reported named = cc
 
 pub refusal_is : (m : Module) (settings : Settings) (failure : AnalysisError) (report : ModuleReport) →
-    IsNamed (IsFirstFault m settings (site_of failure.location)) failure.cause → ReportsRefusal failure report →
+    IsNamed (IsFirstFault m settings (site_of failure.place)) failure.cause → ReportsRefusal failure report →
     IsModuleReport m settings report
 refusal_is m settings failure report named reported =
-    let found = kind_is (IsFirstFault m settings (site_of failure.location)) failure.cause reported.kind reported.reported named in
+    let found = kind_is (IsFirstFault m settings (site_of failure.place)) failure.cause reported.kind reported.reported named in
     subst (IsModuleReport m settings) (sym reported.refused) (record { cause = found.0; first = found.1; kind = found.2 })
 
 pub acceptance_is : (m : Module) (settings : Settings) (recorded : Recorded) (report : ModuleReport) →

@@ -59,4 +59,4 @@ reported_kind error.OutOfMemory = None
 pub record ReportsRefusal (refusal : AnalysisError) (report : ModuleReport) : Type 0 where
   pub kind : FaultKind
   pub reported : reported_kind refusal.cause ≡ Some kind
-  pub refused : report ≡ Refused refusal.location kind
+  pub refused : report ≡ Refused refusal.place kind

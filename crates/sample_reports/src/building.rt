@@ -124,7 +124,7 @@ fn refused(error: &AnalysisError) -> Result<ModuleReport, AllocError>
     ensures memory { IfErr result (λ _. error.now.cause ≡ OutOfMemory) }
 {
     match kind_of(&error.cause) {
-        Some(kind) => Ok(ModuleReport::Refused(error.location, kind)),
+        Some(kind) => Ok(ModuleReport::Refused(error.place, kind)),
         None => Err(AllocError),
     }
 }

@@ -49,7 +49,7 @@ pub record IsValidated (m : Module) (settings : Settings) (info : Recorded) : Ty
 pub record IsRefused (m : Module) (settings : Settings) (error : AnalysisError) : Type 0 where
   pub well_formed : IsWellFormed m
   pub laid_out : IsLaidOut m
-  pub first : IsNamed (IsFirstFault m settings (site_of error.location)) error.cause
+  pub first : IsNamed (IsFirstFault m settings (site_of error.place)) error.cause
   pub fault : error.cause ≢ OutOfMemory
 
 -- the error is a reason for which the module isn't valid; an allocation failure is none, and comes of a well-formed module alone

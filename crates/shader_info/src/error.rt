@@ -93,8 +93,8 @@ pub enum AnalysisLocation {
 
 /// The reason why the analysis rejects a module, and the location.
 #[derive(Debug, Drop, Error)]
-#[error("{location:?}: {cause}")]
+#[error("{place:?}: {cause}")]
 pub struct AnalysisError {
-    pub location: AnalysisLocation,
+    pub place: AnalysisLocation,
     pub cause: FunctionError,
 }

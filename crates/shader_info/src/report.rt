@@ -164,6 +164,6 @@ pub struct AnalysisReport<'a> {
 impl fmt::Display for AnalysisReport<'_> {
     fn fmt<W: fmt::Write>(&self, f: &mut fmt::Formatter<W>) -> fmt::Result {
         let report = self.error.cause.report();
-        write!(f, "{}: {report}", self.error.location)
+        write!(f, "{}: {report}", self.error.place)
     }
 }

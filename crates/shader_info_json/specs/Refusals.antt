@@ -84,4 +84,4 @@ location_text (locations.Function handle) = codes "{\"Function\":" ++ decimal ha
 location_text (locations.EntryPoint index) = codes "{\"EntryPoint\":" ++ decimal index ++ codes "}"
 
 abbrev pub refusal_text : AnalysisError → List ℕ
-refusal_text refusal = codes "{\"place\":" ++ location_text refusal.location ++ codes ",\"cause\":" ++ cause_text refusal.cause ++ codes "}"
+refusal_text refusal = codes "{\"place\":" ++ location_text refusal.place ++ codes ",\"cause\":" ++ cause_text refusal.cause ++ codes "}"

@@ -218,7 +218,7 @@ impl fmt::Display for RefusalText<'_> {
     ghost output = { λ text. Some (refusal_text text.0.now) };
 
     fn fmt<W: fmt::Write>(&self, f: &mut fmt::Formatter<W>) -> fmt::Result {
-        let (location, cause) = (LocationText(self.0.location), CauseText(&self.0.cause));
+        let (location, cause) = (LocationText(self.0.place), CauseText(&self.0.cause));
         write!(f, "{{\"place\":{location},\"cause\":{cause}}}")
     }
 }

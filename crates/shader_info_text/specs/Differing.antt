@@ -34,4 +34,4 @@ differing_in (Some f) (error.Expression e (expression.MissingCapabilities capabi
 differing_in f _ = None
 
 abbrev pub differing : Module → AnalysisError → Option ℕ
-differing m refusal = differing_in (function_at m refusal.location) refusal.cause
+differing m refusal = differing_in (function_at m refusal.place) refusal.cause

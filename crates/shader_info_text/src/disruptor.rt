@@ -32,7 +32,7 @@ pub fn differing(module: &Module, error: &AnalysisError) -> Option<Handle<mark::
         FunctionError::Expression {
             handle,
             source: ExpressionError::MissingCapabilities(_),
-        } => match function_at(module, error.location) {
+        } => match function_at(module, error.place) {
             Some(function) => index_at(function, *handle),
             None => None,
         },

@@ -161,7 +161,7 @@ impl<'a> ErrorText<'a> {
     fn faulty(self, handle: Handle<mark::Expression>) -> ExpressionAtText<'a> {
         ExpressionAtText {
             module: self.module,
-            location: self.error.location,
+            location: self.error.place,
             handle,
         }
     }
@@ -174,7 +174,7 @@ impl<'a> ErrorText<'a> {
     ) -> FlowViolationText<'a> {
         FlowViolationText {
             module: self.module,
-            location: self.error.location,
+            location: self.error.place,
             requirements,
             disruptor,
             chain: self.chain,
@@ -186,7 +186,7 @@ impl fmt::Display for ErrorText<'_> {
     fn fmt<W: fmt::Write>(&self, f: &mut fmt::Formatter<W>) -> fmt::Result {
         let location = LocationText {
             module: self.module,
-            location: self.error.location,
+            location: self.error.place,
         };
         write!(f, "refused: {location}, ")?;
         match &self.error.cause {

@@ -33,7 +33,7 @@ module _ (m : Module) where
       (record { infos = infos; exact = exact; pairs = pairs; unrestricted = unrestricted; accepted = accepted; reported = reported.1 })
 
   pub refused_is : (settings : Settings) (refusal : AnalysisError) (passes : Bool) (text : List ℕ) →
-      IsNamed (IsFirstFault m settings (site_of refusal.location)) refusal.cause
+      IsNamed (IsFirstFault m settings (site_of refusal.place)) refusal.cause
       → (passes ≡ false) × (refusal.cause ≢ OutOfMemory) × (text ≡ codes "\"refused\":" ++ refusal_text refusal)
       → IsAnalysisSection m settings passes text
   refused_is settings refusal passes text first reported =

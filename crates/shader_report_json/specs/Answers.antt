@@ -89,7 +89,7 @@ module _ (m : Module) where
   -- a fault of the first faulty location; an allocation failure is none
   pub record IsRefusalSection (settings : Settings) (text : List ℕ) : Type 0 where
     pub refusal : AnalysisError
-    pub first : IsNamed (IsFirstFault m settings (site_of refusal.location)) refusal.cause
+    pub first : IsNamed (IsFirstFault m settings (site_of refusal.place)) refusal.cause
     pub fault : refusal.cause ≢ OutOfMemory
     pub reported : text ≡ codes "\"refused\":" ++ refusal_text refusal
 

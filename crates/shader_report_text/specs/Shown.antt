@@ -48,4 +48,4 @@ ShowsFor m (Some where_) (Some e) steps = Shows m (link.Expression where_ e) ste
 ShowsFor m _ _ steps = steps ≡ []
 
 abbrev pub ShowsRefusal : Module → AnalysisError → List Step → Type 0
-ShowsRefusal m error steps = ShowsFor m (function_location error.location) (differing m error) steps
+ShowsRefusal m error steps = ShowsFor m (function_location error.place) (differing m error) steps

@@ -159,7 +159,7 @@ fn steps_of_refusal(
     requires { reasons.now ≡ «module».now }
     ensures { IfOk result (λ steps. ShowsRefusal «module».now error.now steps.items) }
 {
-    match (function_location(error.location), differing(module, error)) {
+    match (function_location(error.place), differing(module, error)) {
         (Some(location), Some(expression)) => {
             steps_from(alloc, reasons, Link::Expression(location, expression))
         }

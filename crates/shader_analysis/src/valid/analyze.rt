@@ -28,11 +28,11 @@ use std::alloc::Global;
 
 /// Returns the analysis error for a global expression without a type.
 fn type_error(handle: Handle<mark::Expression>, failure: ResolveError) -> AnalysisError
-    ensures location { result.location ≡ site.ConstExpression handle }
+    ensures place { result.place ≡ site.ConstExpression handle }
     ensures cause { result.cause ≡ untyped_error handle failure }
 {
     AnalysisError {
-        location: AnalysisLocation::ConstExpression(handle),
+        place: AnalysisLocation::ConstExpression(handle),
         cause: untyped(handle, failure),
     }
 }
@@ -63,10 +63,10 @@ fn add_type(
     ensures rest { OnOk result (info.new ≡ record info.old { global_expressions = info.new.global_expressions }) }
     ensures one { OnOk result (length info.new.global_expressions ≡ length info.old.global_expressions + 1) }
     ensures found { OnOk result (TypesComputed «module».now info.new.global_expressions) }
-    ensures location { IfErr result (λ error. error.location ≡ site.ConstExpression handle) }
-    ensures reached { IfErr result (λ error. (settings : Settings) → IsReached «module».now settings (site_of error.location)) }
+    ensures place { IfErr result (λ error. error.place ≡ site.ConstExpression handle) }
+    ensures reached { IfErr result (λ error. (settings : Settings) → IsReached «module».now settings (site_of error.place)) }
     ensures refused { IfErr result (λ error. (settings : Settings) →
-        IsNamed (IsFirstFault «module».now settings (site_of error.location)) error.cause) }
+        IsNamed (IsFirstFault «module».now settings (site_of error.place)) error.cause) }
 {
     match info.process_const_expression(handle, context, module.to_ctx()) {
         Ok(()) => Ok(()),
@@ -80,9 +80,9 @@ fn add_types(alloc: Global, module: &Module, info: &mut ModuleInfo) -> Result<()
     requires none { info.old.global_expressions ≡ [] }
     ensures rest { OnOk result (info.new ≡ record info.old { global_expressions = info.new.global_expressions }) }
     ensures types { OnOk result (AreTypes (context_of «module».now [] []) «module».now.global_expressions info.new.global_expressions) }
-    ensures reached { IfErr result (λ error. (settings : Settings) → IsReached «module».now settings (site_of error.location)) }
+    ensures reached { IfErr result (λ error. (settings : Settings) → IsReached «module».now settings (site_of error.place)) }
     ensures refused { IfErr result (λ error. (settings : Settings) →
-        IsNamed (IsFirstFault «module».now settings (site_of error.location)) error.cause) }
+        IsNamed (IsFirstFault «module».now settings (site_of error.place)) error.cause) }
 {
     let locals = Arena::new(alloc);
     let context = global_context(module, &locals);
@@ -99,14 +99,14 @@ fn add_function(
     found: FunctionInfo,
 ) -> Result<(), AnalysisError>
     ensures ok { OnOk result (info.new ≡ record info.old { functions = info.old.functions ++ found ∷ [] }) }
-    ensures location { IfErr result (λ error. error.location ≡ site.Function handle) }
+    ensures place { IfErr result (λ error. error.place ≡ site.Function handle) }
     ensures refused { IfErr result (λ error. (m : Module) (settings : Settings) →
-        IsNamed (IsFirstFault m settings (site_of error.location)) error.cause) }
+        IsNamed (IsFirstFault m settings (site_of error.place)) error.cause) }
 {
     match info.add_function(found) {
         Ok(()) => Ok(()),
         Err(_) => Err(AnalysisError {
-            location: AnalysisLocation::Function(handle),
+            place: AnalysisLocation::Function(handle),
             cause: FunctionError::OutOfMemory,
         }),
     }
@@ -119,14 +119,14 @@ fn add_entry_point(
     found: FunctionInfo,
 ) -> Result<(), AnalysisError>
     ensures ok { OnOk result (info.new ≡ record info.old { entry_points = info.old.entry_points ++ found ∷ [] }) }
-    ensures location { IfErr result (λ error. error.location ≡ site.EntryPoint index) }
+    ensures place { IfErr result (λ error. error.place ≡ site.EntryPoint index) }
     ensures refused { IfErr result (λ error. (m : Module) (settings : Settings) →
-        IsNamed (IsFirstFault m settings (site_of error.location)) error.cause) }
+        IsNamed (IsFirstFault m settings (site_of error.place)) error.cause) }
 {
     match info.add_entry_point(found) {
         Ok(()) => Ok(()),
         Err(_) => Err(AnalysisError {
-            location: AnalysisLocation::EntryPoint(index),
+            place: AnalysisLocation::EntryPoint(index),
             cause: FunctionError::OutOfMemory,
         }),
     }
@@ -148,9 +148,9 @@ fn analyze_function(
     ensures rest { OnOk result (info.new ≡ record info.old { functions = info.new.functions }) }
     ensures one { OnOk result (length info.new.functions ≡ length info.old.functions + 1) }
     ensures found { OnOk result (FunctionsAnalyzed «module».now (settings_of flags capabilities) info.new.functions) }
-    ensures location { IfErr result (λ error. error.location ≡ site.Function handle) }
-    ensures reached { IfErr result (λ error. IsReached «module».now (settings_of flags capabilities) (site_of error.location)) }
-    ensures refused { IfErr result (λ error. IsNamed (IsFirstFault «module».now (settings_of flags capabilities) (site_of error.location))
+    ensures place { IfErr result (λ error. error.place ≡ site.Function handle) }
+    ensures reached { IfErr result (λ error. IsReached «module».now (settings_of flags capabilities) (site_of error.place)) }
+    ensures refused { IfErr result (λ error. IsNamed (IsFirstFault «module».now (settings_of flags capabilities) (site_of error.place))
         error.cause) }
 {
     let location = AnalysisLocation::Function(handle);
@@ -172,8 +172,8 @@ fn add_functions(
     ensures rest { OnOk result (info.new ≡ record info.old { functions = info.new.functions }) }
     ensures all { OnOk result (length info.new.functions ≡ length «module».now.functions) }
     ensures found { OnOk result (FunctionsAnalyzed «module».now (settings_of flags capabilities) info.new.functions) }
-    ensures reached { IfErr result (λ error. IsReached «module».now (settings_of flags capabilities) (site_of error.location)) }
-    ensures refused { IfErr result (λ error. IsNamed (IsFirstFault «module».now (settings_of flags capabilities) (site_of error.location))
+    ensures reached { IfErr result (λ error. IsReached «module».now (settings_of flags capabilities) (site_of error.place)) }
+    ensures refused { IfErr result (λ error. IsNamed (IsFirstFault «module».now (settings_of flags capabilities) (site_of error.place))
         error.cause) }
 {
     for (handle, _) in module.functions.iter() {
@@ -200,9 +200,9 @@ fn analyze_entry_point(
     ensures rest { OnOk result (info.new ≡ record info.old { entry_points = info.new.entry_points }) }
     ensures one { OnOk result (length info.new.entry_points ≡ length info.old.entry_points + 1) }
     ensures found { OnOk result (EntryPointsAnalyzed «module».now (settings_of flags capabilities) info.new.entry_points) }
-    ensures location { IfErr result (λ error. error.location ≡ site.EntryPoint index) }
-    ensures reached { IfErr result (λ error. IsReached «module».now (settings_of flags capabilities) (site_of error.location)) }
-    ensures refused { IfErr result (λ error. IsNamed (IsFirstFault «module».now (settings_of flags capabilities) (site_of error.location))
+    ensures place { IfErr result (λ error. error.place ≡ site.EntryPoint index) }
+    ensures reached { IfErr result (λ error. IsReached «module».now (settings_of flags capabilities) (site_of error.place)) }
+    ensures refused { IfErr result (λ error. IsNamed (IsFirstFault «module».now (settings_of flags capabilities) (site_of error.place))
         error.cause) }
 {
     let location = AnalysisLocation::EntryPoint(index);
@@ -226,8 +226,8 @@ fn add_entry_points(
     ensures rest { OnOk result (info.new ≡ record info.old { entry_points = info.new.entry_points }) }
     ensures all { OnOk result (length info.new.entry_points ≡ length «module».now.entry_points) }
     ensures found { OnOk result (EntryPointsAnalyzed «module».now (settings_of flags capabilities) info.new.entry_points) }
-    ensures reached { IfErr result (λ error. IsReached «module».now (settings_of flags capabilities) (site_of error.location)) }
-    ensures refused { IfErr result (λ error. IsNamed (IsFirstFault «module».now (settings_of flags capabilities) (site_of error.location))
+    ensures reached { IfErr result (λ error. IsReached «module».now (settings_of flags capabilities) (site_of error.place)) }
+    ensures refused { IfErr result (λ error. IsNamed (IsFirstFault «module».now (settings_of flags capabilities) (site_of error.place))
         error.cause) }
 {
     for index in 0..module.entry_points.len() {
@@ -255,8 +255,8 @@ pub fn analyze_module(
     ensures fit { IfOk result (AllFit «module».now) }
     ensures unrestricted { IfOk result AllUnrestricted }
     ensures accepted { IfOk result (λ _. IsAccepted «module».now (settings_of flags capabilities)) }
-    ensures reached { IfErr result (λ error. IsReached «module».now (settings_of flags capabilities) (site_of error.location)) }
-    ensures refused { IfErr result (λ error. IsNamed (IsFirstFault «module».now (settings_of flags capabilities) (site_of error.location))
+    ensures reached { IfErr result (λ error. IsReached «module».now (settings_of flags capabilities) (site_of error.place)) }
+    ensures refused { IfErr result (λ error. IsNamed (IsFirstFault «module».now (settings_of flags capabilities) (site_of error.place))
         error.cause) }
 {
     let mut info = ModuleInfo::new(alloc);

@@ -222,7 +222,7 @@ impl ModuleInfo {
         ensures one_source { IfOk result (λ info. info.dual_source_blending ≡ false) }
         ensures clean { IfOk result (λ _. (f : Function) (cause : Cause) → IsFunctionAt «module».now location f →
             StepFault «module».now (infos_of (infos_before «module».now self.now location)) f (settings_of flags capabilities) cause → ⊥) }
-        ensures location { IfErr result (λ error. error.location ≡ location) }
+        ensures place { IfErr result (λ error. error.place ≡ location) }
         ensures fault { IfErr result (λ error. (f : Function) → IsFunctionAt «module».now location f →
             IsNamed (StepFault «module».now (infos_of (infos_before «module».now self.now location)) f (settings_of flags capabilities))
             error.cause) }
@@ -232,7 +232,10 @@ impl ModuleInfo {
         let infos = self.infos_before(module, &location);
         match function_info(alloc, module, infos, function, flags, capabilities) {
             Ok(info) => Ok(info),
-            Err(cause) => Err(AnalysisError { location, cause }),
+            Err(cause) => Err(AnalysisError {
+                place: location,
+                cause,
+            }),
         }
     }
 

@@ -26,13 +26,13 @@ impl ModuleInfo {
     ) -> Result<(), AnalysisError>
         ensures ok { OnOk result (self.new ≡ record self.old { functions = self.old.functions ++ found ∷ [] }) }
         ensures err { OnErr result (self.new ≡ self.old) }
-        ensures location { IfErr result (λ error. error.location ≡ site.Function handle) }
+        ensures place { IfErr result (λ error. error.place ≡ site.Function handle) }
         ensures memory { IfErr result (λ error. error.cause ≡ OutOfMemory) }
     {
         match self.add_function(found) {
             Ok(()) => Ok(()),
             Err(_) => Err(AnalysisError {
-                location: AnalysisLocation::Function(handle),
+                place: AnalysisLocation::Function(handle),
                 cause: FunctionError::OutOfMemory,
             }),
         }
@@ -57,7 +57,7 @@ impl ModuleInfo {
         ensures one { OnOk result (length self.new.functions ≡ length self.old.functions + 1) }
         ensures added { OnOk result (AddsNext «module».now self.old self.new) }
         ensures err { OnErr result (self.new ≡ self.old) }
-        ensures location { IfErr result (λ error. error.location ≡ site.Function (length self.old.functions)) }
+        ensures place { IfErr result (λ error. error.place ≡ site.Function (length self.old.functions)) }
         ensures fault { IfErr result (λ error. (f : Function) → slice_get «module».now.functions (length self.old.functions) ≡ Some f →
             IsNamed (StepFault «module».now (infos_of self.old.functions) f (settings_of flags capabilities)) error.cause) }
     {

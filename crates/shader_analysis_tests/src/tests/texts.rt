@@ -48,7 +48,7 @@ fn texts_of_disruptors(rt: HostRuntime) {
 fn an_error_shows_its_location_and_its_cause(rt: HostRuntime) {
     let alloc = rt.alloc();
     let error = AnalysisError {
-        location: AnalysisLocation::Function(Handle::from_index(1)),
+        place: AnalysisLocation::Function(Handle::from_index(1)),
         cause: FunctionError::Expression {
             handle: Handle::from_index(2),
             source: ExpressionError::Resolve(ResolveError::FunctionArgumentNotFound(1)),
@@ -64,7 +64,7 @@ fn an_error_shows_its_location_and_its_cause(rt: HostRuntime) {
 /// Asserts which sentence an error in the first entry point reports, whose last words are `why`.
 fn reports(rt: &impl Abort, alloc: Global, cause: FunctionError, what: &str, why: &str) {
     let error = AnalysisError {
-        location: AnalysisLocation::EntryPoint(0),
+        place: AnalysisLocation::EntryPoint(0),
         cause,
     };
     let sentence = error.report().to_string(alloc).expect(rt, OUT_OF_MEMORY);

@@ -167,6 +167,6 @@ fn add_location(text: &mut String, location: AnalysisLocation) -> Result<(), All
 
 /// Adds the location and the reason of the rejection.
 pub fn add_error(text: &mut String, error: &AnalysisError) -> Result<(), AllocError> {
-    add_location(text, error.location)?;
+    add_location(text, error.place)?;
     add_cause(text, &error.cause)
 }

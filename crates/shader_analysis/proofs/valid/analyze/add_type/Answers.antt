@@ -15,13 +15,13 @@ returns-in-Ok-clause-found c =
 
 pub returns-in-Err-clause-reached : goal.returns-in-Err-clause-reached
 returns-in-Err-clause-reached c = λ settings.
-    subst (λ v. IsReached c.args.module.now settings (site_of v)) (sym c.type_error.ensures.location)
+    subst (λ v. IsReached c.args.module.now settings (site_of v)) (sym c.type_error.ensures.place)
     (expression_reached c.args.module.now c.requires.well_formed c.args.info.now.global_expressions c.requires.found settings c.args.handle
     c.requires.next c.requires.there)
 
 pub returns-in-Err-clause-refused : goal.returns-in-Err-clause-refused
 returns-in-Err-clause-refused c = λ settings.
-    subst (λ v. IsNamed (IsFirstFault c.args.module.now settings (site_of v)) c.type_error.result.cause) (sym c.type_error.ensures.location)
+    subst (λ v. IsNamed (IsFirstFault c.args.module.now settings (site_of v)) c.type_error.result.cause) (sym c.type_error.ensures.place)
     (subst (λ v. IsNamed (IsFirstFault c.args.module.now settings (OfGlobalExpression c.args.handle)) v) (sym c.type_error.ensures.cause)
     (refused_type c.args.module.now c.requires.well_formed c.args.context.now c.to_ctx.result.global_expressions.now c.requires.context
     c.to_ctx.ensures.global_expressions

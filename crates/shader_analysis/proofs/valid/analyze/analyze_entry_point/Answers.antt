@@ -18,7 +18,7 @@ pub returns-in_err-found-clause-reached : goal.returns-in_err-found-clause-reach
 returns-in_err-found-clause-reached c =
     passed_on _ c.from_residual.result c.from_residual.ensures.1
     (subst (λ v. IsReached c.args.module.now (settings_of c.args.flags c.args.capabilities) (site_of v))
-    (sym c.in_err-found.ensures.location)
+    (sym c.in_err-found.ensures.place)
     (entry_point_is_reached c.args.module.now (settings_of c.args.flags c.args.capabilities) c.requires.well_formed c.args.info.now
     c.requires.types c.requires.functions c.requires.all c.requires.found c.args.index c.requires.next c.requires.there))
 
@@ -27,7 +27,7 @@ returns-in_err-found-clause-refused c =
     passed_on _ c.from_residual.result c.from_residual.ensures.1
     (subst (λ v. IsNamed (IsFirstFault c.args.module.now (settings_of c.args.flags c.args.capabilities) (site_of v))
     c.in_err-found.field-0.0.cause)
-    (sym c.in_err-found.ensures.location)
+    (sym c.in_err-found.ensures.place)
     (entry_point_refused c.args.module.now (settings_of c.args.flags c.args.capabilities) c.requires.well_formed c.args.info.now
     c.requires.types c.requires.functions c.requires.all c.requires.found c.args.index c.requires.next c.requires.there
     c.in_err-found.field-0.0.cause c.in_err-found.ensures.fault))
@@ -46,7 +46,7 @@ returns-clause-reached c = IfErr-weaker c.add_entry_point.result _ _ (λ error i
     subst (λ v. IsReached c.args.module.now (settings_of c.args.flags c.args.capabilities) (site_of v)) (sym is)
     (entry_point_is_reached c.args.module.now (settings_of c.args.flags c.args.capabilities) c.requires.well_formed c.args.info.now
     c.requires.types c.requires.functions c.requires.all c.requires.found c.args.index c.requires.next c.requires.there))
-    c.add_entry_point.ensures.location
+    c.add_entry_point.ensures.place
 
 pub returns-clause-refused : goal.returns-clause-refused
 returns-clause-refused c = IfErr-weaker c.add_entry_point.result _ _ (λ error reported.

@@ -18,7 +18,7 @@ pub returns-in_err-found-clause-reached : goal.returns-in_err-found-clause-reach
 returns-in_err-found-clause-reached c =
     passed_on _ c.from_residual.result c.from_residual.ensures.1
     (subst (λ v. IsReached c.args.module.now (settings_of c.args.flags c.args.capabilities) (site_of v))
-    (sym c.in_err-found.ensures.location)
+    (sym c.in_err-found.ensures.place)
     (function_is_reached c.args.module.now (settings_of c.args.flags c.args.capabilities) c.requires.well_formed c.args.info.now
     c.requires.types c.requires.found c.args.handle c.requires.next c.requires.there))
 
@@ -27,7 +27,7 @@ returns-in_err-found-clause-refused c =
     passed_on _ c.from_residual.result c.from_residual.ensures.1
     (subst (λ v. IsNamed (IsFirstFault c.args.module.now (settings_of c.args.flags c.args.capabilities) (site_of v))
     c.in_err-found.field-0.0.cause)
-    (sym c.in_err-found.ensures.location)
+    (sym c.in_err-found.ensures.place)
     (function_refused c.args.module.now (settings_of c.args.flags c.args.capabilities) c.requires.well_formed c.args.info.now
     c.requires.types c.requires.found c.args.handle c.requires.next c.requires.there
     c.in_err-found.field-0.0.cause c.in_err-found.ensures.fault))
@@ -44,7 +44,7 @@ pub returns-clause-reached : goal.returns-clause-reached
 returns-clause-reached c = IfErr-weaker c.add_function.result _ _ (λ error is.
     subst (λ v. IsReached c.args.module.now (settings_of c.args.flags c.args.capabilities) (site_of v)) (sym is)
     (function_is_reached c.args.module.now (settings_of c.args.flags c.args.capabilities) c.requires.well_formed c.args.info.now
-    c.requires.types c.requires.found c.args.handle c.requires.next c.requires.there)) c.add_function.ensures.location
+    c.requires.types c.requires.found c.args.handle c.requires.next c.requires.there)) c.add_function.ensures.place
 
 pub returns-clause-refused : goal.returns-clause-refused
 returns-clause-refused c = IfErr-weaker c.add_function.result _ _ (λ error reported.
