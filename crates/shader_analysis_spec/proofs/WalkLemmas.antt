@@ -43,7 +43,7 @@ cases_within (after k) = omega (arith, cases_within k)
 same_case : (n a b k : ℕ) → min n a ≡ min n b → a ≡ k → k < n → b ≡ k
 same_case n a b k alike is lt = elim (cases_lt b n) [
   | inl below ↦ sym (min-eq_right {n = b} {m = n} (omega (arith, below))) ∙ (sym alike ∙ (entered ∙ is))
-  | inr past ↦ absurd (omega (arith, lt, is, sym entered ∙ (alike ∙ min-eq_left {n = n} {m = b} (omega (arith, past)))))
+  | inr beyond ↦ absurd (omega (arith, lt, is, sym entered ∙ (alike ∙ min-eq_left {n = n} {m = b} (omega (arith, beyond)))))
 ]
   where
     entered : min n a ≡ a
@@ -51,7 +51,7 @@ same_case n a b k alike is lt = elim (cases_lt b n) [
 
 -- and where one enters none, neither does the other
 both_past : (n a b : ℕ) → min n a ≡ min n b → n ≤ a → n ≤ b
-both_past n a b alike past = omega (arith, sym (min-eq_left {n = n} {m = a} past) ∙ alike, min-le_right n b)
+both_past n a b alike outside = omega (arith, sym (min-eq_left {n = n} {m = a} outside) ∙ alike, min-le_right n b)
 
 module _ (V K : ℕ → Type 0) (decided : (e : ℕ) → V e ⊎ (V e → ⊥)) (root : Body) where
   abbrev D : (b : Body) → At root b → Type 0

@@ -1,3 +1,4 @@
+pub mod Copies
 pub mod Fit
 pub mod Recorded
 pub mod Uses

@@ -19,16 +19,20 @@ Dominates uses others = (global : ℕ) (at other : GlobalUse) → slice_get uses
 abbrev pub is_used_for : FunctionInfo → GlobalUse → ℕ → Bool
 is_used_for info uses global = unwrap_or (option_map (λ at. includes at uses) (slice_get info.global_uses global)) false
 
+-- the recorded uses of some global contain all of the given ones
+abbrev pub IsAnyUsed : FunctionInfo → GlobalUse → Type 0
+IsAnyUsed info uses = (global : ℕ) × IsTrue (is_used_for info uses global)
+
 -- the globals whose recorded uses contain all of the given ones, in ascending order
 pub record AreUsed (info : FunctionInfo) (uses : GlobalUse) (globals : List ℕ) : Type 0 where
   pub ascending : IsStrictlyIncreasing globals
   pub members : (global : ℕ) → Contains globals global ↔ ((global < most_items) × IsTrue (is_used_for info uses global))
 
--- the image and the sampler, at least one of which is an argument, are recorded
+-- the pair is recorded in `sampling`
 abbrev pub IsSampled : FunctionInfo → GlobalOrArgument → GlobalOrArgument → Type 0
 IsSampled info image sampler = Contains info.sampling.keys (record { image = image; sampler = sampler })
 
--- the image and the sampler, both globals, are recorded
+-- the pair is recorded in `sampling_set`
 abbrev pub IsSampledKey : FunctionInfo → ℕ → ℕ → Type 0
 IsSampledKey info image sampler = Contains info.sampling_set.keys (record { image = image; sampler = sampler })
 

@@ -1,5 +1,5 @@
 //! Results of the analysis for a function and its expressions.
-ghost use Rattle.std.specs.Prelude.{◌≡◌, ◌↔◌, length, IsOk, IsTrue, IfOk};
+ghost use Rattle.std.specs.Prelude.{◌≡◌, ◌↔◌, length, IsOk, IsTrue, IfErr, IfOk};
 ghost use Rattle.std.specs.List.{list_all, zip};
 ghost use Rattle.shader_info.specs.Uses.{includes};
 ghost use Rattle.shader_ir.specs.Key.{HoldsNoMembers};
@@ -13,9 +13,10 @@ use std::alloc::{AllocError, Global};
 use std::collections::{BTreeSet, HashSet};
 use std::ops::Index;
 
-/// An expression that makes a value differ among invocations, or `None` if the value is uniform.
+/// An expression that makes a value differ among invocations, or `None` if no source is recorded.
 ///
-/// After the result of a call it may be an expression of the callee.
+/// After the result of a call it may be an expression of the callee. Where none is recorded the value may differ all the same: a function
+/// that returns early for some invocations records none for its constant results.
 pub type NonUniformResult = Option<Handle<mark::Expression>>;
 
 /// The uniformity of a value, and the requirements of its computation on control flow.
@@ -120,7 +121,7 @@ fn dominates(uses: &[GlobalUse], others: &[GlobalUse]) -> bool
 impl FunctionInfo {
     ghost use Rattle.std.specs.Prelude.{min};
     ghost use Rattle.shader_arena.specs.Positions.{most_items};
-    ghost use Rattle.shader_info.specs.Recorded.{ArePairsOf, AreUsed, Dominates, IsSampled, IsSampledKey, SameInfo, is_used_for};
+    ghost use Rattle.shader_info.specs.Recorded.{ArePairsOf, AreUsed, Dominates, IsAnyUsed, IsSampled, IsSampledKey, SameInfo, is_used_for};
 
     /// Returns the number of the module's global variables.
     pub fn global_variable_count(&self) -> usize
@@ -160,13 +161,14 @@ impl FunctionInfo {
     ///
     /// # Errors
     ///
-    /// `AllocError` if memory for the handles is refused.
+    /// `AllocError` if memory for the handles is refused. None is taken if no global is used so.
     pub fn globals_used(
         &self,
         alloc: Global,
         uses: GlobalUse,
     ) -> Result<Vec<Handle<mark::GlobalVariable>>, AllocError>
-        ensures { IfOk result (λ globals. AreUsed self.now uses globals.items) }
+        ensures used { IfOk result (λ globals. AreUsed self.now uses globals.items) }
+        ensures memory { IfErr result (λ _. IsAnyUsed self.now uses) }
     {
         let mut globals = Vec::new(alloc);
         for global in self.global_range().iter() {
@@ -184,15 +186,15 @@ impl FunctionInfo {
         dominates(self.global_uses.as_slice(), other.global_uses.as_slice())
     }
 
-    /// Returns whether the pair is among those with an argument. `sampling_set` has the pairs of two global variables.
+    /// Returns whether the pair is in `sampling`, where the analysis records those with an argument. `sampling_set` has the pairs of two
+    /// global variables.
     pub fn has_sampling(&self, image: GlobalOrArgument, sampler: GlobalOrArgument) -> bool
         ensures { IsTrue result ↔ IsSampled self.now image sampler }
     {
         self.sampling.contains(&Sampling { image, sampler })
     }
 
-    /// Checks whether `sampling_set` has the pair of a global image and a global sampler. `has_sampling` looks among the pairs of which
-    /// one is an argument.
+    /// Checks whether `sampling_set` has the pair of a global image and a global sampler. `has_sampling` looks in `sampling`.
     pub fn has_sampling_key(
         &self,
         image: Handle<mark::GlobalVariable>,

@@ -1,6 +1,7 @@
 //! The results of the analysis of functions, and its errors.
 #![tactic(auto)]
 
+mod copies;
 mod error;
 mod fits;
 mod flags;

@@ -5,8 +5,8 @@ use Rattle.shader_info.specs.Recorded.{is_used_for}
 use Rattle.shader_info.proofs.UsedLemmas.{used_reported}
 use Rattle.shader_info.proofs.info.FunctionInfo.globals_used.Goals as goal
 
-pub returns : goal.returns
-returns c =
+pub returns-clause-used : goal.returns-clause-used
+returns-clause-used c =
     let found = c.loop-global.globals.items in
     let used = filter (is_used_for c.args.self.now c.args.uses) in
     let none_left : c.loop-global.global-iterator ≡ [] = search rules in
