@@ -1,4 +1,5 @@
 pub mod AnalyzableLemmas
+pub mod LayoutLemmas
 pub mod FewNeeds
 pub mod RefusalLemmas
 pub mod InfoLemmas

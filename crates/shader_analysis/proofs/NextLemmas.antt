@@ -25,6 +25,7 @@ use Rattle.shader_analysis.proofs.PositionLemmas.{found_at}
 use Rattle.shader_analysis.specs.Analyzable.{AreStored}
 use Rattle.shader_analysis.specs.Analyzed.{EntryPointsAnalyzed, FunctionsAnalyzed}
 use Rattle.shader_analysis.specs.Fitting.{AllFit, AllUnrestricted, IsUnrestricted}
+use Rattle.shader_analysis.specs.Growth.{AddsNext}
 use Rattle.shader_analysis.specs.Recording.{RecordsAllPairs}
 use Rattle.shader_analysis.specs.Processed.{CanProcess, IsFunctionAt, functions_before, infos_before}
 use Rattle.shader_analysis.specs.Reached.{IsReached}
@@ -49,51 +50,30 @@ module _ (m : Module) (settings : Settings) (well : IsWellFormed m) (recorded : 
       P (infos_before m recorded at) → P recorded.functions
   over_all P at all reported = subst P (all_of recorded.functions (functions_before m at) all) reported
 
-  module _ (i : ℕ) (next : i ≡ length recorded.functions) (there : i < length m.functions) where
-    the_function : (f : Function) × (slice_get m.functions i ≡ Some f)
-    the_function = found_at m.functions i there
+  module _ (there : length recorded.functions < length m.functions) where
+    the_function : (f : Function) × (slice_get m.functions (length recorded.functions) ≡ Some f)
+    the_function = found_at m.functions (length recorded.functions) there
 
-    is_next : slice_get m.functions (length recorded.functions) ≡ Some the_function.0
-    is_next = ap (slice_get m.functions) (sym next) ∙ the_function.1
+    pub function_added : (more : Recorded) → AddsNext m settings recorded more → FunctionsAnalyzed m settings more.functions
+    function_added more adds =
+        let (f, is_f) = the_function in
+        subst (λ (v : Recorded). FunctionsAnalyzed m settings v.functions) (sym adds.added)
+        (next_function m settings well recorded.global_expressions are recorded.functions before f is_f adds.info (adds.steps f is_f)
+        adds.with_arguments adds.unrestricted (adds.fits f is_f) (λ cause. adds.clean f cause is_f))
 
-    pub can_process_function : CanProcess m recorded (site.Function i)
-    can_process_function = can_process (site.Function i) the_function.0 the_function.1 next
-
-    pub function_found : (info : FunctionInfo) →
-        ((f : Function) → IsFunctionAt m (site.Function i) f →
-        MeetsSteps m (infos_of (infos_before m recorded (site.Function i))) f (info_of info)) →
-        HaveArguments info.sampling.keys → IsUnrestricted info → ((f : Function) → IsFunctionAt m (site.Function i) f → Fits m f info) →
-        ((f : Function) (cause : Cause) → IsFunctionAt m (site.Function i) f →
-        StepFault m (infos_of (infos_before m recorded (site.Function i))) f settings cause → ⊥) →
-        (functions : List FunctionInfo) → functions ≡ recorded.functions ++ info ∷ [] → FunctionsAnalyzed m settings functions
-    function_found info steps apart unrestricted fits clean functions are_now =
-        let f = the_function.0 in
-        let is_f = the_function.1 in
-        let now : MeetsSteps m (infos_of recorded.functions) f (info_of info) =
-        over_all (λ v. MeetsSteps m (infos_of v) f (info_of info)) (site.Function i) next (steps f is_f) in
-        let none : (cause : Cause) → StepFault m (infos_of recorded.functions) f settings cause → ⊥ =
-        over_all (λ v. (cause : Cause) → StepFault m (infos_of v) f settings cause →
-        ⊥) (site.Function i) next (λ cause. clean f cause is_f) in
-        subst (FunctionsAnalyzed m settings) (sym are_now)
-        (next_function m settings well recorded.global_expressions are recorded.functions before f is_next info now apart
-        unrestricted (fits f is_f) none)
-
-    pub function_is_reached : IsReached m settings (OfFunction i)
-    function_is_reached = subst (λ v. IsReached m settings (OfFunction v)) (sym next)
-        (function_reached m settings well recorded.global_expressions are recorded.functions before the_function.0 is_next)
+    pub function_is_reached : IsReached m settings (OfFunction (length recorded.functions))
+    function_is_reached =
+        function_reached m settings well recorded.global_expressions are recorded.functions before the_function.0 the_function.1
 
     pub function_refused : (failure : FunctionError) →
-        ((f : Function) → IsFunctionAt m (site.Function i) f →
-        IsNamed (StepFault m (infos_of (infos_before m recorded (site.Function i))) f settings) failure) →
-        IsNamed (IsFirstFault m settings (OfFunction i)) failure
+        ((f : Function) → slice_get m.functions (length recorded.functions) ≡ Some f →
+        IsNamed (StepFault m (infos_of recorded.functions) f settings) failure) →
+        IsNamed (IsFirstFault m settings (OfFunction (length recorded.functions))) failure
     function_refused failure reported =
-        let f = the_function.0 in
-        let fault : IsNamed (StepFault m (infos_of recorded.functions) f settings) failure =
-        over_all (λ v. IsNamed (StepFault m (infos_of v) f settings) failure) (site.Function i) next (reported f the_function.1) in
-        subst (λ v. IsNamed (IsFirstFault m settings (OfFunction v)) failure) (sym next)
-        (named_more (StepFault m (infos_of recorded.functions) f settings)
+        let (f, is_f) = the_function in
+        named_more (StepFault m (infos_of recorded.functions) f settings)
         (IsFirstFault m settings (OfFunction (length recorded.functions)))
-        (first_in_function m settings well recorded.global_expressions are recorded.functions before f is_next) failure fault)
+        (first_in_function m settings well recorded.global_expressions are recorded.functions before f is_f) failure (reported f is_f)
 
   module _ (all : length recorded.functions ≡ length m.functions) (entries : EntryPointsAnalyzed m settings recorded.entry_points) (i : ℕ)
       (next : i ≡ length recorded.entry_points) (there : i < length m.entry_points) where

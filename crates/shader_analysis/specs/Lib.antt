@@ -1,6 +1,7 @@
 pub mod AddedTypes
 pub mod Analyzable
 pub mod Analyzed
+pub mod Copies
 pub mod Fitting
 pub mod Growth
 pub mod Recording

@@ -2,6 +2,7 @@
 
 mod analyze;
 mod analyzer;
+mod copies;
 mod module_info;
 mod next;
 mod validation;

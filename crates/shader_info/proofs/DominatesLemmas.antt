@@ -1,8 +1,8 @@
 -- Comparison of two lists of uses, position by position.
-use Rattle.std.proofs.Common.{◌≡◌, refl, ap, subst, ◌∙◌, ℕ, zero, suc, Bool, true, List, [], ◌∷◌, Some, None}
+use Rattle.std.proofs.Common.{◌≡◌, refl, ap, subst, ◌∙◌, zero, suc, Bool, true, List, [], ◌∷◌}
 use Rattle.std.proofs.lemmas.Bool.{and_parts}
 use Rattle.std.proofs.lemmas.Option.{none-some, same_Some}
-use Rattle.std.specs.List.{list_all, slice_get, zip}
+use Rattle.std.specs.List.{list_all, zip}
 use Rattle.std.proofs.Math.Bool.{◌&&◌}
 use Rattle.shader_info.specs.declared.flags.GlobalUse.{GlobalUse}
 use Rattle.shader_info.specs.Recorded.{Dominates}

@@ -1,7 +1,7 @@
 -- The globals with given uses, among those that a handle may have.
 use Rattle.std.proofs.Common.{◌≡◌, ◌+◌, ◌<◌, ◌⊎◌, inl, inr, refl, sym, subst, arith, ℕ, Bool, true, false, List, [], ◌∷◌, length, min, cond}
-use Rattle.std.proofs.Common.{Option, Some, None, slice_get, unwrap_or}
-use Rattle.std.specs.List.{All, Contains, filter}
+use Rattle.std.proofs.Common.{Option, unwrap_or}
+use Rattle.std.specs.List.{Contains, filter}
 use Rattle.std.specs.Option.{option_map}
 use Rattle.std.proofs.Math.Nat.{le-min, min-le_right}
 use Rattle.std.proofs.lemmas.List.Elements.{All-contains, All-contains_itself, All-filter, filter_passes}

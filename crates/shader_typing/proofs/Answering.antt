@@ -35,6 +35,11 @@ picked : (P : Function → ℕ → Type 0) (o : Option ℕ) → IsWitness (λ h.
 picked P (Some h) picks = (λ _. (picks.0, h, picks.1), λ _. refl)
 picked P None picks = (λ e. absurd (cc), λ v. absurd (picks v.1 (v.0, v.2)))
 
+-- a number that is picked has the property
+picked_has : (P : ℕ → Type 0) (o : Option ℕ) → IsWitness P o → (h : ℕ) → o ≡ Some h → P h
+picked_has P (Some k) picks h is = subst P (same_Some k h is) picks
+picked_has P None picks h is = absurd (cc)
+
 pub function_count : (m : Module) (info : Recorded) → IsExactRecord m info → length info.functions ≡ length m.functions
 function_count m info known = sym (length-map info.functions info_of) ∙ known.exact.each_function
 
@@ -58,6 +63,11 @@ module _ (m : Module) (f : Function) (of : FunctionInfo) (exact : IsExact m f (i
   counted : (e : ℕ) (x : ExpressionInfo) → e < length f.expressions → slice_get of.expressions e ≡ Some x → x.ref_count ≡ count_of f e
   counted e x there at = same_Some _ _ (sym (mapped (λ (v : ExpressionInfo). v.ref_count) of.expressions e x at) ∙ exact.counts e there)
 
+  origin_of : (e : ℕ) (x : ExpressionInfo) → slice_get of.expressions e ≡ Some x →
+      IsWitness (λ h. (r : Function) × Origin m f e r h) x.uniformity.non_uniform_result
+  origin_of e x at = exact.origins e x.uniformity.non_uniform_result
+      (mapped (λ (v : ExpressionInfo). v.uniformity.non_uniform_result) of.expressions e x at)
+
   expression_answers : length of.expressions ≡ length f.expressions → (e : ℕ) (x : ExpressionInfo) →
       slice_get of.expressions e ≡ Some x → ExpressionAnswers m f e x
   expression_answers all e x at =
@@ -65,8 +75,8 @@ module _ (m : Module) (f : Function) (of : FunctionInfo) (exact : IsExact m f (i
       record {
         derived = exact.types.derived e x.ty (mapped (λ (v : ExpressionInfo). v.ty) of.expressions e x at);
         count = counted e x there at;
-        varies = picked (Origin m f e) x.uniformity.non_uniform_result (exact.origins e x.uniformity.non_uniform_result
-            (mapped (λ (v : ExpressionInfo). v.uniformity.non_uniform_result) of.expressions e x at));
+        varies = picked (Origin m f e) x.uniformity.non_uniform_result (origin_of e x at);
+        source = picked_has (λ h. (r : Function) × Origin m f e r h) x.uniformity.non_uniform_result (origin_of e x at);
         needs = λ n. subst (λ b. IsBitSet b (bit_of_need n) ↔ ExpressionNeeds m n f e)
             (bits_at (λ (v : ExpressionInfo). v.uniformity.requirements.0) of.expressions e x at) (exact.expression_needs n e there);
       }
@@ -86,9 +96,12 @@ info_answers m info at f of known is recorded =
       each_expression = expression_answers m f of exact fits.expressions;
       uses = uses_at m f of exact;
       pairs = (known.pairs at f of is recorded).of_globals;
+      pairs_with_arguments = (known.pairs at f of is recorded).with_arguments;
       varies = picked (ResultOrigin m f) of.uniformity.non_uniform_result exact.result;
+      source = picked_has (λ h. (r : Function) × ResultOrigin m f r h) of.uniformity.non_uniform_result exact.result;
       needs = exact.needs;
       kills = exact.kills;
+      unrestricted = known.unrestricted at of recorded;
     }
 
 pub exact_records_answer : ExactRecordsAnswer

@@ -37,7 +37,7 @@ pub fn accepted_walks_agree()
 {}
 
 /// States that an exact record, which `analyze_module` returns, has an info of each function and entry point, and that each field of an
-/// info answers by the definition over all call paths.
+/// info answers by the definition over all call paths. The stages and the blending are the same for all infos.
 pub fn exact_records_answer()
     ensures { ExactRecordsAnswer }
 {}

@@ -92,26 +92,6 @@ fn add_types(alloc: Global, module: &Module, info: &mut ModuleInfo) -> Result<()
     Ok(())
 }
 
-/// Adds the info of the next function.
-fn add_function(
-    handle: Handle<mark::Function>,
-    info: &mut ModuleInfo,
-    found: FunctionInfo,
-) -> Result<(), AnalysisError>
-    ensures ok { OnOk result (info.new ≡ record info.old { functions = info.old.functions ++ found ∷ [] }) }
-    ensures place { IfErr result (λ error. error.place ≡ site.Function handle) }
-    ensures refused { IfErr result (λ error. (m : Module) (settings : Settings) →
-        IsNamed (IsFirstFault m settings (site_of error.place)) error.cause) }
-{
-    match info.add_function(found) {
-        Ok(()) => Ok(()),
-        Err(_) => Err(AnalysisError {
-            place: AnalysisLocation::Function(handle),
-            cause: FunctionError::OutOfMemory,
-        }),
-    }
-}
-
 /// Adds the info of the next entry point.
 fn add_entry_point(
     index: usize,
@@ -132,32 +112,6 @@ fn add_entry_point(
     }
 }
 
-/// Analyses the next function and adds its info.
-fn analyze_function(
-    module: &Module,
-    handle: Handle<mark::Function>,
-    flags: ValidationFlags,
-    capabilities: Capabilities,
-    info: &mut ModuleInfo,
-) -> Result<(), AnalysisError>
-    requires well_formed { IsWellFormed «module».now }
-    requires types { AreTypes (context_of «module».now [] []) «module».now.global_expressions info.old.global_expressions }
-    requires next { handle ≡ length info.old.functions }
-    requires there { handle < length «module».now.functions }
-    requires found { FunctionsAnalyzed «module».now (settings_of flags capabilities) info.old.functions }
-    ensures rest { OnOk result (info.new ≡ record info.old { functions = info.new.functions }) }
-    ensures one { OnOk result (length info.new.functions ≡ length info.old.functions + 1) }
-    ensures found { OnOk result (FunctionsAnalyzed «module».now (settings_of flags capabilities) info.new.functions) }
-    ensures place { IfErr result (λ error. error.place ≡ site.Function handle) }
-    ensures reached { IfErr result (λ error. IsReached «module».now (settings_of flags capabilities) (site_of error.place)) }
-    ensures refused { IfErr result (λ error. IsNamed (IsFirstFault «module».now (settings_of flags capabilities) (site_of error.place))
-        error.cause) }
-{
-    let location = AnalysisLocation::Function(handle);
-    let found = info.process_function(location, module, flags, capabilities)?;
-    add_function(handle, info, found)
-}
-
 /// Adds the infos of all functions.
 #[tactic(auto, using(crate::proofs::NextLemmas::no_functions))]
 fn add_functions(
@@ -176,8 +130,8 @@ fn add_functions(
     ensures refused { IfErr result (λ error. IsNamed (IsFirstFault «module».now (settings_of flags capabilities) (site_of error.place))
         error.cause) }
 {
-    for (handle, _) in module.functions.iter() {
-        analyze_function(module, handle, flags, capabilities, info)?;
+    while info.function_count() < module.functions.len() {
+        info.add_next(module, flags, capabilities)?;
     }
     Ok(())
 }
@@ -240,8 +194,8 @@ fn add_entry_points(
 ///
 /// # Errors
 ///
-/// A fault of the first faulty location; or an allocation failure, with the location where it happened, before which there is no fault. No
-/// partial result is returned.
+/// A fault of the first faulty location; or an allocation failure, with a location before which there is no fault. No partial result is
+/// returned.
 pub fn analyze_module(
     alloc: Global,
     module: &Module,

@@ -11,16 +11,18 @@ ghost use Rattle.shader_passes.specs.InfoOf.{info_of, infos_of};
 ghost use Rattle.shader_passes.specs.RecordedPairs.{HaveArguments};
 ghost use Rattle.shader_resolve.specs.declared.error.ResolveError.TheVariants as refusal;
 ghost use Rattle.shader_analysis.specs.AddedTypes.{AddsType, CanType, IsNextType, IsTypeRefusal};
+ghost use Rattle.shader_analysis.specs.Copies.{SameRecord};
 ghost use Rattle.shader_analysis.specs.Processed.{CanProcess, HasFunction, IsFunctionAt, functions_before, infos_before};
 
 use crate::valid::analyzer::function_info;
+use crate::valid::copies::{copy_infos, copy_types};
 use shader_arena::Handle;
 use shader_expression_types::type_of;
 use shader_info::{AnalysisError, AnalysisLocation, Capabilities, FunctionInfo, ValidationFlags};
 use shader_ir::proc::TypeResolution;
 use shader_ir::{Function, GlobalCtx, Module, mark};
 use shader_resolve::{ResolveContext, ResolveError};
-use std::alloc::{AllocFailed, Global};
+use std::alloc::{AllocError, AllocFailed, Global};
 use std::marker::Model;
 use std::ops::Index;
 
@@ -98,6 +100,21 @@ impl ModuleInfo {
             entry_points: Vec::new(alloc),
             global_expressions: Vec::new(alloc),
         }
+    }
+
+    /// Returns an equal record.
+    ///
+    /// # Errors
+    ///
+    /// `AllocError` if allocating a list, or copying an info or a type, fails.
+    pub fn copy(&self, alloc: Global) -> Result<ModuleInfo, AllocError>
+        ensures { IfOk result (SameRecord self.now) }
+    {
+        Ok(ModuleInfo {
+            functions: copy_infos(alloc, self.functions.as_slice())?,
+            entry_points: copy_infos(alloc, self.entry_points.as_slice())?,
+            global_expressions: copy_types(alloc, self.global_expressions.as_slice())?,
+        })
     }
 
     /// Returns the number of functions that have an info. They are the first of the module's.

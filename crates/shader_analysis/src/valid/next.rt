@@ -38,11 +38,11 @@ impl ModuleInfo {
         }
     }
 
-    /// Analyses the function that comes next, that at `function_count`, and adds its info.
+    /// Analyses the function that comes next, that at `function_count`, given the infos of those before it, and adds its info.
     ///
     /// # Errors
     ///
-    /// Those of `process_function`, or an allocation failure. Then nothing is added.
+    /// A fault of the function, as of `process_function`; or an allocation failure. Then nothing is added.
     #[tactic(auto, using(crate::proofs::Growing::next_can_be_processed, crate::proofs::Growing::next_is_stored))]
     pub fn add_next(
         &mut self,
@@ -55,7 +55,7 @@ impl ModuleInfo {
         requires stored { AreStored «module».now self.old.functions }
         ensures stored { AreStored «module».now self.new.functions }
         ensures one { OnOk result (length self.new.functions ≡ length self.old.functions + 1) }
-        ensures added { OnOk result (AddsNext «module».now self.old self.new) }
+        ensures added { OnOk result (AddsNext «module».now (settings_of flags capabilities) self.old self.new) }
         ensures err { OnErr result (self.new ≡ self.old) }
         ensures place { IfErr result (λ error. error.place ≡ site.Function (length self.old.functions)) }
         ensures fault { IfErr result (λ error. (f : Function) → slice_get «module».now.functions (length self.old.functions) ≡ Some f →

@@ -88,7 +88,7 @@ pub fn is_fault(cause: &FunctionError) -> bool
 /// # Errors
 ///
 /// The reason why the module isn't valid, the first of the three that occurs: a violation of well-formedness, the first type without a
-/// layout, or a fault of the first faulty location; or an allocation failure.
+/// layout, or a fault of the first faulty location. Or an allocation failure, before any type without a layout or any faulty location.
 pub fn validate(
     alloc: Global,
     module: &Module,

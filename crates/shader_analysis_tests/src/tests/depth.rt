@@ -1,8 +1,10 @@
 //! Tests of blocks nested 200 deep, which no JSON text may have.
 use crate::tests::infos::OUT_OF_MEMORY;
 use shader_analysis::{ModuleInfo, analyze_module};
+use shader_arena::Handle;
 use shader_info::{
-    AnalysisError, Capabilities, FunctionError, UniformityDisruptor, ValidationFlags,
+    AnalysisError, AnalysisLocation, Capabilities, FunctionError, UniformityDisruptor,
+    UniformityRequirements, ValidationFlags,
 };
 use shader_ir::{Block, Module, Statement};
 use shader_resolve::check_module;
@@ -43,20 +45,30 @@ fn analyzed(
     answer
 }
 
-fn is_behind_kill(cause: &FunctionError) -> bool {
-    match cause {
-        FunctionError::NonUniformControlFlow(_, _, disruptor) => {
-            matches!(disruptor, UniformityDisruptor::Discard)
-        }
+/// Returns whether the first function is refused for the matrix, expression 4, which it loads behind a `Kill`.
+fn is_behind_kill(error: &AnalysisError) -> bool {
+    let in_first = match error.place {
+        AnalysisLocation::Function(function) => function == Handle::from_index(0),
         _ => false,
-    }
+    };
+    in_first
+        && match &error.cause {
+            FunctionError::NonUniformControlFlow(requirements, expression, disruptor) => {
+                *requirements == UniformityRequirements::COOP_OPS
+                    && *expression == Handle::from_index(4)
+                    && matches!(disruptor, UniformityDisruptor::Discard)
+            }
+            _ => false,
+        }
 }
 
 #[test]
 fn exits_are_found_deep_inside(rt: HostRuntime) {
     match analyzed(&rt, rt.alloc(), Statement::Kill) {
         Ok(_) => panic!(&rt; "accepted"),
-        Err(error) => assert!(rt; is_behind_kill(&error.cause)),
+        Err(error) => assert!(rt; is_behind_kill(&error)),
     }
-    assert!(rt; analyzed(&rt, rt.alloc(), Statement::Break).is_ok());
+    let statements = Vec::new(rt.alloc());
+    let empty = Statement::Block(Block { statements });
+    assert!(rt; analyzed(&rt, rt.alloc(), empty).is_ok());
 }

@@ -2,12 +2,17 @@
 use crate::tests::infos::{OUT_OF_MEMORY, info};
 use shader_analysis::{ModuleInfo, ValidationError, validate};
 use shader_arena::Handle;
-use shader_info::{Capabilities, GlobalUse, ValidationFlags};
+use shader_info::{
+    AnalysisError, AnalysisLocation, Capabilities, FunctionError, GlobalUse, ValidationFlags,
+};
 use shader_ir::{
     AddressSpace, Expression, Function, FunctionArgument, GlobalVariable, Items, Literal, Module,
-    Scalar, ScalarKind, Type, TypeInner, mark,
+    Scalar, ScalarKind, Statement, Type, TypeInner, mark,
 };
-use std::alloc::Global;
+use shader_resolve::check_module;
+use shader_samples::builders::{branch, emit};
+use shader_samples::{over_a_float, with_matrix};
+use std::alloc::{AllocError, Global};
 use std::process::Abort;
 
 /// Returns a module with a global and no function.
@@ -80,22 +85,110 @@ fn infos_are_found_where_they_were_added(rt: HostRuntime) {
     drop(module);
 }
 
+/// Adds a scalar of this many bytes to the types.
+fn add_scalar(rt: &impl Abort, module: &mut Module, width: u8) {
+    let scalar = Scalar {
+        kind: ScalarKind::Uint,
+        width,
+    };
+    let inner = TypeInner::Scalar(scalar);
+    let inserted = module.types.insert(Type { name: None, inner });
+    inserted.expect(rt, OUT_OF_MEMORY);
+}
+
 #[test]
 fn modules_are_refused_for_the_first_reason(rt: HostRuntime) {
     let alloc = rt.alloc();
     let flags = ValidationFlags::CONTROL_FLOW_UNIFORMITY;
-    let mut plain = Module::new(alloc);
+    let plain = Module::new(alloc);
     assert!(rt; validate(alloc, &plain, flags, Capabilities(0)).is_ok());
-    let scalar = Scalar {
-        kind: ScalarKind::Uint,
-        width: 5,
-    };
-    let inner = TypeInner::Scalar(scalar);
-    let inserted = plain.types.insert(Type { name: None, inner });
-    inserted.expect(&rt, OUT_OF_MEMORY);
-    let unlaid = validate(alloc, &plain, flags, Capabilities(0));
-    assert!(rt; matches!(&unlaid, Err(ValidationError::Layout(_))));
     let ill_formed = module(&rt, alloc);
     let faulty = validate(alloc, &ill_formed, flags, Capabilities(0));
     assert!(rt; matches!(&faulty, Err(ValidationError::Fault(_))));
+}
+
+#[test]
+fn the_first_type_without_a_layout_is_named(rt: HostRuntime) {
+    let alloc = rt.alloc();
+    let mut module = Module::new(alloc);
+    add_scalar(&rt, &mut module, 4);
+    add_scalar(&rt, &mut module, 5);
+    add_scalar(&rt, &mut module, 7);
+    let unlaid = validate(alloc, &module, ValidationFlags(0), Capabilities(0));
+    let named = match &unlaid {
+        Err(ValidationError::Layout(error)) => Some(error.ty),
+        _ => None,
+    };
+    assert!(rt; named == Some(Handle::from_index(1)));
+    drop(module);
+}
+
+/// Returns a module whose first function loads a matrix, and whose second does so behind a `Kill` that only some invocations reach.
+fn faulty_second(alloc: Global) -> Result<Module, AllocError> {
+    let choice = branch(0, vec![in alloc; Statement::Kill]?, Vec::new(alloc));
+    let first = with_matrix(alloc, vec![in alloc; emit(4, 5)]?)?;
+    let second = with_matrix(alloc, vec![in alloc; choice, emit(4, 5)]?)?;
+    over_a_float(alloc, vec![in alloc; first, second]?)
+}
+
+/// Returns whether the second function is refused for its control flow.
+fn refuses_second(error: &AnalysisError) -> bool {
+    match error.place {
+        AnalysisLocation::Function(function) => {
+            function == Handle::from_index(1)
+                && matches!(&error.cause, FunctionError::NonUniformControlFlow(..))
+        }
+        _ => false,
+    }
+}
+
+#[test]
+fn a_fault_of_the_analysis_is_named(rt: HostRuntime) {
+    let alloc = rt.alloc();
+    let module = faulty_second(alloc).expect(&rt, OUT_OF_MEMORY);
+    let flags = ValidationFlags::CONTROL_FLOW_UNIFORMITY;
+    let refused = validate(alloc, &module, flags, Capabilities(0));
+    drop(module);
+    let is_named = match &refused {
+        Err(ValidationError::Analysis(error)) => refuses_second(error),
+        _ => false,
+    };
+    assert!(rt; is_named);
+}
+
+/// Analyses the module's functions one by one until one is refused, and asserts that it is the second.
+#[tactic(auto, using(shader_analysis::proofs::Growing::none_are_stored))]
+fn adds_the_first_alone(rt: &impl Abort, alloc: Global, module: &Module) {
+    assert!(rt; check_module(module).is_ok() && module.functions.len() == 2);
+    let flags = ValidationFlags::CONTROL_FLOW_UNIFORMITY;
+    let mut infos = ModuleInfo::new(alloc);
+    let added = infos.add_next(module, flags, Capabilities(0));
+    added.expect(rt, OUT_OF_MEMORY);
+    let is_refused = match infos.add_next(module, flags, Capabilities(0)) {
+        Ok(()) => false,
+        Err(error) => refuses_second(&error),
+    };
+    assert!(rt; is_refused && infos.function_count() == 1);
+    drop(infos);
+}
+
+#[test]
+fn a_faulty_function_is_not_added(rt: HostRuntime) {
+    let module = faulty_second(rt.alloc()).expect(&rt, OUT_OF_MEMORY);
+    adds_the_first_alone(&rt, rt.alloc(), &module);
+    drop(module);
+}
+
+#[test]
+fn a_copy_of_a_record_has_all(rt: HostRuntime) {
+    let alloc = rt.alloc();
+    let mut infos = ModuleInfo::new(alloc);
+    let added = infos.add_function(info(&rt, alloc, GlobalUse::READ));
+    added.expect(&rt, OUT_OF_MEMORY);
+    let copy = infos.copy(alloc).expect(&rt, OUT_OF_MEMORY);
+    drop(infos);
+    assert!(rt; copy.function_count() == 1 && copy.entry_point_count() == 0);
+    let first: Handle<mark::Function> = Handle::from_index(0);
+    assert!(rt; copy[first].may_kill && copy[first].global_variable_count() == 1);
+    drop(copy);
 }

@@ -8,10 +8,15 @@ ghost use Rattle.std.specs.Prelude.{◌≡◌, [], OnErr};
 
 use shader_analysis::ModuleInfo;
 use shader_arena::{Arena, Handle};
-use shader_info::{FunctionInfo, Uniformity, UniformityRequirements};
+use shader_info::{
+    AnalysisError, Capabilities, FunctionError, FunctionInfo, GlobalUse, Uniformity,
+    UniformityRequirements, ValidationFlags,
+};
 use shader_ir::{Expression, Items, Literal, Module, ShaderStages, mark};
 use shader_resolve::{ResolveContext, ResolveError, check_module};
-use std::alloc::Global;
+use shader_samples::builders::emit;
+use shader_samples::{over_a_float, with_matrix};
+use std::alloc::{AllocError, Global};
 use std::collections::HashSet;
 use std::io::Print;
 use std::process::Abort;
@@ -102,4 +107,74 @@ fn of_global_expressions(rt: HostRuntime) {
     }
     drop(module);
     drop(infos);
+}
+
+/// Returns the uses of three globals. An allocation that fails is tried again.
+fn uses(rt: &(impl Abort + Print), alloc: Global) -> Items<GlobalUse> {
+    let both = GlobalUse::READ | GlobalUse::WRITE;
+    match vec![in alloc; GlobalUse::READ, GlobalUse::QUERY, both] {
+        Ok(uses) => Items::from(uses),
+        Err(_) => {
+            say(rt, "a list of uses");
+            let uses = vec![in alloc; GlobalUse::READ, GlobalUse::QUERY, both];
+            Items::from(uses.expect(rt, "memory"))
+        }
+    }
+}
+
+#[test]
+fn of_used_globals(rt: HostRuntime) {
+    let alloc = rt.alloc();
+    let mut info = killing(alloc);
+    info.global_uses = uses(&rt, alloc);
+    let globals = match info.globals_used(alloc, GlobalUse::READ) {
+        Ok(globals) => globals,
+        Err(_) => {
+            say(&rt, "a list of globals");
+            let again = info.globals_used(alloc, GlobalUse::READ);
+            again.expect(&rt, "memory")
+        }
+    };
+    assert!(rt; globals.len() == 2);
+    assert!(rt; globals[0].index() == 0 && globals[1].index() == 2);
+    drop(globals);
+    drop(info);
+}
+
+/// Returns a module of one function, which loads a matrix.
+fn loading(alloc: Global) -> Result<Module, AllocError> {
+    let function = with_matrix(alloc, vec![in alloc; emit(4, 5)]?)?;
+    over_a_float(alloc, vec![in alloc; function]?)
+}
+
+fn is_out_of_memory(error: &AnalysisError) -> bool {
+    matches!(&error.cause, FunctionError::OutOfMemory)
+}
+
+/// Analyses the one function of the module. If an allocation fails, nothing is added, and the next call adds its info.
+#[tactic(auto, using(shader_analysis::proofs::Growing::none_are_stored))]
+fn add_only(rt: &(impl Abort + Print), alloc: Global, module: &Module) {
+    assert!(rt; check_module(module).is_ok() && module.functions.len() == 1);
+    let flags = ValidationFlags::CONTROL_FLOW_UNIFORMITY;
+    let mut infos = ModuleInfo::new(alloc);
+    if let Err(error) = infos.add_next(module, flags, Capabilities(0)) {
+        say(rt, "the next function");
+        assert!(rt; is_out_of_memory(&error) && infos.function_count() == 0);
+        assert!(rt; infos.add_next(module, flags, Capabilities(0)).is_ok());
+    }
+    assert!(rt; infos.function_count() == 1);
+    drop(infos);
+}
+
+#[test]
+fn of_the_next_function(rt: HostRuntime) {
+    let module = match loading(rt.alloc()) {
+        Ok(module) => module,
+        Err(_) => {
+            say(&rt, "a module");
+            loading(rt.alloc()).expect(&rt, "memory")
+        }
+    };
+    add_only(&rt, rt.alloc(), &module);
+    drop(module);
 }

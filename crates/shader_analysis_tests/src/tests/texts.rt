@@ -1,4 +1,5 @@
 //! Tests of the texts of errors.
+use shader_analysis::ValidationError;
 use shader_arena::Handle;
 use shader_info::{
     AnalysisError, AnalysisLocation, Capabilities, ExpressionError, FunctionError,
@@ -101,4 +102,28 @@ fn a_report_names_a_full_count(rt: HostRuntime) {
     let cause = FunctionError::CountFull(Handle::from_index(2));
     let what = "expression [2] has more references";
     reports(&rt, rt.alloc(), cause, what, "than can be counted");
+}
+
+/// Returns the refusal of an expression of the first function, with a text.
+fn refusal(rt: &impl Abort, alloc: Global) -> ValidationError {
+    let words = "As".to_string(alloc).expect(rt, OUT_OF_MEMORY);
+    ValidationError::Analysis(AnalysisError {
+        place: AnalysisLocation::Function(Handle::from_index(0)),
+        cause: FunctionError::Expression {
+            handle: Handle::from_index(3),
+            source: ExpressionError::Resolve(ResolveError::IncompatibleOperands(words)),
+        },
+    })
+}
+
+#[test]
+fn a_copy_of_a_refusal_has_its_text(rt: HostRuntime) {
+    let alloc = rt.alloc();
+    let first = refusal(&rt, alloc);
+    let copy = first.copy(alloc).expect(&rt, OUT_OF_MEMORY);
+    let wanted = format!(in alloc; "{first:?}").expect(&rt, OUT_OF_MEMORY);
+    drop(first);
+    let found = format!(in alloc; "{copy:?}").expect(&rt, OUT_OF_MEMORY);
+    drop(copy);
+    assert!(rt; found.as_str() == wanted.as_str());
 }

@@ -1,45 +1,43 @@
-use Rattle.std.proofs.Common.{[], ap, arith, length, subst, sym, ◌∙◌}
+use Rattle.std.proofs.Common.{[], ap, subst, sym, ◌∙◌}
+use Rattle.std.proofs.lemmas.Result.{IfErr-weaker}
 use Rattle.shader_analysis_spec.specs.Derivable.{AreTypes}
-use Rattle.shader_analysis_spec.specs.Program.{Function}
+use Rattle.shader_analysis_spec.specs.Faults.{IsFirstFault}
 use Rattle.shader_resolve.specs.Context.{context_of}
-use Rattle.shader_expression_types.proofs.ListLemmas.{IsLeft, next_left, none_left}
+use Rattle.shader_passes.specs.Causes.{IsNamed, settings_of}
+use Rattle.shader_analysis.proofs.NextLemmas.{function_added, function_is_reached, function_refused}
+use Rattle.shader_analysis.proofs.PositionLemmas.{passed_on}
+use Rattle.shader_analysis.specs.Processed.{site_of}
+use Rattle.shader_analysis.specs.Reached.{IsReached}
 use Rattle.shader_analysis.specs.Recorded.{Recorded}
 use Rattle.shader_analysis.proofs.valid.analyze.add_functions.Goals as goal
 
-pub analyze_function-requires-clause-next : goal.analyze_function-requires-clause-next
-analyze_function-requires-clause-next c =
-    let stored = c.loop-handle.info.functions in
-    let total = length c.args.module.now.functions in
-    let next = next_left (length stored) total c.in-Some.handle c.in-Some.field-0-1.now c.next.new.self
-    (subst (λ v. IsLeft (length stored) total v) c.in-Some.ensures.steps c.loop-handle.invariant.2) in
-    next.0
+pub loop-info-preserved : goal.loop-info-preserved
+loop-info-preserved c =
+    let before = c.loop-info.invariant in
+    let adds = c.in_ok-add_next.ensures.added in
+    record {
+      rest = adds.added ∙ ap (λ (v : Recorded). record v { functions = c.add_next.new.self.functions }) before.rest;
+      types = subst (λ v. AreTypes (context_of c.args.module.now [] []) c.args.module.now.global_expressions v)
+          (sym (ap (λ (v : Recorded). v.global_expressions) adds.added)) before.types;
+      found = function_added c.args.module.now (settings_of c.args.flags c.args.capabilities) c.requires.well_formed c.loop-info.info
+          before.types before.found c.add_next.requires.more c.add_next.new.self adds;
+    }
 
-pub analyze_function-requires-clause-there : goal.analyze_function-requires-clause-there
-analyze_function-requires-clause-there c =
-    let stored = c.loop-handle.info.functions in
-    let total = length c.args.module.now.functions in
-    let next = next_left (length stored) total c.in-Some.handle c.in-Some.field-0-1.now c.next.new.self
-    (subst (λ v. IsLeft (length stored) total v) c.in-Some.ensures.steps c.loop-handle.invariant.2) in
-    omega (arith, next.0, next.1)
+pub returns-in_err-add_next-clause-reached : goal.returns-in_err-add_next-clause-reached
+returns-in_err-add_next-clause-reached c =
+    let before = c.loop-info.invariant in
+    passed_on _ c.from_residual.result c.from_residual.ensures.1
+    (subst (λ v. IsReached c.args.module.now (settings_of c.args.flags c.args.capabilities) (site_of v))
+    (sym c.in_err-add_next.ensures.place)
+    (function_is_reached c.args.module.now (settings_of c.args.flags c.args.capabilities) c.requires.well_formed c.loop-info.info
+    before.types before.found c.add_next.requires.more))
 
-pub loop-handle-preserved : goal.loop-handle-preserved
-loop-handle-preserved c =
-    let stored = c.loop-handle.info.functions in
-    let total = length c.args.module.now.functions in
-    let next = next_left (length stored) total c.in-Some.handle c.in-Some.field-0-1.now c.next.new.self
-    (subst (λ v. IsLeft (length stored) total v) c.in-Some.ensures.steps c.loop-handle.invariant.2) in (
-      tt,
-      tt,
-      subst (λ v. IsLeft v total c.next.new.self) (sym c.in_ok-analyze_function.ensures.one) next.2,
-      c.in_ok-analyze_function.ensures.rest ∙ ap (λ (v : Recorded). record v { functions = c.analyze_function.new.info.functions })
-          c.loop-handle.invariant.3,
-      subst (λ v. AreTypes (context_of c.args.module.now [] []) c.args.module.now.global_expressions v)
-          (sym (ap (λ (v : Recorded). v.global_expressions) c.in_ok-analyze_function.ensures.rest)) c.loop-handle.invariant.4,
-      c.in_ok-analyze_function.ensures.found,
-    )
-
-pub returns-clause-all : goal.returns-clause-all
-returns-clause-all c =
-    none_left (length c.loop-handle.info.functions) (length c.args.module.now.functions)
-    (subst (λ v. IsLeft {X = Function} (length c.loop-handle.info.functions) (length c.args.module.now.functions) v)
-    c.in-None.ensures.steps.0 c.loop-handle.invariant.2)
+pub returns-in_err-add_next-clause-refused : goal.returns-in_err-add_next-clause-refused
+returns-in_err-add_next-clause-refused c =
+    let before = c.loop-info.invariant in
+    passed_on _ c.from_residual.result c.from_residual.ensures.1
+    (subst (λ v. IsNamed (IsFirstFault c.args.module.now (settings_of c.args.flags c.args.capabilities) (site_of v))
+    c.in_err-add_next.field-0.0.cause)
+    (sym c.in_err-add_next.ensures.place)
+    (function_refused c.args.module.now (settings_of c.args.flags c.args.capabilities) c.requires.well_formed c.loop-info.info
+    before.types before.found c.add_next.requires.more c.in_err-add_next.field-0.0.cause c.in_err-add_next.ensures.fault))
