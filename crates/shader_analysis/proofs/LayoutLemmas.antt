@@ -1,13 +1,11 @@
 -- Types without a layout, and types for whose layout memory ran out.
-use Rattle.std.proofs.Common.{◌≡◌, sym, subst, ℕ, List, [], Option, Some, None, length}
+use Rattle.std.proofs.Common.{◌≡◌, sym, subst, List, [], Some, length}
 use Rattle.shader_analysis.specs.Validity.{HasLayoutFault, HasLayoutUpTo}
 use Rattle.shader_analysis_spec.specs.Program.{Module}
 use Rattle.shader_ir.specs.Layout.{AreFaultless, IsRefusalAt, fault_at}
 use Rattle.shader_ir.specs.declared.«module».GlobalCtx.{GlobalCtx}
 use Rattle.shader_ir.specs.declared.proc.layouter.LayoutError.{LayoutError}
-use Rattle.shader_ir.specs.declared.proc.layouter.LayoutErrorInner.{LayoutErrorInner}
 use Rattle.shader_ir.specs.declared.proc.layouter.TypeLayout.{TypeLayout}
-use Rattle.shader_ir.specs.declared.proc.layouter.UpdateError.{UpdateError}
 use Rattle.shader_ir.specs.declared.proc.layouter.UpdateError.TheVariants.{Layout, OutOfMemory}
 use Rattle.shader_resolve.specs.ContextLaws.{IsCtxOf}
 

@@ -1,5 +1,5 @@
 -- No type outside the arena that an expression has is sized by an override.
-use Rattle.std.proofs.Common.{◌≡◌, refl, sym, subst, ℕ, ◌<◌, List, Option, Some, None, All, IfSome, length, slice_get}
+use Rattle.std.proofs.Common.{◌≡◌, refl, sym, subst, ℕ, ◌<◌, List, Some, None, All, IfSome, length, slice_get}
 use Rattle.std.proofs.lemmas.Option.{get_or_from_slice_get}
 use Rattle.shader_analysis_spec.proofs.OutsideLemmas.{derived-has}
 use Rattle.shader_analysis_spec.specs.Derivable.{Derives}

@@ -1,5 +1,4 @@
-use Rattle.std.proofs.Common.{rules, ◌≡◌, sym, ap, subst, arith, List, Some, length, slice_get}
-use Rattle.shader_analysis_spec.specs.Faults.{Cause}
+use Rattle.std.proofs.Common.{rules, ◌≡◌, sym, subst, arith, List, Some, length, slice_get}
 use Rattle.shader_analysis_spec.specs.StepFaults.{StepFault}
 use Rattle.shader_analysis_spec.specs.Steps.{MeetsSteps}
 use Rattle.shader_info.specs.declared.info.FunctionInfo.{FunctionInfo}
