@@ -7,11 +7,12 @@ of the same name with 'without' is of it without the answers that failed, and 'r
 import pathlib
 import sys
 import unittest
+import unittest.mock
 
 sys.path.insert(0, str(pathlib.Path(__file__).resolve().parent / "lib"))
 import check
 from crates import TOP, listed
-from selection import PARTS, Choice, commit_before, edits_in, files_changed, names_in, parts_of
+from selection import Choice, commit_before, edits_in, files_changed, names_in
 from verdicts import Said, clause_of, without
 
 SAMPLES = TOP / "tests/data/prover_output"
@@ -134,15 +135,27 @@ class Chosen(unittest.TestCase):
         self.assertEqual([it for it in paths if not it.exists()], [])
         self.assertEqual(names_in("# a\n\nb/c\n"), {"b/c"})
 
-    def test_parts(self):
-        """Tries the mutants of each crate in just one of eight commits in a row, if none changed."""
-        self.assertEqual(parts_of("# a: b\n\nc: d e\nf\n"), {"c": 0, "f": 1})
+    def test_named_crates(self):
+        """Has a mutant that every run tries of each crate that a user names."""
+        facade = ["shader_typing", *listed()["shader_typing"][1]]
+        tried = {it.partition("/")[0] for it in Choice((), False).always}
+        self.assertEqual({*facade, "shader_json_module", "report", "typer", "pethuvazh"} - tried, set())
+
+    def test_takes(self):
+        """Tries the list alone if nothing changed, all of a changed crate, and each mutant that changed."""
         choice = Choice((), False)
-        choice.takes_all, choice.changed, choice.edits, choice.always = False, set(), set(), set()
-        tried = []
-        for choice.turn in range(PARTS):
-            tried += [it for it in listed() if choice.takes(it, "edit")]
-        self.assertEqual(sorted(tried), sorted(listed()))
+        choice.always, choice.changed, choice.edits = {"a/one"}, {"b"}, {"c/two"}
+        rows = [("a", "one"), ("a", "two"), ("b", "one"), ("b", "two"), ("c", "one"), ("c", "two"), ("d", "one")]
+        self.assertEqual([f"{crate}/{name}" for crate, name in rows if choice.takes(crate, name)], ["a/one", "b/one", "b/two", "c/two"])
+        self.assertTrue(Choice((), True).takes("d", "one") and Choice(("d",), False).takes("d", "one"))
+
+    def test_no_history(self):
+        """Tries the list alone without a history, as nothing says what changed."""
+        with unittest.mock.patch("selection.git", lambda *_: None):
+            choice = Choice((), False)
+        self.assertEqual((choice.takes_all, choice.since, choice.changed, choice.edits), (False, None, set(), set()))
+        edits = [(it.parents[1].name, it.stem) for it in TOP.glob("crates/*/mutants/*.edit")]
+        self.assertEqual({f"{crate}/{name}" for crate, name in edits if choice.takes(crate, name)}, choice.always)
 
     def test_since(self):
         """Finds the newest commit that is a day older, and none in a shorter history."""

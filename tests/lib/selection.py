@@ -1,10 +1,9 @@
 """Chooses which mutants of crates/*/mutants a run tries, by the history of the commit.
 
 A run tries all mutants of a crate whose src/ or specs/ changed since the newest commit that is a day older than HEAD, and each mutant that
-changed itself; one that only moved within its crate hasn't changed. It tries the mutants in tests/data/mutants_always.txt. Of the other
-crates it tries all mutants of every eighth, in the order of crates.txt: the number of commits on HEAD says with which it begins, so eight
-commits in a row try all, as long as no crate changes its position there. The mutants of a crate are tried together, since each check first
-reads everything below it. Without a history, as in a copy without .git, all are tried.
+changed itself; one that only moved within its crate hasn't changed. It tries the mutants in tests/data/mutants_always.txt. The mutants of a
+crate are tried together, since each check first reads everything below it. Without a history, as in a copy without .git, nothing says what
+changed, and the run tries those of the list.
 """
 import re
 import subprocess
@@ -12,7 +11,6 @@ import subprocess
 from crates import TOP
 
 ALWAYS = TOP / "tests/data/mutants_always.txt"
-PARTS = 8
 LATELY = 24 * 60 * 60
 SOURCE = re.compile(r"crates/(\w+)/(?:src|specs)/")
 EDIT = re.compile(r"crates/(\w+)/mutants/(\w+)\.edit$")
@@ -35,11 +33,6 @@ def commit_before(lines, seconds=LATELY):
     return max(found, key=lambda it: it[0])[1] if found else None
 
 
-def parts_of(text):
-    """Returns the part to which each crate of a crates.txt belongs."""
-    return {name: at % PARTS for at, name in enumerate(re.findall(r"(?m)^\w+", text))}
-
-
 def names_in(text):
     """Returns the lines CRATE/NAME of a list, without comments."""
     return {it.strip() for it in text.splitlines() if it.strip() and not it.startswith("#")}
@@ -56,34 +49,31 @@ def files_changed(lines):
 
 
 class Choice:
-    """Chooses the mutants of a run: all, those of the crates that it is given, or those that the commit selects."""
+    """Chooses the mutants of a run: all, those of the crates that it is given, or those that the history and the list select."""
 
     def __init__(self, crates, is_all):
-        self.crates, self.always = set(crates), names_in(ALWAYS.read_text())
-        lines = (git("log", "--format=%H %ct") if not crates and not is_all else None) or []
+        self.crates, self.takes_all = set(crates), bool(crates) or is_all
+        self.always, self.changed, self.edits = names_in(ALWAYS.read_text()), set(), set()
+        lines = [] if self.takes_all else git("log", "--format=%H %ct") or []
         self.since = commit_before(lines) if lines else None
-        # A file of src/ or specs/ that moves from one crate to another changes both.
-        changed = git("diff", "--name-only", "--no-renames", self.since) if self.since else None
-        edited = git("diff", "--name-status", "--find-renames=100%", self.since) if self.since else None
-        others = git("ls-files", "--others", "--exclude-standard")
-        self.takes_all = None in (changed, edited, others)
-        files = [] if self.takes_all else [*changed, *others]
-        self.parts, self.turn = parts_of((TOP / "crates.txt").read_text()), len(lines) % PARTS
-        self.changed = {it[1] for it in map(SOURCE.match, files) if it}
-        self.edits = set() if self.takes_all else edits_in([*files_changed(edited), *others])
+        if self.since:
+            # A file of src/ or specs/ that moves from one crate to another changes both.
+            changed = git("diff", "--name-only", "--no-renames", self.since) or []
+            edited = git("diff", "--name-status", "--find-renames=100%", self.since) or []
+            others = git("ls-files", "--others", "--exclude-standard") or []
+            self.changed = {it[1] for it in map(SOURCE.match, [*changed, *others]) if it}
+            self.edits = edits_in([*files_changed(edited), *others])
 
     def takes(self, crate, name):
         """Returns whether the run tries this mutant of a crate."""
         which = f"{crate}/{name}"
-        is_chosen = crate in self.changed or which in self.edits or which in self.always
-        return self.takes_all or is_chosen or self.parts[crate] == self.turn
+        return self.takes_all or crate in self.changed or which in self.edits or which in self.always
 
     def text(self):
         """Returns the choice in a line."""
-        if self.crates:
-            return f"all of {', '.join(sorted(self.crates))}"
         if self.takes_all:
-            return "all"
-        changed = ", ".join(sorted(self.changed)) or "none"
-        part = f"every {PARTS}th crate of crates.txt from number {self.turn + 1}, {len(self.always)} that every run tries"
-        return f"{part}, and those changed since {self.since[:9]}; crates changed since: {changed}"
+            return f"all of {', '.join(sorted(self.crates))}" if self.crates else "all"
+        listed = f"{len(self.always)} that every run tries"
+        if not self.since:
+            return f"{listed}, as no history of a day says what changed"
+        return f"{listed}, and those changed since {self.since[:9]}; crates changed since: {', '.join(sorted(self.changed)) or 'none'}"
