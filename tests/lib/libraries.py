@@ -18,7 +18,7 @@ from programs import PARTS, Ran
 # The memory of a check of the largest crate, in bytes.
 MEMORY = 3_500_000_000
 # The line in which rt ci says that a crate's library is built, or taken from an earlier run; and the start of the line that ./check writes
-# after its last run.
+# after the run.
 PROVED = re.compile(r"rt: (\w+) (?:proved$|is kept: )")
 CI_ENDED = "== proofs: "
 
