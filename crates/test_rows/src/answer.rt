@@ -1,7 +1,7 @@
 //! The answer to each line of an input.
 use crate::words::Words;
 use crate::{
-    analysis, faults, indexes, known, layouts, lengths, operands, origins, parts, reports, resolve,
+    faults, indexes, known, layouts, lengths, operands, origins, parts, refusal, reports, resolve,
     sizes, types, typifier,
 };
 use shader_ir::Module;
@@ -29,7 +29,6 @@ fn reply_of_kind(
 ) -> Result<Option<String>, AllocError> {
     let mut words = Words::new(question);
     match words.next_word() {
-        "analysis" => analysis::reply(alloc, words, module),
         "fault" => faults::fault(alloc, words, module),
         "indexes" => indexes::reply(alloc, words, module),
         "known" => known::reply(alloc, words, module),
@@ -39,6 +38,7 @@ fn reply_of_kind(
         "operands" => operands::reply(alloc, words, module),
         "origins" => origins::reply(alloc, words, module),
         "part" => parts::reply(alloc, words, module),
+        "refusal" => refusal::reply(alloc, words, module),
         "report" => reports::reply(alloc, words, module),
         "resolve" => resolve::reply(alloc, words, module),
         "size" => sizes::reply(alloc, words, module),

@@ -1,7 +1,6 @@
 //! A program for tests: answers questions about modules in JSON, one per line.
 #![tactic(auto)]
 
-mod analysis;
 mod answer;
 mod faults;
 mod indexes;
@@ -12,6 +11,7 @@ mod operands;
 mod origins;
 mod parts;
 mod program;
+mod refusal;
 mod render;
 mod reports;
 mod resolve;
