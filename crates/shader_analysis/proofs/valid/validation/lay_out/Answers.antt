@@ -15,6 +15,6 @@ returns-clause-refused c = λ settings.
     } in (
       c.requires,
       for_layout (length c.update.new.self) (layout_up_to c.args.module.now c.to_ctx.result of c.new-layouts.result c.update.new.self
-      c.new-layouts.ensures c.update.ensures.faultless
-      (subst (IsRefusalAt c.to_ctx.result (length c.update.new.self)) c.in-Err-OutOfMemory.field-0-is c.in-Err-OutOfMemory.ensures.refused)),
+          c.new-layouts.ensures c.update.ensures.faultless
+          (subst (IsRefusalAt c.to_ctx.result (length c.update.new.self)) c.in-Err-OutOfMemory.field-0-is c.in-Err-OutOfMemory.ensures.refused)),
     )
