@@ -1,13 +1,13 @@
 -- Sources of non-uniform values, i.e. values that differ among invocations, interprocedurally.
-use Rattle.std.specs.Prelude.{◌≡◌, ◌==◌, ℕ, Bool, true, false, Option, Some, None, slice_get, IsTrue, bit_and}
+use Rattle.std.specs.Prelude.{◌≡◌, ℕ, Bool, true, false, Option, Some, None, slice_get, IsTrue}
 use Rattle.std.specs.List.{Contains}
+use Rattle.shader_ir.specs.Access.{allows_store}
 use Rattle.shader_ir.specs.declared.binding.Binding.{Binding}
 use Rattle.shader_ir.specs.declared.binding.Binding.TheVariants as binding
 use Rattle.shader_ir.specs.declared.binding.BuiltIn.{BuiltIn}
 use Rattle.shader_ir.specs.declared.binding.BuiltIn.TheVariants as built_in
 use Rattle.shader_ir.specs.declared.expression.CooperativeData.{CooperativeData}
 use Rattle.shader_ir.specs.declared.expression.Expression.TheVariants as form
-use Rattle.shader_ir.specs.declared.flags.StorageAccess.{StorageAccess}
 use Rattle.shader_ir.specs.declared.function.FunctionArgument.{FunctionArgument}
 use Rattle.shader_ir.specs.declared.module.GlobalVariable.{GlobalVariable}
 use Rattle.shader_ir.specs.declared.types.AddressSpace.{AddressSpace}
@@ -43,17 +43,13 @@ abbrev pub argument_varies : Option FunctionArgument → Bool
 argument_varies (Some argument) = binding_varies argument.binding
 argument_varies None = true
 
--- true if a storage buffer or image with the access may be written
-abbrev pub has_store : StorageAccess → Bool
-has_store access = bit_and access.0 2 == 2
-
 -- true if values read from the address space vary; a storage buffer varies if it may be written
 abbrev pub space_varies : AddressSpace → Bool
 space_varies space.Function = true
 space_varies space.Private = true
 space_varies space.WorkGroup = false
 space_varies space.Uniform = false
-space_varies (space.Storage access) = has_store access
+space_varies (space.Storage access) = allows_store access
 space_varies space.Handle = true
 space_varies space.Immediate = false
 space_varies space.TaskPayload = false
