@@ -7,7 +7,7 @@ use Rattle.shader_analysis_spec.specs.Program.{WorkGroupUniformLoad, Cooperative
 use Rattle.shader_pass_laws.proofs.Needs.{needs_small, result_small}
 use Rattle.shader_info.specs.declared.info.FunctionInfo.{FunctionInfo}
 use Rattle.shader_passes.specs.Results.{computed_expression_needs, computed_facts, computed_needs}
-use Rattle.shader_passes.specs.declared.facts.Fact.{Fact}
+use Rattle.shader_passes.specs.Facts.{Fact}
 use Rattle.shader_passes.specs.Facts.{needs_at}
 use Rattle.shader_passes.specs.CalleeUses.{with_needs_of, with_needs_in, statement_needs}
 

@@ -38,7 +38,7 @@ use Rattle.shader_passes.proofs.OriginLemmas.{origins_of_the_step}
 use Rattle.shader_passes.specs.Causes.{IsNamed, IsNamedOf, number_of, settings_of}
 use Rattle.shader_passes.specs.Results.{computed_facts}
 use Rattle.shader_passes.proofs.FactLemmas.{facts_after_long}
-use Rattle.shader_passes.specs.declared.facts.Fact.{Fact}
+use Rattle.shader_passes.specs.Facts.{Fact}
 use Rattle.shader_passes.specs.Facts.{origin_at}
 use Rattle.shader_passes.specs.InfoOf.{PointsBackwards, infos_of}
 

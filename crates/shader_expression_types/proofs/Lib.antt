@@ -1,3 +1,5 @@
 mod FaultLemmas
 pub mod ListLemmas
 pub mod TypedLemmas
+pub mod PrefixLemmas
+pub mod NextLemmas

@@ -1,6 +1,6 @@
 -- The remaining expressions, and properties of a growing list of types.
 use Rattle.std.proofs.Common.{◌≡◌, refl, ap, sym, subst, ◌∙◌, ◌⊎◌, inl, inr, ℕ, ◌+◌, ◌<◌, ◌≤◌, List, []}
-use Rattle.std.proofs.Common.{◌∷◌, ◌++◌, Some, slice_get, length, get_or, length-append, All, arith}
+use Rattle.std.proofs.Common.{◌∷◌, ◌++◌, Some, slice_get, length, get_or, length-append, append_assoc, All, arith}
 use Rattle.std.specs.List.{enumerate_from}
 use Rattle.std.proofs.lemmas.List.Elements.{All-contains_itself}
 use Rattle.std.proofs.lemmas.Bool.{cases_lt}
@@ -17,33 +17,45 @@ pub operands_below : (f : Function) → PointsBackwards f → (e : ℕ) (x : Exp
 operands_below f below e x is = λ i d lt. below e x (get_or (expression_operands x) i d) is
     (All-contains_itself (expression_operands x) i d lt)
 
--- some items with their positions, from n on, up to a length
-pub record IsLeft {X : Type 0} (n total : ℕ) (items : List (ℕ × X)) : Type 0 where
+-- the items of a list from a position on, with their positions
+pub record IsLeft {X : Type 0} (xs : List X) (n : ℕ) (items : List (ℕ × X)) : Type 0 where
+  pub done : List X
   pub left : List X
+  pub whole : xs ≡ done ++ left
+  pub long : length done ≡ n
   pub are : items ≡ enumerate_from n left
-  pub long : n + length left ≡ total
 
-pub all_left : {X : Type 0} (xs : List X) → IsLeft 0 (length xs) (enumerate_from 0 xs)
-all_left xs = record { left = xs; are = refl; long = omega arith }
+pub all_left : {X : Type 0} (xs : List X) → IsLeft xs 0 (enumerate_from 0 xs)
+all_left xs = record { done = []; left = xs; whole = refl; long = refl; are = refl }
 
-pub none_left : {X : Type 0} (n total : ℕ) → IsLeft {X = X} n total [] → n ≡ total
-none_left {X} n total is = at is.left is.are is.long where
-  at : (left : List X) → [] ≡ enumerate_from n left → n + length left ≡ total → n ≡ total
-  at [] are long = omega (arith, long)
-  at (x ∷ xs) are long = absurd (cc)
+pub none_left : {X : Type 0} (xs : List X) (n : ℕ) → IsLeft xs n [] → n ≡ length xs
+none_left {X} xs n is = at is.left is.are is.whole where
+  at : (left : List X) → [] ≡ enumerate_from n left → xs ≡ is.done ++ left → n ≡ length xs
+  at [] are whole = omega (arith, is.long, ap length whole, length-append is.done [])
+  at (x ∷ rest) are whole = absurd (cc)
 
 heads : {X : Type 0} (x y : X) (xs ys : List X) → x ∷ xs ≡ y ∷ ys → (x ≡ y) × (xs ≡ ys)
 heads x y xs ys is = (cc, cc)
 
-pub next_left : {X : Type 0} (n total : ℕ) (position : ℕ) (x : X) (items : List (ℕ × X)) → IsLeft n total ((position, x) ∷ items) →
-    (position ≡ n) × (n < total) × IsLeft (n + 1) total items
-next_left {X} n total position x items is = at is.left is.are is.long where
-  at : (left : List X) → (position, x) ∷ items ≡ enumerate_from n left → n + length left ≡ total →
-      (position ≡ n) × (n < total) × IsLeft (n + 1) total items
-  at [] are long = absurd (cc)
-  at (y ∷ ys) are long =
+pub next_left : {X : Type 0} (xs : List X) (n : ℕ) (position : ℕ) (x : X) (items : List (ℕ × X)) →
+    IsLeft xs n ((position, x) ∷ items) → (position ≡ n) × (slice_get xs n ≡ Some x) × IsLeft xs (n + 1) items
+next_left {X} xs n position x items is = at is.left is.are is.whole where
+  at : (left : List X) → (position, x) ∷ items ≡ enumerate_from n left → xs ≡ is.done ++ left →
+      (position ≡ n) × (slice_get xs n ≡ Some x) × IsLeft xs (n + 1) items
+  at [] are whole = absurd (cc)
+  at (y ∷ ys) are whole =
       let parts = heads (position, x) (n, y) items (enumerate_from (n + 1) ys) are in
-      (ap (λ v. v.0) parts.0, omega (arith, long), record { left = ys; are = parts.1; long = omega (arith, long) })
+      let same : x ≡ y = ap (λ v. v.1) parts.0 in (
+        ap (λ v. v.0) parts.0,
+        ap (λ v. slice_get v n) whole ∙ (get_seam is.done y ys n is.long ∙ ap Some (sym same)),
+        record {
+          done = is.done ++ y ∷ [];
+          left = ys;
+          whole = whole ∙ sym (append_assoc is.done (y ∷ []) ys);
+          long = omega (arith, is.long, length-append is.done (y ∷ []));
+          are = parts.1;
+        },
+      )
 
 -- a property of each item of a list and of one more item holds of each item of both
 pub one_more : {X : Type 0} (P : ℕ → X → Type 0) (xs : List X) (x : X) → ((e : ℕ) (y : X) → slice_get xs e ≡ Some y → P e y) →

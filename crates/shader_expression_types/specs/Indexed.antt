@@ -13,7 +13,7 @@ use Rattle.shader_info.specs.declared.error.ExpressionError.{ExpressionError}
 use Rattle.shader_info.specs.declared.error.ExpressionError.TheVariants as expression
 use Rattle.shader_info.specs.declared.flags.Capabilities.{Capabilities}
 use Rattle.shader_passes.specs.Causes.{number_of}
-use Rattle.shader_passes.specs.declared.facts.Fact.{Fact}
+use Rattle.shader_passes.specs.Facts.{Fact}
 use Rattle.shader_passes.specs.Facts.{origin_at}
 
 abbrev pub alone : Capability → Capabilities

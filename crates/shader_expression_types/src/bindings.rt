@@ -6,13 +6,14 @@ ghost use Rattle.shader_ir.specs.Key.{FitsTypes, inner_of};
 ghost use Rattle.shader_ir.specs.TypeTree.{IsBackward, PointsBelow};
 ghost use Rattle.shader_resolve.specs.WellFormed.{OperandsBelow};
 ghost use Rattle.shader_passes.specs.Facts.{origin_at};
+ghost use Rattle.shader_passes.specs.Records.{types_in};
 
 use bitflags::Flags;
 use shader_arena::{Handle, UniqueArena};
-use shader_info::{Capabilities, ExpressionError, NonUniformResult};
+use shader_info::{Capabilities, ExpressionError, ExpressionInfo, NonUniformResult};
 use shader_ir::proc::TypeResolution;
 use shader_ir::{Expression, ImageClass, Type, TypeInner, mark};
-use shader_passes::facts::{Fact, origin_of};
+use shader_passes::facts::Facts;
 
 /// Returns the capability that is needed to index a binding array of such elements by a value that differs among invocations. There is none
 /// for elements that are neither images nor samplers.
@@ -57,7 +58,7 @@ fn index_refusal(
 /// Returns the error for indexing a base of this type by `index`, if it is a binding array that may not be indexed so.
 fn base_refusal(
     types: &UniqueArena<Type, mark::Type>,
-    facts: &[Fact],
+    facts: &Facts<'_>,
     capabilities: Capabilities,
     base: &TypeInner,
     index: Handle<mark::Expression>,
@@ -69,43 +70,52 @@ fn base_refusal(
         TypeInner::BindingArray { base: element, .. } => index_refusal(
             capabilities,
             &types[*element].inner,
-            origin_of(facts, index),
+            facts.origin_of(index),
         ),
         _ => None,
     }
 }
 
+/// Returns the type that the record of an earlier expression holds.
+#[inline(always)]
+pub fn type_in(records: &[ExpressionInfo], expression: Handle<mark::Expression>) -> &TypeResolution
+    requires { expression < length records.now }
+    ensures { slice_get (types_in records.now) expression ≡ Some result.now }
+{
+    &records[expression.index()].ty
+}
+
 /// Returns the inner type of an earlier expression.
 fn stored_inner<'a>(
     types: &'a UniqueArena<Type, mark::Type>,
-    stored: &'a [TypeResolution],
+    records: &'a [ExpressionInfo],
     expression: Handle<mark::Expression>,
 ) -> &'a TypeInner
     requires backward { IsBackward types.now }
-    requires there { expression < length stored.now }
-    requires fit { All (FitsTypes types.now) stored.now }
-    ensures shape { option_and_then (inner_of types.now) (slice_get stored.now expression) ≡ Some result.now }
+    requires there { expression < length records.now }
+    requires fit { All (FitsTypes types.now) (types_in records.now) }
+    ensures shape { option_and_then (inner_of types.now) (slice_get (types_in records.now) expression) ≡ Some result.now }
     ensures in_range { PointsBelow (length types.now) result.now }
 {
-    stored[expression.index()].inner_with(types)
+    type_in(records, expression).inner_with(types)
 }
 
-/// Returns the error for an expression that indexes a binding array as it may not. `stored` are the types of the expressions before it.
+/// Returns the error for an expression that indexes a binding array as it may not. `records` are those of the expressions before it.
 pub fn access_refusal(
     types: &UniqueArena<Type, mark::Type>,
-    facts: &[Fact],
-    stored: &[TypeResolution],
+    facts: &Facts<'_>,
+    records: &[ExpressionInfo],
     capabilities: Capabilities,
     expression: &Expression,
 ) -> Option<ExpressionError>
     requires backward { IsBackward types.now }
-    requires operands { OperandsBelow (length stored.now) expression.now }
-    requires fit { All (FitsTypes types.now) stored.now }
-    ensures { result ≡ access_refusal capabilities types.now facts.now stored.now expression.now }
+    requires operands { OperandsBelow (length records.now) expression.now }
+    requires fit { All (FitsTypes types.now) (types_in records.now) }
+    ensures { result ≡ access_refusal capabilities types.now facts.now (types_in records.now) expression.now }
 {
     match expression {
         Expression::Access { base, index } => {
-            let inner = stored_inner(types, stored, *base);
+            let inner = stored_inner(types, records, *base);
             base_refusal(types, facts, capabilities, inner, *index)
         }
         _ => None,

@@ -1,9 +1,9 @@
-//! The types of a function's expressions, and the errors found while they are computed.
+//! The records of a function's expressions, with their types, and the errors found while they are computed.
 #![tactic(auto)]
 
 mod bindings;
 mod one;
-mod typing_pass;
+mod recording;
 
 pub use one::type_of;
-pub use typing_pass::{types_of, untyped};
+pub use recording::{record_expressions, untyped};

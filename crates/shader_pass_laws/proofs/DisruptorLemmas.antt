@@ -11,7 +11,7 @@ use Rattle.shader_analysis_spec.proofs.FindLemmas.{flags_find_statements}
 use Rattle.shader_analysis_spec.proofs.Flags.{case_flag, child_flag, flag, found, step_exits, block_exits}
 use Rattle.shader_analysis_spec.proofs.PassLemmas.{flags_are_least}
 use Rattle.shader_info.specs.declared.error.UniformityDisruptor.{UniformityDisruptor}
-use Rattle.shader_passes.specs.declared.facts.Fact.{Fact}
+use Rattle.shader_passes.specs.Facts.{Fact}
 use Rattle.shader_passes.specs.Ends.{block_ends, exit_cause, on_branch, requires_uniform_flow, step_ends}
 use Rattle.shader_pass_laws.proofs.EndsLemmas.{Covers, block_first, block_kills, branch_some, entered_covers, exit_some, flag_behind}
 use Rattle.shader_pass_laws.proofs.EndsLemmas.{flag_continuing, flag_entered, or_same, step_is}

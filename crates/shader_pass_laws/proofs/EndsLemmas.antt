@@ -8,7 +8,7 @@ use Rattle.shader_analysis_spec.specs.Program.{Simple, Emit, Return, Kill, Call,
 use Rattle.shader_analysis_spec.specs.Program.{End, Then, Cases, NoCase, Case, statements, statements_within, case_statements}
 use Rattle.shader_analysis_spec.proofs.Flags.{simple_exits, step_exits, block_exits, cases_exit, found, found_within, found_in_cases}
 use Rattle.shader_arena.specs.Positions.{positions_between}
-use Rattle.shader_passes.specs.declared.facts.Fact.{Fact}
+use Rattle.shader_passes.specs.Facts.{Fact}
 use Rattle.shader_info.specs.declared.error.UniformityDisruptor.{UniformityDisruptor}
 use Rattle.shader_info.specs.declared.error.UniformityDisruptor.TheVariants as cause
 use Rattle.shader_passes.specs.declared.flow.Exits.{Exits}

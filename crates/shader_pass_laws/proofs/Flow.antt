@@ -25,7 +25,7 @@ use Rattle.shader_passes.specs.Results.{computed_facts}
 use Rattle.shader_pass_laws.proofs.EndsLemmas.{Covers, branch_some, flag_behind, flag_continuing, flag_entered, entered_covers}
 use Rattle.shader_pass_laws.proofs.FlowWords.{varies}
 use Rattle.shader_pass_laws.proofs.StepKills.{killing_to}
-use Rattle.shader_passes.specs.declared.facts.Fact.{Fact}
+use Rattle.shader_passes.specs.Facts.{Fact}
 use Rattle.shader_passes.specs.declared.flow.Exits.{Exits}
 use Rattle.shader_passes.specs.Ends.{either, exit_of, disruptor_after, case_disruptor, is_killing, leaf_ends, on_branch, step_ends}
 use Rattle.shader_passes.specs.Ends.{block_ends, cases_end}

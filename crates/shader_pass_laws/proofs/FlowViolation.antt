@@ -23,7 +23,7 @@ use Rattle.shader_passes.specs.Causes.{disruptor_of}
 use Rattle.shader_pass_laws.proofs.EndsLemmas.{Covers, block_first, entered_covers}
 use Rattle.shader_pass_laws.proofs.FlowWords.{emits_requiring}
 use Rattle.shader_pass_laws.proofs.StepKills.{of_any, of_killing}
-use Rattle.shader_passes.specs.declared.facts.Fact.{Fact}
+use Rattle.shader_passes.specs.Facts.{Fact}
 use Rattle.shader_passes.specs.declared.flow.Exits.{Exits}
 use Rattle.shader_passes.specs.declared.flow.FlowViolation.{FlowViolation}
 use Rattle.shader_passes.specs.Ends.{disruptor_after, case_disruptor, requires_uniform_flow, leaf_fault, on_branch, step_ends, block_ends}

@@ -4,7 +4,7 @@ use Rattle.std.specs.Option.{option_map}
 use Rattle.std.specs.List.{list_any}
 use Rattle.shader_arena.specs.Positions.{positions_between}
 use Rattle.shader_analysis_spec.specs.Program.{Step, Leaf, Emit, Kill, Call}
-use Rattle.shader_passes.specs.declared.facts.Fact.{Fact}
+use Rattle.shader_passes.specs.Facts.{Fact}
 use Rattle.shader_passes.specs.Ends.{requires_uniform_flow}
 
 abbrev pub any_requires : List Fact → List ℕ → Bool

@@ -20,7 +20,7 @@ use Rattle.shader_analysis_spec.proofs.JoinLemmas.{no_bit, bit_to, of_bit}
 use Rattle.shader_info.specs.declared.info.FunctionInfo.{FunctionInfo}
 use Rattle.shader_passes.specs.Results.{computed_expression_needs, computed_facts}
 use Rattle.shader_pass_laws.proofs.ResultLemmas.{expression_needs_of_the_step}
-use Rattle.shader_passes.specs.declared.facts.Fact.{Fact}
+use Rattle.shader_passes.specs.Facts.{Fact}
 use Rattle.shader_passes.specs.Ends.{requires_uniform_flow}
 use Rattle.shader_passes.specs.Facts.{callee_of, called_needs, entry, form_needs, level_needs, needs_at, own_needs, result_needs}
 use Rattle.shader_passes.specs.InfoOf.{infos_of}

@@ -14,7 +14,7 @@ use Rattle.shader_pass_laws.proofs.FlowWords.{calls_kill, is_kill, varies}
 use Rattle.shader_pass_laws.proofs.StepKills.{step_kills}
 use Rattle.shader_pass_laws.proofs.StepNeeds.{step_expression_needs, step_needs}
 use Rattle.shader_pass_laws.proofs.StepUses.{ends_fit, ends_small, own_uses_are, own_uses_long, step_uses}
-use Rattle.shader_passes.specs.declared.facts.Fact.{Fact}
+use Rattle.shader_passes.specs.Facts.{Fact}
 use Rattle.shader_passes.specs.Ends.{is_killing}
 use Rattle.shader_passes.specs.Facts.{origin_at}
 use Rattle.shader_passes.specs.InfoOf.{infos_of}

@@ -9,7 +9,7 @@ use Rattle.shader_ir.specs.declared.expression.Expression.TheVariants as form
 use Rattle.shader_ir.specs.declared.proc.operands.Label.TheVariants.{Part, Read}
 use Rattle.shader_ir.specs.Occurs as occurs
 use Rattle.shader_analysis_spec.specs.Program.{Function, Module, Expression, Root, IsExpressionAt}
-use Rattle.shader_passes.specs.declared.facts.Fact.{Fact}
+use Rattle.shader_passes.specs.Facts.{Fact}
 use Rattle.shader_info.specs.declared.info.FunctionInfo.{FunctionInfo}
 use Rattle.shader_passes.specs.Facts.{root_at, own_root, entry, facts_after}
 use Rattle.shader_passes.specs.InfoOf.{PointsBackwards}

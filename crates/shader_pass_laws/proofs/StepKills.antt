@@ -13,7 +13,7 @@ use Rattle.shader_analysis_spec.specs.Steps.{CalleeInfo, StepKill, RecordsVaried
 use Rattle.shader_analysis_spec.specs.Steps as step
 use Rattle.shader_analysis_spec.proofs.FindLemmas.{flags_find_statements}
 use Rattle.shader_analysis_spec.proofs.FlowLemmas.{more_disrupted}
-use Rattle.shader_passes.specs.declared.facts.Fact.{Fact}
+use Rattle.shader_passes.specs.Facts.{Fact}
 use Rattle.shader_info.specs.declared.info.FunctionInfo.{FunctionInfo}
 use Rattle.shader_passes.specs.Ends.{is_killing}
 use Rattle.shader_pass_laws.proofs.FlowWords.{calls_kill, is_kill, varies}

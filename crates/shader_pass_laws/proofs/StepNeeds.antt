@@ -19,7 +19,7 @@ use Rattle.shader_analysis_spec.specs.Program.{WorkGroupUniformLoad, Cooperative
 use Rattle.shader_analysis_spec.specs.Steps.{StepExpressionNeed, StepNeed}
 use Rattle.shader_analysis_spec.specs.Steps as step
 use Rattle.shader_info.specs.declared.info.FunctionInfo.{FunctionInfo}
-use Rattle.shader_passes.specs.declared.facts.Fact.{Fact}
+use Rattle.shader_passes.specs.Facts.{Fact}
 use Rattle.shader_passes.specs.Facts.{callee_of, called_needs, entry, form_needs, level_needs, needs_at, own_needs, result_needs}
 use Rattle.shader_passes.specs.Facts.{facts_after}
 use Rattle.shader_passes.specs.InfoOf.{info_of, infos_of}

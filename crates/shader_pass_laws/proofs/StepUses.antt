@@ -19,7 +19,7 @@ use Rattle.shader_analysis_spec.specs.Program.{Function, Module, Label, Step, Le
 use Rattle.shader_analysis_spec.specs.Uses.{Names, adds_use}
 use Rattle.shader_analysis_spec.specs.Steps.{CalleeInfo, CalleeUses, StepUse}
 use Rattle.shader_analysis_spec.specs.Steps as step
-use Rattle.shader_passes.specs.declared.facts.Fact.{Fact}
+use Rattle.shader_passes.specs.Facts.{Fact}
 use Rattle.shader_info.specs.declared.info.FunctionInfo.{FunctionInfo}
 use Rattle.shader_info.specs.declared.flags.GlobalUse.{GlobalUse}
 use Rattle.shader_passes.specs.InfoOf.{info_of, infos_of, PointsBackwards}

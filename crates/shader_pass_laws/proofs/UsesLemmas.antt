@@ -7,7 +7,7 @@ use Rattle.std.proofs.lemmas.Bool.Decides.{nat_tests}
 use Rattle.std.proofs.Math.ListN.{length-set}
 use Rattle.std.specs.List.{Contains}
 use Rattle.shader_analysis_spec.specs.Program.{Label}
-use Rattle.shader_passes.specs.declared.facts.Fact.{Fact}
+use Rattle.shader_passes.specs.Facts.{Fact}
 use Rattle.shader_passes.specs.Facts.{root_at}
 use Rattle.shader_passes.specs.CalleeUses.{named_once, named_by}
 use Rattle.shader_passes.specs.CountsAndUses.{CountsAndUses, ref_counts_after, uses_after, bits}

@@ -10,7 +10,7 @@ use Rattle.shader_passes.specs.Results.{computed_facts}
 use Rattle.shader_passes.proofs.OriginLemmas.{origins_of_the_step}
 use Rattle.shader_pass_laws.proofs.FlowWords.{varies}
 use Rattle.shader_pass_laws.proofs.StepKills.{varied_to, of_varied}
-use Rattle.shader_passes.specs.declared.facts.Fact.{Fact}
+use Rattle.shader_passes.specs.Facts.{Fact}
 use Rattle.shader_passes.specs.Facts.{origin_at}
 use Rattle.shader_passes.specs.InfoOf.{PointsBackwards, infos_of}
 use Rattle.shader_passes.proofs.StepOrigins.{nu, origins_long}

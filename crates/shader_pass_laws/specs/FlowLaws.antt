@@ -4,7 +4,7 @@ use Rattle.std.specs.List.{Contains}
 use Rattle.shader_arena.specs.Positions.{positions_between}
 use Rattle.shader_analysis_spec.specs.Flow.{At, Disrupted, Exits}
 use Rattle.shader_analysis_spec.specs.Program.{Step, Leaf, Emit, Kill, Call, Body, Then, statements}
-use Rattle.shader_passes.specs.declared.facts.Fact.{Fact}
+use Rattle.shader_passes.specs.Facts.{Fact}
 use Rattle.shader_passes.specs.Ends.{block_ends, block_fault, exit_cause, requires_uniform_flow, step_ends}
 use Rattle.shader_pass_laws.specs.Disruptors.{disruptor_at}
 

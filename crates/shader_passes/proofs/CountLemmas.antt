@@ -1,6 +1,6 @@
 -- The reference counts are the numbers of occurrences.
 use Rattle.std.proofs.Common.{◌≡◌, ◌≢◌, refl, sym, ap, subst, ◌∙◌, ℕ, ◌+◌, ◌-◌, ◌^◌, ◌<◌, ◌≤◌, ◌⊎◌, inl, inr, List, []}
-use Rattle.std.proofs.Common.{◌∷◌, ◌++◌, Bool, true, false, if◌then◌else◌, IfSome, Option, Some, None, length, slice_index}
+use Rattle.std.proofs.Common.{◌∷◌, ◌++◌, ◌&&◌, nat_eq, Bool, true, false, if◌then◌else◌, IfSome, Option, Some, None, length, slice_index}
 use Rattle.std.proofs.Common.{slice_set, slice_get, nat_lt, fold, arith, get_or-set_same, get_or-set_other, rules}
 use Rattle.std.proofs.lemmas.Bool.{cases_eq}
 use Rattle.std.proofs.lemmas.List.{get_or_past, get_or-replicate, length-replicate}
@@ -14,7 +14,7 @@ use Rattle.std.proofs.lemmas.List.Sums.{fold-append}
 use Rattle.shader_ir.specs.Occurs.{local_operands}
 use Rattle.shader_analysis_spec.specs.Counts.{one_of, times, count_of}
 use Rattle.shader_analysis_spec.specs.Program.{Function, Label, Step, expression_operands, statement_operands, statements, occurrences}
-use Rattle.shader_passes.specs.declared.facts.Fact.{Fact}
+use Rattle.shader_passes.specs.Facts.{Fact}
 use Rattle.shader_passes.specs.CountsAndUses.{CountsAndUses, ref_counts_after, counts_after, is_full}
 
 one_same : (i e : ℕ) → i ≡ e → one_of e i ≡ 1
@@ -63,6 +63,33 @@ raised_long counts i = at (is_full counts i) refl where
   at false h = ap length (if_false (is_full counts i) counts (slice_set counts i (slice_index counts i + 1)) h)
       ∙ length-set counts i (slice_index counts i + 1)
 
+-- a count that isn't full has room
+room : (counts : List ℕ) (i : ℕ) → is_full counts i ≡ false → slice_index counts i < 2 ^ 64 → slice_index counts i + 1 < 2 ^ 64
+room counts i free lt = at (nat_lt i (length counts)) refl where
+  at : (b : Bool) → nat_lt i (length counts) ≡ b → slice_index counts i + 1 < 2 ^ 64
+  at true t =
+      let P : Bool → Type 0 = λ b. (b && nat_eq (slice_index counts i) (2 ^ 64 - 1)) ≡ false in
+      let other : nat_eq (slice_index counts i) (2 ^ 64 - 1) ≡ false = subst P t free in
+      grind (arith, nat_tests, other, lt)
+  at false t = let none = get_or_past counts i 0 (omega (arith, ltb-false, t)) in omega (arith, none)
+
+-- each count stays small
+raised_small : (counts : List ℕ) (i : ℕ) → ((e : ℕ) → slice_index counts e < 2 ^ 64) → (e : ℕ) → slice_index (counts_after counts i) e < 2 ^ 64
+raised_small counts i small e = at (is_full counts i) refl where
+  at : (b : Bool) → is_full counts i ≡ b → slice_index (counts_after counts i) e < 2 ^ 64
+  at true full =
+      let same = ap (λ v. slice_index v e) (if_true (is_full counts i) counts (slice_set counts i (slice_index counts i + 1)) full) in
+      omega (arith, same, small e)
+  at false free =
+      let same = ap (λ v. slice_index v e) (if_false (is_full counts i) counts (slice_set counts i (slice_index counts i + 1)) free) in
+      elim (cases_eq i e) [
+        | inl here ↦
+            let P : ℕ → Type 0 = λ v. slice_index counts v + 1 < 2 ^ 64 in
+            let fits : slice_index counts e + 1 < 2 ^ 64 = subst P here (room counts i free (small i)) in
+            omega (arith, same, bumped_le counts i e, one_same i e here, fits)
+        | inr apart ↦ omega (arith, same, bumped_le counts i e, one_other i e apart, small e)
+      ]
+
 module _ (facts : List Fact) where
   -- no step changes the number of counts
   pub counts_long : (t : CountsAndUses) (os : List (ℕ × Label)) → length (fold (ref_counts_after facts) t os).0 ≡ length t.0
@@ -109,21 +136,15 @@ module _ (facts : List Fact) where
         let c = if_false (is_full t.0 o.0) t.0 (slice_set t.0 o.0 (slice_index t.0 o.0 + 1)) f in
         let k = ap (λ v. slice_index v e) c in inr (omega (arith, r, k, bumped_le t.0 o.0 e))
 
-module _ (facts : List Fact) (f : Function) (n : ℕ) (all : List Step) (same : all ≡ statements f.body) (ref_counts : CountsAndUses)
-    (is : ref_counts ≡ fold (ref_counts_after facts) (fold (ref_counts_after facts)
-    (fold (ref_counts_after facts) (replicate (length f.expressions) 0, replicate n 0, None) (flat_map expression_operands f.expressions))
-    (flat_map local_operands f.local_variables)) (flat_map statement_operands all)) where
+counts_small : (facts : List Fact) (t : CountsAndUses) (os : List (ℕ × Label)) → ((e : ℕ) → slice_index t.0 e < 2 ^ 64) →
+    (e : ℕ) → slice_index (fold (ref_counts_after facts) t os).0 e < 2 ^ 64
+counts_small facts t [] small e = small e
+counts_small facts t (o ∷ os) small e = counts_small facts (ref_counts_after facts t o) os (raised_small t.0 o.0 small) e
+
+module _ (facts : List Fact) (f : Function) (n : ℕ) (ref_counts : CountsAndUses)
+    (whole : ref_counts ≡ fold (ref_counts_after facts) (replicate (length f.expressions) 0, replicate n 0, None) (occurrences f)) where
   abbrev zeros : CountsAndUses
   zeros = (replicate (length f.expressions) 0, replicate n 0, None)
-
-  pub whole : ref_counts ≡ fold (ref_counts_after facts) zeros (occurrences f)
-  whole =
-      let own = flat_map expression_operands f.expressions in
-      let locals = flat_map local_operands f.local_variables in
-      let step = ref_counts_after facts in
-      let P : List Step → Type 0 = λ v. ref_counts ≡ fold step (fold step (fold step zeros own) locals) (flat_map statement_operands v) in
-      subst P same is ∙ (ap (λ v. fold step v (flat_map statement_operands (statements f.body))) (sym (fold-append step zeros own locals))
-      ∙ sym (fold-append step zeros (own ++ locals) (flat_map statement_operands (statements f.body))))
 
   zero_at : (e : ℕ) → slice_index (replicate (length f.expressions) 0) e ≡ 0
   zero_at e = at (nat_lt e (length f.expressions)) refl where
@@ -164,3 +185,8 @@ module _ (facts : List Fact) (f : Function) (n : ℕ) (all : List Step) (same : 
     at : (o : Option ℕ) → ref_counts.2 ≡ o → IfSome o (λ e. 2 ^ 64 ≤ count_of f e)
     at (Some e) some = full_of e some
     at None none = tt
+
+  pub small : (e : ℕ) → slice_index ref_counts.0 e < 2 ^ 64
+  small e =
+      let is = ap (λ (v : CountsAndUses). slice_index v.0 e) whole in
+      omega (arith, is, counts_small facts zeros (occurrences f) (λ d. omega (arith, zero_at d)) e)

@@ -5,7 +5,7 @@ use Rattle.std.specs.List.{enumerate_from}
 use Rattle.std.proofs.lemmas.List.{append-nil}
 use Rattle.shader_analysis_spec.specs.Program.{Expression, Function, Module}
 use Rattle.shader_info.specs.declared.info.FunctionInfo.{FunctionInfo}
-use Rattle.shader_passes.specs.declared.facts.Fact.{Fact}
+use Rattle.shader_passes.specs.Facts.{Fact}
 use Rattle.shader_passes.specs.Facts.{facts_after, entry}
 
 pub get_seam : {X : Type 0} (xs : List X) (y : X) (ys : List X) (k : ℕ) → length xs ≡ k → slice_get (xs ++ y ∷ ys) k ≡ Some y
@@ -20,7 +20,8 @@ get_left (x ∷ xs) ys zero lt = refl
 get_left (x ∷ xs) ys (suc k) lt = get_left xs ys k (omega arith)
 
 module _ (m : Module) (infos : List FunctionInfo) (f : Function) where
-  extends : (before : List Fact) (ps : List (ℕ × Expression)) → (extra : List Fact) × (facts_after m infos f before ps ≡ before ++ extra)
+  -- the facts of more expressions come after those before
+  pub extends : (before : List Fact) (ps : List (ℕ × Expression)) → (extra : List Fact) × (facts_after m infos f before ps ≡ before ++ extra)
   extends before [] = ([], sym (append-nil before))
   extends before (p ∷ ps) =
       let one = entry m infos f before p.0 p.1 in

@@ -10,3 +10,6 @@ pub mod StepOrigins
 pub mod StepPairs
 pub mod StepResults
 pub mod RefCountLemmas
+pub mod RecordLemmas
+pub mod CountingLemmas
+pub mod UsesLemmas

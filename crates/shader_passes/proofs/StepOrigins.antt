@@ -14,7 +14,7 @@ use Rattle.shader_analysis_spec.specs.Steps.{StepOrigin}
 use Rattle.shader_analysis_spec.proofs.StoredLemmas.{operands_give_origins}
 use Rattle.shader_analysis_spec.proofs.OriginsLemmas.{IsWitness-same}
 use Rattle.shader_info.specs.declared.info.FunctionInfo.{FunctionInfo}
-use Rattle.shader_passes.specs.declared.facts.Fact.{Fact}
+use Rattle.shader_passes.specs.Facts.{Fact}
 use Rattle.shader_passes.specs.Facts.{callee_of, callee_origin, entry, first_origin, origin_at, own_origin, result_origin_at, facts_after}
 use Rattle.shader_passes.specs.InfoOf.{infos_of, PointsBackwards}
 use Rattle.shader_passes.proofs.FactLemmas.{is_there_between, facts_after_long, get_seam, get_left}

@@ -16,7 +16,7 @@ use Rattle.shader_analysis_spec.specs.Steps as step
 use Rattle.shader_analysis_spec.proofs.OriginsLemmas.{IsWitness-same, IsWitness-some}
 use Rattle.shader_analysis_spec.proofs.RetainedLemmas.{retained}
 use Rattle.shader_info.specs.declared.info.FunctionInfo.{FunctionInfo}
-use Rattle.shader_passes.specs.declared.facts.Fact.{Fact}
+use Rattle.shader_passes.specs.Facts.{Fact}
 use Rattle.shader_passes.specs.Facts.{origin_at, result_origin_at, facts_after}
 use Rattle.shader_passes.specs.InfoOf.{infos_of, PointsBackwards}
 use Rattle.shader_passes.specs.CalleeUses.{result_origin_after}

@@ -7,7 +7,7 @@ use Rattle.shader_ir.specs.Body.{Emit, Return, ControlBarrier, MemoryBarrier, Wo
 use Rattle.shader_ir.specs.Operands.{statement_operands}
 use Rattle.shader_info.specs.declared.flags.GlobalUse.{GlobalUse}
 use Rattle.shader_info.specs.declared.info.FunctionInfo.{FunctionInfo}
-use Rattle.shader_passes.specs.declared.facts.Fact.{Fact}
+use Rattle.shader_passes.specs.Facts.{Fact}
 use Rattle.shader_passes.specs.Facts.{first_origin, needs_at, result_origin_at, result_needs, root_at}
 
 -- the bits of the uses at a position

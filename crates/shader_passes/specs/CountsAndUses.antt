@@ -3,7 +3,7 @@ use Rattle.std.specs.Prelude.{ℕ, ◌+◌, ◌-◌, ◌^◌, Bool, List, Option
 use Rattle.std.specs.Prelude.{slice_set, bit_or, if◌then◌else◌, nat_lt, ◌&&◌, nat_eq}
 use Rattle.shader_ir.specs.declared.proc.operands.Label.{Label}
 use Rattle.shader_ir.specs.declared.proc.operands.Label.TheVariants.{Part, Read, Write, ReadWrite, Query, Atomic}
-use Rattle.shader_passes.specs.declared.facts.Fact.{Fact}
+use Rattle.shader_passes.specs.Facts.{Fact}
 use Rattle.shader_passes.specs.Facts.{root_at}
 
 -- the bits of a label's uses

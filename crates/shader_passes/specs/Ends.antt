@@ -7,7 +7,7 @@ use Rattle.shader_ir.specs.Body.{Cases, NoCase, Case, Simple, Emit, Return, Kill
 use Rattle.shader_info.specs.declared.error.UniformityDisruptor.{UniformityDisruptor}
 use Rattle.shader_info.specs.declared.error.UniformityDisruptor.TheVariants as cause
 use Rattle.shader_info.specs.declared.info.FunctionInfo.{FunctionInfo}
-use Rattle.shader_passes.specs.declared.facts.Fact.{Fact}
+use Rattle.shader_passes.specs.Facts.{Fact}
 use Rattle.shader_passes.specs.declared.flow.Exits.{Exits}
 use Rattle.shader_passes.specs.declared.flow.FlowViolation.{FlowViolation}
 use Rattle.shader_passes.specs.Facts.{needs_at}

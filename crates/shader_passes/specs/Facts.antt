@@ -11,7 +11,13 @@ use Rattle.shader_ir.specs.declared.function.Function.{Function}
 use Rattle.shader_ir.specs.declared.«module».Module.{Module}
 use Rattle.shader_ir.specs.declared.proc.operands.Label.{Label}
 use Rattle.shader_info.specs.declared.info.FunctionInfo.{FunctionInfo}
-use Rattle.shader_passes.specs.declared.facts.Fact.{Fact}
+use Rattle.shader_info.specs.declared.flags.UniformityRequirements.{UniformityRequirements}
+
+-- what the passes find of an expression: a source that makes it non-uniform, what it needs of the flow, and the global that it points into
+pub record Fact : Type 0 where
+  pub origin : Option ℕ
+  pub requirements : UniformityRequirements
+  pub root : Option ℕ
 
 -- a fact about an earlier expression
 abbrev pub origin_at : List Fact → ℕ → Option ℕ

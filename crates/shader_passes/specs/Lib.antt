@@ -10,3 +10,6 @@ pub mod CalleeUses
 pub mod MissingResource
 pub mod RecordedPairs
 pub mod CountsAndUses
+pub mod FirstOrigin
+pub mod Records
+pub mod Counting

@@ -5,7 +5,7 @@ use Rattle.std.specs.Map.{keys_of}
 use Rattle.shader_analysis_spec.specs.Infos.{Resource}
 use Rattle.shader_analysis_spec.specs.Program.{Function, Module, occurrences, statements}
 use Rattle.shader_info.specs.declared.info.FunctionInfo.{FunctionInfo}
-use Rattle.shader_passes.specs.declared.facts.Fact.{Fact}
+use Rattle.shader_passes.specs.Facts.{Fact}
 use Rattle.shader_passes.specs.Ends.{block_ends, is_killing}
 use Rattle.shader_passes.specs.Facts.{origin_at, facts_after}
 use Rattle.shader_passes.specs.CalleeUses.{with_needs_of, result_origin_after, named_by}

@@ -9,7 +9,7 @@ ghost use Rattle.shader_passes.specs.Ends.{requires_uniform_flow, is_killing, fl
 ghost use Rattle.shader_passes.specs.Ends.{step_fault};
 ghost use Rattle.shader_passes.specs.Facts.{origin_at};
 
-use crate::facts::{Fact, origin_of, requirements_of};
+use crate::facts::Facts;
 use bitflags::Flags;
 use shader_arena::{Handle, Range};
 use shader_info::{FunctionInfo, UniformityDisruptor, UniformityRequirements};
@@ -80,7 +80,7 @@ fn disruptor_after(
 
 /// Returns what disrupts the flow in a branch.
 fn on_branch(
-    facts: &[Fact],
+    facts: &Facts<'_>,
     disruptor: &Option<UniformityDisruptor>,
     condition: Handle<mark::Expression>,
 ) -> Option<UniformityDisruptor>
@@ -88,7 +88,7 @@ fn on_branch(
 {
     match disruptor {
         Some(cause) => Some(*cause),
-        None => match origin_of(facts, condition) {
+        None => match facts.origin_of(condition) {
             Some(origin) => Some(UniformityDisruptor::Expression(origin)),
             None => None,
         },
@@ -105,15 +105,15 @@ fn either(left: &Exits, right: &Exits) -> Exits
 }
 
 /// Returns whether an expression needs undisrupted flow.
-fn requires_uniform_flow(facts: &[Fact], expression: Handle<mark::Expression>) -> bool
+fn requires_uniform_flow(facts: &Facts<'_>, expression: Handle<mark::Expression>) -> bool
     ensures { result ≡ requires_uniform_flow facts.now expression }
 {
-    !requirements_of(facts, expression).is_empty()
+    !facts.requirements_of(expression).is_empty()
 }
 
 /// Returns the first expression of a range that needs undisrupted flow.
 fn first_requiring(
-    facts: &[Fact],
+    facts: &Facts<'_>,
     range: &Range<mark::Expression>,
 ) -> Option<Handle<mark::Expression>>
     ensures { result ≡ first_requiring facts.now (positions_between range.now.0 range.now.1) }
@@ -128,7 +128,7 @@ fn first_requiring(
 
 /// Returns the violation by the expression, if the flow is disrupted.
 fn flow_violation_under(
-    facts: &[Fact],
+    facts: &Facts<'_>,
     disruptor: &Option<UniformityDisruptor>,
     expression: Option<Handle<mark::Expression>>,
 ) -> Option<FlowViolation>
@@ -137,7 +137,7 @@ fn flow_violation_under(
     match disruptor {
         Some(cause) => match expression {
             Some(expression) => Some(FlowViolation {
-                requirements: requirements_of(facts, expression),
+                requirements: facts.requirements_of(expression),
                 expression,
                 disruptor: *cause,
             }),
@@ -164,7 +164,7 @@ impl Results {
 #[tactic(auto, using(crate::proofs::FlowLemmas::ors))]
 pub fn flow_of_block(
     infos: &[FunctionInfo],
-    facts: &[Fact],
+    facts: &Facts<'_>,
     seen: &mut Results,
     disruptor: &Option<UniformityDisruptor>,
     block: &Block,
@@ -187,7 +187,7 @@ pub fn flow_of_block(
 #[tactic(auto, using(crate::proofs::FlowLemmas::ors))]
 fn flow_of_statement(
     infos: &[FunctionInfo],
-    facts: &[Fact],
+    facts: &Facts<'_>,
     seen: &mut Results,
     disruptor: &Option<UniformityDisruptor>,
     statement: &Statement,
@@ -231,7 +231,7 @@ fn flow_of_statement(
 #[tactic(auto, using(crate::proofs::FlowLemmas::ors))]
 fn flow_of_cases(
     infos: &[FunctionInfo],
-    facts: &[Fact],
+    facts: &Facts<'_>,
     seen: &mut Results,
     branch: &Option<UniformityDisruptor>,
     cases: &[SwitchCase],
@@ -257,7 +257,7 @@ fn flow_of_cases(
 /// Handles a statement by itself, without the blocks inside.
 fn flow_of_leaf(
     infos: &[FunctionInfo],
-    facts: &[Fact],
+    facts: &Facts<'_>,
     seen: &mut Results,
     disruptor: &Option<UniformityDisruptor>,
     statement: &Statement,

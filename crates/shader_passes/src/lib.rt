@@ -3,11 +3,11 @@
 #![tactic(auto)]
 
 pub mod callees;
+pub mod counting;
 pub mod facts;
 pub mod filters;
 pub mod flatten;
 pub mod flow;
 pub mod pairs;
-pub mod ref_counts;
 pub mod sources;
 pub mod uniformity;

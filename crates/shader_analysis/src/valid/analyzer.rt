@@ -1,15 +1,15 @@
 //! The analysis of one function, given the infos of the functions before it.
 //!
-//! `function_info` flattens the body into a list of statements and computes a fact for each expression from those before it: a source that
-//! makes it non-uniform, what it needs of the flow, and the global that it points into. It then types the expressions. The other passes
-//! read the statements and the facts: they collect the pairs of an image and a sampler, count references and uses of globals, detect
-//! disrupted flow, and find what makes the result non-uniform. No pass looks into a callee; each reads what the callee's info records.
+//! `function_info` flattens the body into a list of statements. It makes a record of each expression from those before it: its type, a source
+//! that makes it non-uniform and what it needs of the flow; and beside the records a list of the globals that the expressions point into. The
+//! other passes read the statements and the records: they collect the pairs of an image and a sampler, count references and uses of
+//! globals, detect disrupted flow, and find what makes the result non-uniform. No pass looks into a callee; each reads what the callee's
+//! info records.
 //!
 //! The analysis is sound and complete. The clause `steps` says that the info meets the step equations over the stored infos, `fault` that a
 //! rejection reports a fault, unless an allocation failed, and `clean` that an accepted function has none. In a well-formed module
 //! functions call earlier ones only, so by induction (`shader_analysis_spec::laws`) the infos are exact and the faults are those of the
 //! interprocedural definitions. No iteration to a fixed point is needed.
-mod expressions;
 mod passes;
 
 ghost use Rattle.std.specs.Prelude.{◌≡◌, IfErr, IfOk, false};
@@ -22,12 +22,11 @@ ghost use Rattle.shader_passes.specs.InfoOf.{info_of, infos_of};
 ghost use Rattle.shader_passes.specs.RecordedPairs.{HaveArguments};
 ghost use Rattle.shader_analysis.specs.Analyzable.{IsAnalyzable};
 
-use expressions::expression_infos;
-use passes::{counted, kills, sampling_pairs, uses_of};
-use shader_expression_types::types_of;
+use passes::{complete_uses, counted, kills, no_uses, sampling_pairs};
+use shader_expression_types::record_expressions;
 use shader_info::{Capabilities, FunctionError, FunctionInfo, ValidationFlags};
-use shader_ir::{Function, Module, ShaderStages};
-use shader_passes::facts::facts_of;
+use shader_ir::{Function, Items, Module, ShaderStages};
+use shader_passes::facts::Facts;
 use shader_passes::flatten::statements_of;
 use shader_passes::uniformity::function_uniformity;
 use std::alloc::Global;
@@ -63,22 +62,31 @@ pub(crate) fn function_info(
 {
     let statements = statements_of(alloc, &function.body)?;
     let all = statements.as_slice();
-    let found = facts_of(alloc, module, infos, function)?;
-    let facts = found.as_slice();
-    let types = types_of(alloc, module, function, facts, capabilities)?;
+    let mut records = Vec::with_capacity(alloc, function.expressions.len())?;
+    let mut roots = Vec::with_capacity(alloc, function.expressions.len())?;
+    record_expressions(
+        alloc,
+        module,
+        infos,
+        function,
+        capabilities,
+        &mut records,
+        &mut roots,
+    )?;
     let pairs = sampling_pairs(alloc, infos, function, all)?;
-    let ref_counts = counted(alloc, module, function, facts, all)?;
-    let may_kill = kills(module, infos, function, facts, flags)?;
-    let uniformity = function_uniformity(infos, facts, all);
-    let expressions = expression_infos(alloc, types, facts, ref_counts.counts.as_slice())?;
-    let global_uses = uses_of(alloc, infos, function, facts, ref_counts.uses, all)?;
+    let mut uses = no_uses(alloc, module)?;
+    counted(function, all, &mut records, roots.as_slice(), &mut uses)?;
+    let facts = Facts::new(records.as_slice(), roots.as_slice());
+    let may_kill = kills(module, infos, function, &facts, flags)?;
+    let uniformity = function_uniformity(infos, &facts, all);
+    complete_uses(infos, function, &facts, &mut uses, all);
     Ok(FunctionInfo {
         available_stages: all_stages(),
         uniformity,
         may_kill,
         sampling_set: pairs.sampling_set,
-        global_uses,
-        expressions,
+        global_uses: Items::from(uses),
+        expressions: Items::from(records),
         sampling: pairs.sampling,
         dual_source_blending: false,
     })

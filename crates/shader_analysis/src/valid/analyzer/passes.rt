@@ -1,5 +1,6 @@
 //! Computes a function's pairs, reference counts, kills and uses of globals, or the error that rejects the function.
-ghost use Rattle.std.specs.Prelude.{◌≡◌, ◌≢◌, ◌<◌, ℕ, Bool, IfErr, IfOk, IfSome, IsTrue, None, Some, false, length, map, slice_get};
+ghost use Rattle.std.specs.Prelude.{◌≡◌, ◌≢◌, ◌<◌, ◌^◌, ℕ, Bool, List, IfErr, IfOk, IfSome, IsTrue, None, Some, false, length};
+ghost use Rattle.std.specs.Prelude.{replicate, slice_get, slice_index};
 ghost use Rattle.shader_analysis_spec.specs.Counts.{count_of};
 ghost use Rattle.shader_analysis_spec.specs.Faults.{Disruptor, NoResource, NonUniformControlFlow, Settings};
 ghost use Rattle.shader_analysis_spec.specs.StepFaults.{StepFault};
@@ -10,8 +11,12 @@ ghost use Rattle.shader_passes.specs.Causes.{IsNamed, settings_of};
 ghost use Rattle.shader_info.specs.declared.error.ExpressionError.TheVariants as expression;
 ghost use Rattle.shader_info.specs.declared.error.FunctionError.TheVariants as error;
 ghost use Rattle.shader_info.specs.declared.flags.Capabilities.{Capabilities};
+ghost use Rattle.shader_info.specs.declared.info.FunctionInfo.{FunctionInfo};
+ghost use Rattle.shader_analysis_spec.specs.Infos.{Info};
 ghost use Rattle.shader_passes.specs.Conditions.{EachFits, GlobalsWithin};
-ghost use Rattle.shader_passes.specs.Results.{computed_facts, computed_kill, own_uses, computed_pairs, own_counts};
+ghost use Rattle.shader_passes.specs.Counting.{bits_in, counts_in};
+ghost use Rattle.shader_passes.specs.Records.{facts_in, types_in};
+ghost use Rattle.shader_passes.specs.Results.{computed_facts, computed_kill, own_uses, computed_pairs};
 ghost use Rattle.shader_pass_laws.specs.OfTheStep.{HasUses};
 ghost use Rattle.shader_passes.specs.StatementLists.{steps_of};
 ghost use Rattle.shader_passes.specs.InfoOf.{PointsBackwards, infos_of};
@@ -19,15 +24,16 @@ ghost use Rattle.shader_passes.specs.RecordedPairs.{HaveArguments, SameMembers, 
 ghost use Rattle.shader_analysis.specs.Analyzable.{ChecksFlow};
 
 use bitflags::Flags;
-use shader_arena::Handle;
-use shader_info::{ExpressionError, FunctionError, FunctionInfo, GlobalUse, ValidationFlags};
-use shader_ir::{Function, Items, Module, Severity, Statement, mark};
-use shader_passes::callees::{add_callee_uses, name_globals, uses_of_bits};
-use shader_passes::facts::Fact;
+use shader_info::{
+    ExpressionError, ExpressionInfo, FunctionError, FunctionInfo, GlobalUse, ValidationFlags,
+};
+use shader_ir::{Function, Module, Severity, Statement};
+use shader_passes::callees::{add_callee_uses, name_globals};
+use shader_passes::counting::count_operands;
+use shader_passes::facts::{Facts, Root};
 use shader_passes::filters::derivative_severity;
 use shader_passes::flow::{FlowViolation, Results, flow_of_block};
 use shader_passes::pairs::Pairs;
-use shader_passes::ref_counts::RefCounts;
 use std::alloc::{AllocError, Global};
 
 /// Returns an error if an image or a sampler of the pairs is no resource. Allocates nothing.
@@ -65,36 +71,68 @@ pub fn sampling_pairs(
     Ok(pairs)
 }
 
-/// Returns an error if a reference count overflows. Allocates nothing.
-fn check_counts(ref_counts: &RefCounts) -> Result<(), FunctionError>
-    ensures ok { IfOk result (λ _. ref_counts.now.2 ≡ None) }
-    ensures full { IfErr result (λ failure. (e : ℕ) × (ref_counts.now.2 ≡ Some e) × (failure ≡ error.CountFull e)) }
+/// Returns a list with no use of any of the module's globals.
+pub fn no_uses(alloc: Global, module: &Module) -> Result<Vec<GlobalUse>, AllocError>
+    ensures { IfOk result (λ uses. bits_in uses.items ≡ replicate (length «module».now.global_variables) 0) }
 {
-    match ref_counts.full {
+    let count = module.global_variables.len();
+    let mut uses = Vec::with_capacity(alloc, count)?;
+    uses.resize(count, GlobalUse(0))?;
+    Ok(uses)
+}
+
+/// Counts in slices as `counted` does in vectors.
+fn counted_in(
+    function: &Function,
+    all: &[&Statement],
+    records: &mut [ExpressionInfo],
+    roots: &[Root],
+    uses: &mut [GlobalUse],
+) -> Result<(), FunctionError>
+    requires all { steps_of all.now ≡ statements function.now.body }
+    requires long { length records.old ≡ length roots.now }
+    requires uncounted { counts_in records.old ≡ replicate (length function.now.expressions) 0 }
+    requires unused { bits_in uses.old ≡ replicate (length uses.old) 0 }
+    ensures facts { facts_in records.new roots.now ≡ facts_in records.old roots.now }
+    ensures types { types_in records.new ≡ types_in records.old }
+    ensures counts { IfOk result (λ _. (e : ℕ) → e < length function.now.expressions →
+        slice_get (counts_in records.new) e ≡ Some (count_of function.now e)) }
+    ensures small { (e : ℕ) → slice_index (counts_in records.new) e < 2 ^ 64 }
+    ensures own_uses { (m : Module) (infos : List FunctionInfo) → length uses.old ≡ length m.global_variables →
+        facts_in records.old roots.now ≡ computed_facts m infos function.now → bits_in uses.new ≡ own_uses m infos function.now }
+    ensures fault { IfErr result (λ failure. (m : Module) (infos : List Info) (settings : Settings) →
+        IsNamed (StepFault m infos function.now settings) failure) }
+{
+    match count_operands(function, all, records, roots, uses) {
         Some(handle) => Err(FunctionError::CountFull(handle)),
         None => Ok(()),
     }
 }
 
-/// Computes the reference counts and the uses of each global, or returns the error for a count that overflows.
+/// Counts the operands of a function in the records of its expressions, and joins its own uses of globals; or returns the error for a count
+/// that overflows. Allocates nothing.
 pub fn counted(
-    alloc: Global,
-    module: &Module,
     function: &Function,
-    facts: &[Fact],
     all: &[&Statement],
-) -> Result<RefCounts, FunctionError>
-    requires { steps_of all.now ≡ statements function.now.body }
-    ensures counts { IfOk result (λ ref_counts. (e : ℕ) → e < length function.now.expressions →
-        slice_get ref_counts.0 e ≡ Some (count_of function.now e)) }
-    ensures own_counts { IfOk result (λ ref_counts. (infos : _) → facts.now ≡ computed_facts «module».now infos function.now →
-        ref_counts ≡ own_counts «module».now infos function.now) }
-    ensures fault { IfErr result (λ failure. (infos : _) (settings : Settings) →
-        IsNamed (StepFault «module».now infos function.now settings) failure) }
+    records: &mut Vec<ExpressionInfo>,
+    roots: &[Root],
+    uses: &mut Vec<GlobalUse>,
+) -> Result<(), FunctionError>
+    requires all { steps_of all.now ≡ statements function.now.body }
+    requires long { length records.old.items ≡ length roots.now }
+    requires uncounted { counts_in records.old.items ≡ replicate (length function.now.expressions) 0 }
+    requires unused { bits_in uses.old.items ≡ replicate (length uses.old.items) 0 }
+    ensures facts { facts_in records.new.items roots.now ≡ facts_in records.old.items roots.now }
+    ensures types { types_in records.new.items ≡ types_in records.old.items }
+    ensures counts { IfOk result (λ _. (e : ℕ) → e < length function.now.expressions →
+        slice_get (counts_in records.new.items) e ≡ Some (count_of function.now e)) }
+    ensures small { (e : ℕ) → slice_index (counts_in records.new.items) e < 2 ^ 64 }
+    ensures own_uses { (m : Module) (infos : List FunctionInfo) → length uses.old.items ≡ length m.global_variables →
+        facts_in records.old.items roots.now ≡ computed_facts m infos function.now → bits_in uses.new.items ≡ own_uses m infos function.now }
+    ensures fault { IfErr result (λ failure. (m : Module) (infos : List Info) (settings : Settings) →
+        IsNamed (StepFault m infos function.now settings) failure) }
 {
-    let ref_counts = RefCounts::of_function(alloc, module, function, facts, all)?;
-    check_counts(&ref_counts)?;
-    Ok(ref_counts)
+    counted_in(function, all, records.as_mut_slice(), roots, uses.as_mut_slice())
 }
 
 /// Returns whether a non-uniform control flow violation is an error in the function.
@@ -129,7 +167,7 @@ pub fn kills(
     module: &Module,
     infos: &[FunctionInfo],
     function: &Function,
-    facts: &[Fact],
+    facts: &Facts<'_>,
     flags: ValidationFlags,
 ) -> Result<bool, FunctionError>
     requires parents { HaveEarlierParents «module».now.diagnostic_filters }
@@ -156,22 +194,35 @@ pub fn kills(
     Ok(exits.kills)
 }
 
-/// Returns the uses of each global: the function's own, those of its callees, and those of globals that it only names.
-pub fn uses_of(
-    alloc: Global,
+/// Completes a slice as `complete_uses` does a vector.
+fn complete_slice(
     infos: &[FunctionInfo],
     function: &Function,
-    facts: &[Fact],
-    own: Vec<u8>,
+    facts: &Facts<'_>,
+    uses: &mut [GlobalUse],
     all: &[&Statement],
-) -> Result<Items<GlobalUse>, AllocError>
+)
     requires { steps_of all.now ≡ statements function.now.body }
-    ensures { IfOk result (λ uses. (m : Module) → PointsBackwards function.now → GlobalsWithin m function.now → EachFits m infos.now →
-        facts.now ≡ computed_facts m infos.now function.now → own.items ≡ own_uses m infos.now function.now →
-        HasUses m infos.now function.now (map (λ at. at.0) uses)) }
+    ensures { (m : Module) → PointsBackwards function.now → GlobalsWithin m function.now → EachFits m infos.now →
+        facts.now ≡ computed_facts m infos.now function.now → bits_in uses.old ≡ own_uses m infos.now function.now →
+        HasUses m infos.now function.now (bits_in uses.new) }
 {
-    let mut uses = own;
-    add_callee_uses(infos, &mut uses, all);
-    name_globals(facts, &mut uses, &function.named_expressions);
-    uses_of_bits(alloc, &uses)
+    add_callee_uses(infos, uses, all);
+    name_globals(facts, uses, &function.named_expressions);
+}
+
+/// Joins to a function's own uses of globals those of its callees, and the queries of globals that it only names.
+pub fn complete_uses(
+    infos: &[FunctionInfo],
+    function: &Function,
+    facts: &Facts<'_>,
+    uses: &mut Vec<GlobalUse>,
+    all: &[&Statement],
+)
+    requires { steps_of all.now ≡ statements function.now.body }
+    ensures { (m : Module) → PointsBackwards function.now → GlobalsWithin m function.now → EachFits m infos.now →
+        facts.now ≡ computed_facts m infos.now function.now → bits_in uses.old.items ≡ own_uses m infos.now function.now →
+        HasUses m infos.now function.now (bits_in uses.new.items) }
+{
+    complete_slice(infos, function, facts, uses.as_mut_slice(), all);
 }
