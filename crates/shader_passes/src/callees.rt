@@ -98,7 +98,11 @@ fn statement_origin(
 }
 
 /// Returns the first origin that the statements contribute to the function's result.
-pub fn result_origin(infos: &[FunctionInfo], facts: &Facts<'_>, all: &[&Statement]) -> NonUniformResult
+pub fn result_origin(
+    infos: &[FunctionInfo],
+    facts: &Facts<'_>,
+    all: &[&Statement],
+) -> NonUniformResult
     ensures { result ≡ fold (result_origin_after infos.now facts.now) None (steps_of all.now) }
 {
     let mut origin = None;

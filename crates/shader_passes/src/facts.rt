@@ -148,7 +148,10 @@ impl<'a> Visitor for FirstOrigin<'a> {
 fn expression_origin(facts: &Facts<'_>, expression: &Expression) -> NonUniformResult
     ensures { result ≡ first_origin facts.now (expression_operands expression.now) }
 {
-    let mut first = FirstOrigin { facts, origin: None };
+    let mut first = FirstOrigin {
+        facts,
+        origin: None,
+    };
     visit_expression(expression, &mut first);
     first.found()
 }
@@ -159,7 +162,10 @@ fn expression_origin(facts: &Facts<'_>, expression: &Expression) -> NonUniformRe
 pub fn operands_origin(facts: &Facts<'_>, statement: &Statement) -> NonUniformResult
     ensures { result ≡ first_origin facts.now (statement_operands (step_of statement.now)) }
 {
-    let mut first = FirstOrigin { facts, origin: None };
+    let mut first = FirstOrigin {
+        facts,
+        origin: None,
+    };
     visit_statement(statement, &mut first);
     first.found()
 }

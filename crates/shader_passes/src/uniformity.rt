@@ -9,7 +9,11 @@ use shader_info::{FunctionInfo, Uniformity};
 use shader_ir::Statement;
 
 /// Returns the uniformity of a function, given the facts of its expressions and its statements at any depth.
-pub fn function_uniformity(infos: &[FunctionInfo], facts: &Facts<'_>, all: &[&Statement]) -> Uniformity
+pub fn function_uniformity(
+    infos: &[FunctionInfo],
+    facts: &Facts<'_>,
+    all: &[&Statement],
+) -> Uniformity
     ensures origin { result.non_uniform_result ≡ fold (result_origin_after infos.now facts.now) None (steps_of all.now) }
     ensures needs { result.requirements.0 ≡ fold (with_needs_of infos.now facts.now) 0 (steps_of all.now) }
 {

@@ -132,7 +132,13 @@ pub fn counted(
     ensures fault { IfErr result (λ failure. (m : Module) (infos : List Info) (settings : Settings) →
         IsNamed (StepFault m infos function.now settings) failure) }
 {
-    counted_in(function, all, records.as_mut_slice(), roots, uses.as_mut_slice())
+    counted_in(
+        function,
+        all,
+        records.as_mut_slice(),
+        roots,
+        uses.as_mut_slice(),
+    )
 }
 
 /// Returns whether a non-uniform control flow violation is an error in the function.
