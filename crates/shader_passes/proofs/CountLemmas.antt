@@ -9,11 +9,8 @@ use borrow.Author.Tests.{ltb-true, ltb-false}
 use Rattle.std.proofs.lemmas.Bool.Decides.{nat_tests}
 use Rattle.std.proofs.Math.ListN.{length-set}
 use Rattle.std.specs.Prelude.{replicate}
-use Rattle.std.specs.List.{flat_map}
-use Rattle.std.proofs.lemmas.List.Sums.{fold-append}
-use Rattle.shader_ir.specs.Occurs.{local_operands}
 use Rattle.shader_analysis_spec.specs.Counts.{one_of, times, count_of}
-use Rattle.shader_analysis_spec.specs.Program.{Function, Label, Step, expression_operands, statement_operands, statements, occurrences}
+use Rattle.shader_analysis_spec.specs.Program.{Function, Label, occurrences}
 use Rattle.shader_passes.specs.Facts.{Fact}
 use Rattle.shader_passes.specs.CountsAndUses.{CountsAndUses, ref_counts_after, counts_after, is_full}
 
@@ -74,7 +71,8 @@ room counts i free lt = at (nat_lt i (length counts)) refl where
   at false t = let none = get_or_past counts i 0 (omega (arith, ltb-false, t)) in omega (arith, none)
 
 -- each count stays small
-raised_small : (counts : List ℕ) (i : ℕ) → ((e : ℕ) → slice_index counts e < 2 ^ 64) → (e : ℕ) → slice_index (counts_after counts i) e < 2 ^ 64
+raised_small : (counts : List ℕ) (i : ℕ) → ((e : ℕ) → slice_index counts e < 2 ^ 64) → (e : ℕ) →
+    slice_index (counts_after counts i) e < 2 ^ 64
 raised_small counts i small e = at (is_full counts i) refl where
   at : (b : Bool) → is_full counts i ≡ b → slice_index (counts_after counts i) e < 2 ^ 64
   at true full =

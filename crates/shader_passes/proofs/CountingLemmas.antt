@@ -1,6 +1,7 @@
 -- Records and uses after some occurrences, as counts and bits; and what counting leaves as it was.
 use Rattle.std.proofs.Common.{◌≡◌, refl, sym, ap, subst, ◌∙◌, ℕ, zero, suc, ◌+◌, ◌-◌, ◌^◌, List, [], ◌∷◌, Bool, true, false}
-use Rattle.std.proofs.Common.{if◌then◌else◌, Option, Some, None, slice_get, slice_set, slice_index, length, map, arith, fold, nat_eq, bit_or, replicate}
+use Rattle.std.proofs.Common.{if◌then◌else◌, Option, Some, None, slice_get, slice_set, slice_index, length, arith, fold, nat_eq, bit_or}
+use Rattle.std.proofs.Common.{replicate}
 use Rattle.std.proofs.lemmas.Bool.Decides.{nat_tests}
 use Rattle.shader_info.specs.declared.flags.GlobalUse.{GlobalUse}
 use Rattle.shader_info.specs.declared.info.ExpressionInfo.{ExpressionInfo}

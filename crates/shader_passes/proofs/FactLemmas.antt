@@ -21,7 +21,8 @@ get_left (x ∷ xs) ys (suc k) lt = get_left xs ys k (omega arith)
 
 module _ (m : Module) (infos : List FunctionInfo) (f : Function) where
   -- the facts of more expressions come after those before
-  pub extends : (before : List Fact) (ps : List (ℕ × Expression)) → (extra : List Fact) × (facts_after m infos f before ps ≡ before ++ extra)
+  pub extends : (before : List Fact) (ps : List (ℕ × Expression)) →
+      (extra : List Fact) × (facts_after m infos f before ps ≡ before ++ extra)
   extends before [] = ([], sym (append-nil before))
   extends before (p ∷ ps) =
       let one = entry m infos f before p.0 p.1 in

@@ -1,5 +1,6 @@
 -- Reference counts and uses in the records of expressions and of globals, after some occurrences of operands.
-use Rattle.std.specs.Prelude.{ℕ, ◌+◌, ◌-◌, ◌^◌, Bool, false, List, Option, Some, None, slice_get, slice_set, bit_or, if◌then◌else◌, nat_eq, map}
+use Rattle.std.specs.Prelude.{ℕ, ◌+◌, ◌-◌, ◌^◌, Bool, false, List, Option, Some, None, slice_get, slice_set, bit_or}
+use Rattle.std.specs.Prelude.{if◌then◌else◌, nat_eq, map}
 use Rattle.shader_info.specs.declared.flags.GlobalUse.{GlobalUse}
 use Rattle.shader_info.specs.declared.info.ExpressionInfo.{ExpressionInfo}
 use Rattle.shader_ir.specs.declared.proc.operands.Label.{Label}

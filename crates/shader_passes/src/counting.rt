@@ -6,7 +6,8 @@ ghost use Rattle.shader_ir.specs.Occurs.{local_operands, occurrences, statements
 ghost use Rattle.shader_ir.specs.Operands.{expression_operands, statement_operands};
 ghost use Rattle.shader_ir.specs.Slots.{retained, read_optional};
 ghost use Rattle.shader_passes.specs.CountsAndUses.{bits, ref_counts_after};
-ghost use Rattle.shader_passes.specs.Counting.{bits_in, counted_once, counts_in, is_full_at, is_full_record, records_after, state_after, uses_by, uses_joined};
+ghost use Rattle.shader_passes.specs.Counting.{bits_in, counted_once, counts_in, is_full_at, is_full_record, records_after, state_after};
+ghost use Rattle.shader_passes.specs.Counting.{uses_by, uses_joined};
 ghost use Rattle.shader_passes.specs.Records.{facts_in, root_in, types_in};
 ghost use Rattle.shader_passes.specs.StatementLists.{steps_of};
 
@@ -179,8 +180,8 @@ fn visit_operands(
     counting.full()
 }
 
-/// Counts all operands of a function in the records of its expressions, given its statements at any depth, and joins its own uses of globals.
-/// Returns an expression whose count overflows, if any.
+/// Counts all operands of a function in the records of its expressions, given its statements at any depth, and joins its own uses of
+/// globals. Returns an expression whose count overflows, if any.
 pub fn count_operands(
     function: &Function,
     all: &[&Statement],

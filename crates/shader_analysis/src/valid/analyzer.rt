@@ -1,9 +1,9 @@
 //! The analysis of one function, given the infos of the functions before it.
 //!
-//! `function_info` flattens the body into a list of statements. It makes a record of each expression from those before it: its type, a source
-//! that makes it non-uniform and what it needs of the flow; and beside the records a list of the globals that the expressions point into. The
-//! other passes read the statements and the records: they collect the pairs of an image and a sampler, count references and uses of
-//! globals, detect disrupted flow, and find what makes the result non-uniform. No pass looks into a callee; each reads what the callee's
+//! `function_info` flattens the body into a list of statements. It makes a record of each expression from those before it: its type, a
+//! source that makes it non-uniform and what it needs of the flow; and beside the records a list of the globals that the expressions point
+//! into. The other passes read the statements and the records: they collect the pairs of an image and a sampler, count references and uses
+//! of globals, detect disrupted flow, and find what makes the result non-uniform. No pass looks into a callee; each reads what the callee's
 //! info records.
 //!
 //! The analysis is sound and complete. The clause `steps` says that the info meets the step equations over the stored infos, `fault` that a

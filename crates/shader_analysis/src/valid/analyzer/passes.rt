@@ -109,8 +109,8 @@ fn counted_in(
     }
 }
 
-/// Counts the operands of a function in the records of its expressions, and joins its own uses of globals; or returns the error for a count
-/// that overflows. Allocates nothing.
+/// Counts the operands of a function in the records of its expressions, and joins its own uses of globals; or returns the error for a
+/// count that overflows. Allocates nothing.
 pub fn counted(
     function: &Function,
     all: &[&Statement],
@@ -128,7 +128,8 @@ pub fn counted(
         slice_get (counts_in records.new.items) e ≡ Some (count_of function.now e)) }
     ensures small { (e : ℕ) → slice_index (counts_in records.new.items) e < 2 ^ 64 }
     ensures own_uses { (m : Module) (infos : List FunctionInfo) → length uses.old.items ≡ length m.global_variables →
-        facts_in records.old.items roots.now ≡ computed_facts m infos function.now → bits_in uses.new.items ≡ own_uses m infos function.now }
+        facts_in records.old.items roots.now ≡ computed_facts m infos function.now →
+        bits_in uses.new.items ≡ own_uses m infos function.now }
     ensures fault { IfErr result (λ failure. (m : Module) (infos : List Info) (settings : Settings) →
         IsNamed (StepFault m infos function.now settings) failure) }
 {
