@@ -59,20 +59,20 @@ pub fn type_of<'a>(
 /// Those of `type_of`.
 pub fn type_beside<'a>(
     alloc: Global,
-    context: &ResolveContext<'a>,
+    resolve_context: &ResolveContext<'a>,
     records: &'a [ExpressionInfo],
     expression: &Expression,
 ) -> Result<TypeResolution, ResolveError>
-    requires backward { IsBackward context.now.types }
-    requires names { IsInRange context.now expression.now }
+    requires backward { IsBackward resolve_context.now.types }
+    requires names { IsInRange resolve_context.now expression.now }
     requires operands { OperandsBelow (length records.now) expression.now }
-    requires fit { All (FitsTypes context.now.types) (types_in records.now) }
+    requires fit { All (FitsTypes resolve_context.now.types) (types_in records.now) }
     ensures reported { (expressions : List Expression) → slice_get expressions (length records.now) ≡ Some expression.now →
-        AreOfTheFirst context.now expressions (types_in records.now) → IsResultOf context.now expressions (length records.now)
+        AreOfTheFirst resolve_context.now expressions (types_in records.now) → IsResultOf resolve_context.now expressions (length records.now)
         (memory_of expression.now) result }
-    ensures fits { TypesInRange context.now → IfOk result (λ resolution. FitsTypes context.now.types resolution) }
+    ensures fits { TypesInRange resolve_context.now → IfOk result (λ resolution. FitsTypes resolve_context.now.types resolution) }
 {
-    context.resolve(
+    resolve_context.resolve(
         alloc,
         expression,
         |operand: Handle<mark::Expression>| -> Result<&TypeResolution, ResolveError>

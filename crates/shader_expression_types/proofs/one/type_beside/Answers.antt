@@ -23,8 +23,8 @@ resolve-requires c κs =
         (
           c.requires.names,
           (
-            may_query c.args.context.now c.args.expression.now (types_in records) below _ (λ operand lt. subst (λ v. operand < v) (sym (long records)) lt),
-            reported_in_range c.args.context.now c.args.expression.now (types_in records) below c.requires.fit _
+            may_query c.args.resolve_context.now c.args.expression.now (types_in records) below _ (λ operand lt. subst (λ v. operand < v) (sym (long records)) lt),
+            reported_in_range c.args.resolve_context.now c.args.expression.now (types_in records) below c.requires.fit _
                 (λ operand reported post. search rules),
           ),
         ),
@@ -37,14 +37,14 @@ returns-clause-reported c = λ expressions is first.
     let types = types_in records in
     let at = subst (λ v. slice_get expressions v ≡ Some c.args.expression.now) (long records) is in
     let below = subst (λ v. OperandsBelow v c.args.expression.now) (long records) c.requires.operands in
-    subst (λ v. IsResultOf c.args.context.now expressions v (memory_of c.args.expression.now) c.resolve.result) (sym (long records))
-    (is_reported c.args.context.now expressions types first (length types) c.args.expression.now at below
+    subst (λ v. IsResultOf c.args.resolve_context.now expressions v (memory_of c.args.expression.now) c.resolve.result) (sym (long records))
+    (is_reported c.args.resolve_context.now expressions types first (length types) c.args.expression.now at below
     (memory_of c.args.expression.now) c.requires.fit
     _ (λ operand reported post. search rules) c.resolve.result c.resolve.ensures.follows)
 
 pub returns-clause-fits : goal.returns-clause-fits
 returns-clause-fits c = λ stored.
     let records = c.args.records.now in
-    c.resolve.ensures.fits (reported_fits c.args.context.now c.args.expression.now (types_in records)
+    c.resolve.ensures.fits (reported_fits c.args.resolve_context.now c.args.expression.now (types_in records)
     (subst (λ v. OperandsBelow v c.args.expression.now) (long records) c.requires.operands) c.requires.fit _
     (λ operand reported post. search rules)) stored
