@@ -68,8 +68,8 @@ pub fn type_beside<'a>(
     requires operands { OperandsBelow (length records.now) expression.now }
     requires fit { All (FitsTypes resolve_context.now.types) (types_in records.now) }
     ensures reported { (expressions : List Expression) → slice_get expressions (length records.now) ≡ Some expression.now →
-        AreOfTheFirst resolve_context.now expressions (types_in records.now) → IsResultOf resolve_context.now expressions (length records.now)
-        (memory_of expression.now) result }
+        AreOfTheFirst resolve_context.now expressions (types_in records.now) →
+        IsResultOf resolve_context.now expressions (length records.now) (memory_of expression.now) result }
     ensures fits { TypesInRange resolve_context.now → IfOk result (λ resolution. FitsTypes resolve_context.now.types resolution) }
 {
     resolve_context.resolve(
