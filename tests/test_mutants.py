@@ -12,7 +12,7 @@ import unittest.mock
 sys.path.insert(0, str(pathlib.Path(__file__).resolve().parent / "lib"))
 import check
 from crates import TOP, listed
-from selection import Choice, commit_before, edits_in, files_changed, names_in
+from selection import Choice, code_of, commit_before, edits_in, files_changed, names_in
 from verdicts import Said, clause_of, without
 
 SAMPLES = TOP / "tests/data/prover_output"
@@ -162,6 +162,13 @@ class Chosen(unittest.TestCase):
         day = 24 * 60 * 60
         rows = [f"a {9 * day}", f"b {8 * day + 1}", f"c {8 * day}", f"d {7 * day}"]
         self.assertEqual((commit_before(rows), commit_before(rows[:2])), ("c", None))
+
+    def test_comments(self):
+        """Takes no comment and no empty line for code, and any other line of a file."""
+        texts = {"a.rt": "/// Says.\n\nfn a()\n    // why\n{}\n", "a.antt": "-- says\nabbrev a : ℕ\n  -- why\na = 1\n"}
+        texts["a.edit"] = "// -- a\n"
+        codes = {"a.rt": ["fn a()", "{}"], "a.antt": ["abbrev a : ℕ", "a = 1"], "a.edit": ["// -- a"]}
+        self.assertEqual({it: code_of(it, texts[it]) for it in texts}, codes)
 
     def test_moved(self):
         """Takes a mutant that only moved within its crate for unchanged, and one that moved to another crate for a new one."""

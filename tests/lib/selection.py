@@ -1,9 +1,9 @@
 """Chooses which mutants of crates/*/mutants a run tries, by the history of the commit.
 
-A run tries all mutants of a crate whose src/ or specs/ changed since the newest commit that is a day older than HEAD, and each mutant that
-changed itself; one that only moved within its crate hasn't changed. It tries the mutants in tests/data/mutants_always.txt. The mutants of a
-crate are tried together, since each check first reads everything below it. Without a history, as in a copy without .git, nothing says what
-changed, and the run tries those of the list.
+A run tries all mutants of a crate whose src/ or specs/ changed, otherwise than in comments, since the newest commit that is a day older
+than HEAD, and each mutant that changed itself; one that only moved within its crate hasn't changed. It tries the mutants in
+tests/data/mutants_always.txt. The mutants of a crate are tried together, since each check first reads everything below it. Without a
+history, as in a copy without .git, nothing says what changed, and the run tries those of the list.
 """
 import re
 import subprocess
@@ -15,6 +15,8 @@ LATELY = 24 * 60 * 60
 SOURCE = re.compile(r"crates/(\w+)/(?:src|specs)/")
 EDIT = re.compile(r"crates/(\w+)/mutants/(\w+)\.edit$")
 MOVED = re.compile(r"R100\tcrates/(\w+)/\S*\tcrates/\1/")
+# What begins a line of a comment, by the kind of file.
+COMMENTS = {".rt": "//", ".antt": "--"}
 
 
 def git(*words):
@@ -24,6 +26,20 @@ def git(*words):
     except OSError:
         return None
     return ran.stdout.splitlines() if ran.returncode == 0 else None
+
+
+def code_of(path, text):
+    """Returns the lines of a file that are neither empty nor comments, without the spaces around them."""
+    mark = COMMENTS.get(path[path.rfind("."):])
+    lines = (it.strip() for it in text.splitlines())
+    return [it for it in lines if it and not (mark and it.startswith(mark))]
+
+
+def has_other_code(path, since):
+    """Returns whether a file has other code than in an earlier commit. If either has no such file, its code is empty."""
+    file = TOP / path
+    old, new = "\n".join(git("show", f"{since}:{path}") or []), file.read_text() if file.exists() else ""
+    return code_of(path, old) != code_of(path, new)
 
 
 def commit_before(lines, seconds=LATELY):
@@ -61,7 +77,8 @@ class Choice:
             changed = git("diff", "--name-only", "--no-renames", self.since) or []
             edited = git("diff", "--name-status", "--find-renames=100%", self.since) or []
             others = git("ls-files", "--others", "--exclude-standard") or []
-            self.changed = {it[1] for it in map(SOURCE.match, [*changed, *others]) if it}
+            sources = [it for it in [*changed, *others] if SOURCE.match(it)]
+            self.changed = {SOURCE.match(it)[1] for it in sources if has_other_code(it, self.since)}
             self.edits = edits_in([*files_changed(edited), *others])
 
     def takes(self, crate, name):
