@@ -12,6 +12,7 @@ sys.path.insert(0, str(pathlib.Path(__file__).resolve().parent / "lib"))
 import check
 import document_lists
 import documents
+import facade
 from programs import script
 
 lint, lint_additions = script("scripts/lint"), script("scripts/lint_additions")
@@ -117,6 +118,20 @@ class Rules(unittest.TestCase):
                 (folder / path).write_text(text)
                 found.append(lint.is_controlled(folder))
             self.assertEqual(found, [True, False, False, True])
+
+
+class Facade(unittest.TestCase):
+    """Tests which public names the façade lacks."""
+
+    def test_names(self):
+        """Reads the names of each form of handing on."""
+        text = "pub use a::b;\npub use a::c::{d, e,\n    f,\n};\npub use g as h;\nuse a::i;\n"
+        self.assertEqual(facade.names_used(text), {"b", "d", "e", "f", "g"})
+
+    def test_missing(self):
+        """Finds a name that is neither handed on nor of a crate that is, nor an inner one."""
+        public = {"a": {"one", "two", "three"}, "b": {"four"}, "c": {"five"}}
+        self.assertEqual(facade.missing({"one"}, {"b"}, public, {"two", "c"}), ["a::three"])
 
 
 class Documents(unittest.TestCase):

@@ -8,9 +8,10 @@ pub use shader_ir::GlobalCtx;
 pub use shader_ir::proc::{
     Alignment, ConcreteIntScalars, ExpressionOperands, KnownIndex, Label, LayoutError,
     LayoutErrorInner, Layouter, Operands, ResolveArraySizeError, StatementOperands, TypeLayout,
-    TypeResolution, UpdateError, VectorSizes, Visitor, compare_types, concrete_int_scalars,
-    expression_operands, sizes_in_range, sizes_in_range_from, statement_operands, types_backward,
-    vector_size_str, vector_sizes, visit_expression, visit_statement,
+    TypeResolution, UpdateError, UpdateReport, VectorSizes, Visitor, compare_types,
+    concrete_int_scalars, expression_operands, sizes_in_range, sizes_in_range_from,
+    statement_operands, types_backward, vector_size_str, vector_sizes, visit_expression,
+    visit_statement,
 };
 pub use shader_overloads as overloads;
 pub use shader_overloads::{
