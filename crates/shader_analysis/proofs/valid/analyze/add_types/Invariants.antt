@@ -7,6 +7,6 @@ abbrev pub invariant-loop-handle : goal.invariant-loop-handle
 invariant-loop-handle l =
     (goal.iterator-loop-handle).can_next l.handle-iterator
     × (goal.iterator-loop-handle).is_finite l.handle-iterator
-    × IsLeft (length l.info.global_expressions) (length l.«module».global_expressions) l.handle-iterator
+    × IsLeft l.«module».global_expressions (length l.info.global_expressions) l.handle-iterator
     × (l.info ≡ record l.fn.info { global_expressions = l.info.global_expressions })
     × TypesComputed l.«module» l.info.global_expressions
