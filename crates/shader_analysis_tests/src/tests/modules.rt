@@ -92,6 +92,7 @@ fn add_scalar(rt: &impl Abort, module: &mut Module, width: u8) {
         width,
     };
     let inner = TypeInner::Scalar(scalar);
+    assert!(rt; !module.types.is_full());
     let inserted = module.types.insert(Type { name: None, inner });
     inserted.expect(rt, OUT_OF_MEMORY);
 }
