@@ -116,11 +116,12 @@ fn the_first_type_without_a_layout_is_named(rt: HostRuntime) {
     add_scalar(&rt, &mut module, 5);
     add_scalar(&rt, &mut module, 7);
     let unlaid = validate(alloc, &module, ValidationFlags(0), Capabilities(0));
-    let named = match &unlaid {
-        Err(ValidationError::Layout(error)) => Some(error.ty),
-        _ => None,
+    let is_second = match &unlaid {
+        Err(ValidationError::Layout(error)) => Some(error.ty == Handle::from_index(1)),
+        Err(ValidationError::OutOfMemory) => None,
+        _ => Some(false),
     };
-    assert!(rt; named == Some(Handle::from_index(1)));
+    assert!(rt; is_second.expect(&rt, OUT_OF_MEMORY));
     drop(module);
 }
 
