@@ -133,14 +133,17 @@ fn faulty_second(alloc: Global) -> Result<Module, AllocError> {
     over_a_float(alloc, vec![in alloc; first, second]?)
 }
 
-/// Returns whether the second function is refused for its control flow.
-fn refuses_second(error: &AnalysisError) -> bool {
+/// Returns whether the second function is refused for its control flow, and `None` if memory ran out.
+fn refuses_second(error: &AnalysisError) -> Option<bool> {
+    if matches!(&error.cause, FunctionError::OutOfMemory) {
+        return None;
+    }
     match error.place {
-        AnalysisLocation::Function(function) => {
+        AnalysisLocation::Function(function) => Some(
             function == Handle::from_index(1)
-                && matches!(&error.cause, FunctionError::NonUniformControlFlow(..))
-        }
-        _ => false,
+                && matches!(&error.cause, FunctionError::NonUniformControlFlow(..)),
+        ),
+        _ => Some(false),
     }
 }
 
@@ -153,9 +156,10 @@ fn a_fault_of_the_analysis_is_named(rt: HostRuntime) {
     drop(module);
     let is_named = match &refused {
         Err(ValidationError::Analysis(error)) => refuses_second(error),
-        _ => false,
+        Err(ValidationError::OutOfMemory) => None,
+        _ => Some(false),
     };
-    assert!(rt; is_named);
+    assert!(rt; is_named.expect(&rt, OUT_OF_MEMORY));
 }
 
 /// Analyses the module's functions one by one until one is refused, and asserts that it is the second.
@@ -167,10 +171,10 @@ fn adds_the_first_alone(rt: &impl Abort, alloc: Global, module: &Module) {
     let added = infos.add_next(module, flags, Capabilities(0));
     added.expect(rt, OUT_OF_MEMORY);
     let is_refused = match infos.add_next(module, flags, Capabilities(0)) {
-        Ok(()) => false,
+        Ok(()) => Some(false),
         Err(error) => refuses_second(&error),
     };
-    assert!(rt; is_refused && infos.function_count() == 1);
+    assert!(rt; is_refused.expect(rt, OUT_OF_MEMORY) && infos.function_count() == 1);
     drop(infos);
 }
 
