@@ -136,8 +136,8 @@ class Chosen(unittest.TestCase):
         self.assertEqual(names_in("# a\n\nb/c\n"), {"b/c"})
 
     def test_named_crates(self):
-        """Has a mutant that every run tries of each crate that a user names, except of the specification, whose functions do nothing."""
-        facade = ["shader_typing", *(it for it in listed()["shader_typing"][1] if it != "shader_analysis_spec")]
+        """Has a mutant that every run tries of each crate that a user names."""
+        facade = ["shader_typing", *listed()["shader_typing"][1]]
         tried = {it.partition("/")[0] for it in Choice((), False).always}
         self.assertEqual({*facade, "shader_json_module", "report", "typer", "pethuvazh"} - tried, set())
 
