@@ -9,3 +9,4 @@ pub mod Processed
 pub mod Reached
 pub mod Recorded
 pub mod Validity
+pub mod NewInfo

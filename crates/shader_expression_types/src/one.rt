@@ -57,6 +57,7 @@ pub fn type_of<'a>(
 /// # Errors
 ///
 /// Those of `type_of`.
+#[inline(always)]
 pub fn type_beside<'a>(
     alloc: Global,
     resolve_context: &ResolveContext<'a>,

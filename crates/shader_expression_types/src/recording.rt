@@ -51,6 +51,7 @@ pub fn untyped(handle: Handle<mark::Expression>, failure: ResolveError) -> Funct
 }
 
 /// Computes the type of the function's expression at `handle`, given the records of the expressions before it and their facts.
+#[inline(always)]
 fn next_type(
     alloc: Global,
     module: &Module,
@@ -89,6 +90,7 @@ fn next_type(
 }
 
 /// Adds the record of the next expression and the global that it points into.
+#[inline(always)]
 fn record_next(
     alloc: Global,
     module: &Module,
@@ -144,6 +146,7 @@ fn record_next(
 }
 
 /// Adds a record and a root.
+#[inline(always)]
 fn add(
     records: &mut Vec<ExpressionInfo>,
     roots: &mut Vec<Root>,

@@ -1,6 +1,6 @@
 -- The reference counts are the numbers of occurrences.
 use Rattle.std.proofs.Common.{◌≡◌, ◌≢◌, refl, sym, ap, subst, ◌∙◌, ℕ, ◌+◌, ◌-◌, ◌^◌, ◌<◌, ◌≤◌, ◌⊎◌, inl, inr, List, []}
-use Rattle.std.proofs.Common.{◌∷◌, ◌++◌, ◌&&◌, nat_eq, Bool, true, false, if◌then◌else◌, IfSome, Option, Some, None, length, slice_index}
+use Rattle.std.proofs.Common.{◌∷◌, ◌&&◌, nat_eq, Bool, true, false, if◌then◌else◌, IfSome, Option, Some, None, length, slice_index}
 use Rattle.std.proofs.Common.{slice_set, slice_get, nat_lt, fold, arith, get_or-set_same, get_or-set_other, rules}
 use Rattle.std.proofs.lemmas.Bool.{cases_eq}
 use Rattle.std.proofs.lemmas.List.{get_or_past, get_or-replicate, length-replicate}

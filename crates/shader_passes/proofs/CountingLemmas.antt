@@ -1,8 +1,9 @@
 -- Records and uses after some occurrences, as counts and bits; and what counting leaves as it was.
-use Rattle.std.proofs.Common.{◌≡◌, refl, sym, ap, subst, ◌∙◌, ℕ, zero, suc, ◌+◌, ◌-◌, ◌^◌, List, [], ◌∷◌, Bool, true, false}
+use Rattle.std.proofs.Common.{◌≡◌, refl, sym, ap, ◌∙◌, ℕ, zero, suc, ◌+◌, ◌-◌, ◌^◌, List, [], ◌∷◌, Bool, true, false}
 use Rattle.std.proofs.Common.{if◌then◌else◌, Option, Some, None, slice_get, slice_set, slice_index, length, arith, fold, nat_eq, bit_or}
 use Rattle.std.proofs.Common.{replicate}
 use Rattle.std.proofs.lemmas.Bool.Decides.{nat_tests}
+use Rattle.std.proofs.lemmas.List.Sums.{fold-append}
 use Rattle.shader_info.specs.declared.flags.GlobalUse.{GlobalUse}
 use Rattle.shader_info.specs.declared.info.ExpressionInfo.{ExpressionInfo}
 use Rattle.shader_analysis_spec.specs.Program.{Function, occurrences}
@@ -165,13 +166,15 @@ folds_state counting [] = refl
 folds_state counting (o ∷ os) = folds_state (counting_after counting o) os
 
 -- the counts and uses of a function, from none on
-pub whole_state : (f : Function) (records : List ExpressionInfo) (roots : List (Option ℕ)) (uses : List GlobalUse) →
+pub counts_whole : (f : Function) (records : List ExpressionInfo) (roots : List (Option ℕ)) (uses : List GlobalUse) →
     length records ≡ length roots → counts_in records ≡ replicate (length f.expressions) 0 → bits_in uses ≡ replicate (length uses) 0 →
     as_counts (fold (state_after roots) (records, uses, None) (occurrences f))
     ≡ fold (ref_counts_after (facts_in records roots)) (replicate (length f.expressions) 0, replicate (length uses) 0, None)
     (occurrences f)
-whole_state f records roots uses long uncounted unused =
+counts_whole f records roots uses long uncounted unused =
     let start : List ℕ → List ℕ → CountsAndUses = λ counts bits. (counts, bits, None) in
     counts_all roots (records, uses, None) (occurrences f) long
     ∙ ap (λ v. fold (ref_counts_after (facts_in records roots)) v (occurrences f))
     (ap (λ v. start v (bits_in uses)) uncounted ∙ ap (start (replicate (length f.expressions) 0)) unused)
+
+pub ruleset counts_declared = (folds_state, facts_stay, length_stays, fold-append)

@@ -10,7 +10,7 @@ either_assoc a b c =
     let p : ((a.returns || b.returns) || c.returns) ≡ (a.returns || (b.returns || c.returns)) = rw or_assoc in
     let q : ((a.kills || b.kills) || c.kills) ≡ (a.kills || (b.kills || c.kills)) = rw or_assoc in cc
 
-or_none : (a : Bool) → (a || false) ≡ a
+pub or_none : (a : Bool) → (a || false) ≡ a
 or_none true = refl
 or_none false = refl
 

@@ -13,3 +13,5 @@ pub mod RefCountLemmas
 pub mod RecordLemmas
 pub mod CountingLemmas
 pub mod UsesLemmas
+pub mod JoinLemmas
+pub mod WalkLemmas

@@ -1,7 +1,8 @@
 -- Sets of pairs.
-use Rattle.std.proofs.Common.{rules, ◌≡◌, sym, subst, ℕ, inl, inr, List, [], ◌∷◌, ◌++◌, Bool}
-use Rattle.std.proofs.Common.{true, false, map, not, Option, None, slice_get, unwrap_or}
-use Rattle.std.specs.List.{Contains, list_any}
+use Rattle.std.proofs.Common.{rules, ◌≡◌, refl, sym, ap, subst, ◌∙◌, ℕ, inl, inr, List, [], ◌∷◌, ◌++◌, Bool, ◌||◌, ◌⊎◌}
+use Rattle.std.proofs.Common.{MutBor, true, false, map, not, fold, Option, append_assoc}
+use Rattle.std.proofs.lemmas.List.{map-append}
+use Rattle.std.specs.List.{Contains, flat_map, list_any}
 use Rattle.std.specs.Bool.{MatchBool}
 use Rattle.std.specs.List.Sorted.{IsPermutation}
 use Rattle.std.proofs.lemmas.List.Sorted.{Contains-permutation, IsPermutation-sym, IsPermutation-middle}
@@ -11,18 +12,24 @@ use Rattle.shader_info.specs.contracts.info.SamplingKeyPartialEq.TheImpl as key
 use Rattle.shader_info.specs.contracts.info.SamplingPartialEq.TheImpl as sampling
 use Rattle.shader_info.specs.declared.info.Sampling.{Sampling}
 use Rattle.shader_info.specs.declared.info.SamplingKey.{SamplingKey}
-use Rattle.shader_passes.specs.RecordedPairs.{HasArgument, HaveArguments, SameMembers, pairs_in, resource_view}
-use Rattle.shader_passes.specs.RecordedPairs.{key_pair, sampling_pair, callee_pairs, pairs_in_caller, info_pairs}
+use Rattle.shader_passes.specs.declared.pairs.Pairs.{Pairs}
+use Rattle.shader_passes.specs.RecordedPairs.{AreLent, HasArgument, HaveArguments, SameMembers, pairs_in, resource_view}
+use Rattle.shader_passes.specs.RecordedPairs.{key_pair, sampling_pair, callee_pairs, pair_in_caller, pairs_in_caller}
+use Rattle.shader_passes.specs.Calling.{is_call}
+use Rattle.shader_passes.specs.MissingResource.{call_missed}
 use Rattle.shader_info.specs.declared.info.FunctionInfo.{FunctionInfo}
 use Rattle.shader_analysis_spec.specs.Program.{Function, Step, Leaf, Call}
-use Rattle.std.specs.Option.{option_map}
 use Rattle.shader_analysis_spec.proofs.ListLemmas.{there, cases, in_map, nowhere, of_map}
 use Rattle.shader_analysis_spec.specs.Infos.{Resource}
 use Rattle.std.proofs.lemmas.Grind.{flat_map-append}
+use Rattle.std.proofs.lemmas.List.Sums.{fold-append}
 use Rattle.shader_arena.proofs.PositionsLemmas.{items_of-enumerate_from}
 
 key_same : (x y : SamplingKey) → key.ghosts.eq x y ≡ true → x ≡ y
 key_same x y h = search rules
+
+key_itself : (x : SamplingKey) → key.ghosts.eq x x ≡ true
+key_itself x = search rules
 
 sampling_same : (x y : Sampling) → sampling.ghosts.eq x y ≡ true → x ≡ y
 sampling_same x y h = search rules
@@ -110,6 +117,36 @@ module _ {X : Type 0} where
         ]);
       }
 
+either : (a b : Bool) → (a || b) ≡ true → (a ≡ true) ⊎ (b ≡ true)
+either true b h = inl refl
+either false b h = inr h
+
+or_true : (b : Bool) → (b || true) ≡ true
+or_true true = refl
+or_true false = refl
+
+module _ {X : Type 0} {eq : X → X → Bool} (same : (x y : X) → eq x y ≡ true → x ≡ y) (itself : (x : X) → eq x x ≡ true) where
+  any_from : (q : X) (ks : List X) → Contains ks q → list_any (eq q) ks ≡ true
+  any_from q [] h = absurd (nowhere q h)
+  any_from q (k ∷ ks) h = elim (cases k ks q h) [
+    | inl is ↦ let P : X → Type 0 = λ v. (eq q v || list_any (eq q) ks) ≡ true in
+        subst P (sym is) (ap (λ v. v || list_any (eq q) ks) (itself q))
+    | inr rest ↦ ap (λ v. eq q k || v) (any_from q ks rest) ∙ or_true (eq q k)
+  ]
+
+  -- a set after the keys of another are added
+  unites : (xs ys zs : List X) → ((q : X) → list_any (eq q) zs ≡ (list_any (eq q) xs || list_any (eq q) ys)) → SameMembers zs (ys ++ xs)
+  unites xs ys zs union = record {
+    to = λ q h. elim (either (list_any (eq q) xs) (list_any (eq q) ys) (sym (union q) ∙ any_from q zs h)) [
+      | inl in_xs ↦ Contains-append_right ys xs q (Contains-from_any same q xs in_xs)
+      | inr in_ys ↦ Contains-append_left ys xs q (Contains-from_any same q ys in_ys)
+    ];
+    from = λ q h. Contains-from_any same q zs (union q ∙ elim (Contains-append_cases ys xs q h) [
+      | inl in_ys ↦ ap (λ v. list_any (eq q) xs || v) (any_from q ys in_ys) ∙ or_true (list_any (eq q) xs)
+      | inr in_xs ↦ ap (λ v. v || list_any (eq q) ys) (any_from q xs in_xs)
+    ]);
+  }
+
 same_map_to : {X Y : Type 0} (f : X → Y) (xs ys : List X) → SameMembers xs ys → (y : Y) → Contains (map f xs) y → Contains (map f ys) y
 same_map_to {Y = Y} f xs ys p y h =
     let r = in_map f xs y h in
@@ -155,14 +192,95 @@ stays_open k open_pairs open_pairs' added p e has before = record {
 pub none_open : HaveArguments []
 none_open = record { each = λ pair h. absurd (nowhere pair h) }
 
-pub ruleset gains = (more, more_one, both, same_refl, items_of-enumerate_from, flat_map-append)
+-- a set after the keys of another are added
+pub joins_known : (known known' others : List SamplingKey) (open_pairs : List Sampling) →
+    ((k : SamplingKey) → list_any (key.ghosts.eq k) known' ≡ (list_any (key.ghosts.eq k) known || list_any (key.ghosts.eq k) others)) →
+    SameMembers (pairs_in known' open_pairs) (map key_pair others ++ pairs_in known open_pairs)
+joins_known known known' others open_pairs union =
+    let P : List (Resource × Resource) → Type 0 = λ v. SameMembers (pairs_in known' open_pairs) v in
+    let opens = map sampling_pair open_pairs in
+    let split = ap (λ v. v ++ opens) (map-append key_pair others known) ∙ append_assoc (map key_pair others) (map key_pair known) opens in
+    subst P split (same_join (map key_pair known') (map key_pair (others ++ known)) opens opens
+    (same_map key_pair known' (others ++ known) (unites key_same key_itself known others known' union)) (same_refl opens))
 
--- a call of a function without an info adds nothing
-pub calls_none : (infos : List FunctionInfo) (f : Function) (s : Step) (c : ℕ) (arguments : List ℕ) (result : Option ℕ)
-    (ps : List (Resource × Resource)) →
-    s ≡ Leaf (Call c arguments result) → slice_get infos c ≡ None → SameMembers ps (callee_pairs infos f s ++ ps)
-calls_none infos f s c arguments result ps e none =
-    let P : Step → Type 0 = λ v. SameMembers ps (callee_pairs infos f v ++ ps) in
-    let Q : Option FunctionInfo → Type 0 =
-    λ v. SameMembers ps (pairs_in_caller f arguments (unwrap_or (option_map info_pairs v) []) ++ ps) in
-    subst P (sym e) (subst Q (sym none) (same_refl ps))
+-- a copy of the keys of another set, where there were none
+pub copies_known : (known known' others : List SamplingKey) (open_pairs : List Sampling) → known ≡ [] → known' ≡ others →
+    SameMembers (pairs_in known' open_pairs) (map key_pair others ++ pairs_in known open_pairs)
+copies_known known known' others open_pairs none same =
+    let P : List SamplingKey → Type 0 = λ v. SameMembers (pairs_in v open_pairs) (map key_pair others ++ pairs_in known open_pairs) in
+    let Q : List SamplingKey → Type 0 = λ v. SameMembers (pairs_in others open_pairs) (map key_pair others ++ pairs_in v open_pairs) in
+    subst P (sym same) (subst Q (sym none) (same_refl (pairs_in others open_pairs)))
+
+-- a pair of two globals is the same in the caller
+known_in_caller : (f : Function) (arguments : List ℕ) (known : List SamplingKey) →
+    pairs_in_caller f arguments (map key_pair known) ≡ map key_pair known
+known_in_caller f arguments [] = refl
+known_in_caller f arguments (k ∷ known) = ap (λ v. key_pair k ∷ v) (known_in_caller f arguments known)
+
+-- the pairs of two globals first, then those with an argument
+pub both_kinds : (f : Function) (arguments : List ℕ) (known : List SamplingKey) (open_pairs : List Sampling)
+    (ps ps' ps'' : List (Resource × Resource)) → SameMembers ps' (map key_pair known ++ ps) →
+    SameMembers ps'' (pairs_in_caller f arguments (map sampling_pair open_pairs) ++ ps') →
+    SameMembers ps'' (pairs_in_caller f arguments (pairs_in known open_pairs) ++ ps)
+both_kinds f arguments known open_pairs ps ps' ps'' first second =
+    let P : List (Resource × Resource) → Type 0 = λ v. SameMembers ps'' (v ++ ps) in
+    let split : pairs_in_caller f arguments (pairs_in known open_pairs)
+    ≡ map key_pair known ++ pairs_in_caller f arguments (map sampling_pair open_pairs) =
+    flat_map-append (pair_in_caller f arguments) (map key_pair known) (map sampling_pair open_pairs)
+    ∙ ap (λ v. v ++ pairs_in_caller f arguments (map sampling_pair open_pairs)) (known_in_caller f arguments known) in
+    subst P (sym split) (both (map key_pair known) (pairs_in_caller f arguments (map sampling_pair open_pairs)) ps ps' ps'' first second)
+
+-- a list of steps is split, and its first part is done
+module _ {X : Type 0} (all first rest : List X) (split : all ≡ first ++ rest) where
+  pub pairs_left : {Y : Type 0} (f : X → List Y) (s s' total : List Y) → SameMembers s' (flat_map f first ++ s) →
+      SameMembers (flat_map f all ++ s) total → SameMembers (flat_map f rest ++ s') total
+  pairs_left f s s' total =
+      more_at (flat_map f all) (flat_map f first) (flat_map f rest) s s' total (ap (flat_map f) split ∙ flat_map-append f first rest)
+
+  pub fold_left : {S : Type 0} (f : S → X → S) (s s' : S) → s' ≡ fold f s first → fold f s' rest ≡ fold f s all
+  fold_left f s s' e = ap (λ v. fold f v rest) e ∙ (sym (fold-append f s first rest) ∙ ap (fold f s) (sym split))
+
+-- what stays lent from step to step
+lent_more : {X : Type 0} (a b c : MutBor X) → b ≡ record a { now = b.now } → c ≡ record b { now = c.now } → c ≡ record a { now = c.now }
+lent_more a b c p q = q ∙ ap (λ (v : MutBor _). record v { now = c.now }) p
+
+pub lent_on : (a b c : Pairs) → AreLent a b → AreLent b c → AreLent a c
+lent_on a b c p q = (
+  lent_more a.sampling_set b.sampling_set c.sampling_set p.0 q.0,
+  lent_more a.sampling b.sampling c.sampling p.1 q.1,
+)
+
+pub ruleset gains = (more, more_one, both, same_refl, lent_on, items_of-enumerate_from, flat_map-append)
+
+neither : (a b : Bool) → (a || b) ≡ false → (a ≡ false) × (b ≡ false)
+neither false b h = (refl, h)
+neither true b h = absurd (cc)
+
+module _ (infos : List FunctionInfo) (f : Function) where
+  quiet_pairs : (s : Step) → is_call s ≡ false → callee_pairs infos f s ≡ []
+  quiet_pairs (Leaf (Call c arguments result)) h = absurd (cc)
+  quiet_pairs s h = refl
+
+  -- steps without a call have no callee's pairs
+  pub no_pairs : (steps : List Step) → list_any is_call steps ≡ false → flat_map (callee_pairs infos f) steps ≡ []
+  no_pairs [] h = refl
+  no_pairs (s ∷ steps) h = let two = neither (is_call s) (list_any is_call steps) h in
+      ap (λ v. v ++ flat_map (callee_pairs infos f) steps) (quiet_pairs s two.0) ∙ no_pairs steps two.1
+
+  quiet_misses : (o : Option ℕ) (s : Step) → is_call s ≡ false → call_missed infos f o s ≡ o
+  quiet_misses o (Leaf (Call c arguments result)) h = absurd (cc)
+  quiet_misses o s h = refl
+
+  pub no_misses : (o : Option ℕ) (steps : List Step) → list_any is_call steps ≡ false → fold (call_missed infos f) o steps ≡ o
+  no_misses o [] h = refl
+  no_misses o (s ∷ steps) h = let two = neither (is_call s) (list_any is_call steps) h in
+      ap (λ v. fold (call_missed infos f) v steps) (quiet_misses o s two.0) ∙ no_misses o steps two.1
+
+  pub same_without_calls : (steps : List Step) (ps : List (Resource × Resource)) → list_any is_call steps ≡ false →
+      SameMembers ps (flat_map (callee_pairs infos f) steps ++ ps)
+  same_without_calls steps ps h = let P : List (Resource × Resource) → Type 0 = λ v. SameMembers ps (v ++ ps) in
+      subst P (sym (no_pairs steps h)) (same_refl ps)
+
+-- a set without keys
+pub empty_open : (keys : List Sampling) → keys ≡ [] → HaveArguments keys
+empty_open keys none = subst HaveArguments (sym none) none_open

@@ -1,5 +1,5 @@
 -- Facts by records and roots.
-use Rattle.std.proofs.Common.{◌≡◌, refl, sym, ap, ◌∙◌, ℕ, zero, suc, List, [], ◌∷◌, ◌++◌, Option, Some, None, length, map, arith, fold}
+use Rattle.std.proofs.Common.{◌≡◌, refl, sym, ap, ◌∙◌, ℕ, zero, suc, List, [], ◌∷◌, ◌++◌, Option, length, map, arith, fold}
 use Rattle.std.specs.Option.{option_or}
 use Rattle.shader_info.specs.declared.info.ExpressionInfo.{ExpressionInfo}
 use Rattle.shader_ir.specs.declared.proc.operands.Label.{Label}

@@ -1,8 +1,12 @@
 -- Reference counts and uses in the records of expressions and of globals, after some occurrences of operands.
-use Rattle.std.specs.Prelude.{ℕ, ◌+◌, ◌-◌, ◌^◌, Bool, false, List, Option, Some, None, slice_get, slice_set, bit_or}
+use Rattle.std.specs.Prelude.{ℕ, ◌+◌, ◌-◌, ◌^◌, Bool, false, List, ◌++◌, Option, Some, None, slice_get, slice_set, bit_or}
 use Rattle.std.specs.Prelude.{if◌then◌else◌, nat_eq, map}
+use Rattle.std.specs.List.{flat_map}
 use Rattle.shader_info.specs.declared.flags.GlobalUse.{GlobalUse}
 use Rattle.shader_info.specs.declared.info.ExpressionInfo.{ExpressionInfo}
+use Rattle.shader_ir.specs.Occurs.{local_operands}
+use Rattle.shader_ir.specs.Operands.{expression_operands}
+use Rattle.shader_ir.specs.declared.function.Function.{Function}
 use Rattle.shader_ir.specs.declared.proc.operands.Label.{Label}
 use Rattle.shader_passes.specs.CountsAndUses.{CountsAndUses, bits}
 use Rattle.shader_passes.specs.declared.counting.Counting.{Counting}
@@ -64,6 +68,10 @@ with_state counting state = record counting {
 -- the visitor after an operand
 abbrev pub counting_after : Counting → ℕ × Label → Counting
 counting_after counting operand = with_state counting (state_after counting.roots.now (state_of counting) operand)
+
+-- the operands outside of the statements: those of the expressions, and the initial values of local variables
+abbrev pub declared_operands : Function → List (ℕ × Label)
+declared_operands function = flat_map expression_operands function.expressions ++ flat_map local_operands function.local_variables
 
 -- the reference counts of records
 abbrev pub counts_in : List ExpressionInfo → List ℕ

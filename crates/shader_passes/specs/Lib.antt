@@ -7,9 +7,13 @@ pub mod ComputedOrigins
 pub mod StatementLists
 pub mod InfoOf
 pub mod CalleeUses
+pub mod Calling
 pub mod MissingResource
 pub mod RecordedPairs
 pub mod CountsAndUses
 pub mod FirstOrigin
 pub mod Records
 pub mod Counting
+pub mod Walking
+pub mod Walked
+pub mod NewWalk

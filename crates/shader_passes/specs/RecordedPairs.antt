@@ -1,5 +1,5 @@
 -- The recorded pairs, as resources.
-use Rattle.std.specs.Prelude.{ℕ, List, [], ◌∷◌, ◌++◌, Option, Some, None, map, slice_get, unwrap_or}
+use Rattle.std.specs.Prelude.{◌≡◌, ℕ, List, [], ◌∷◌, ◌++◌, Option, Some, None, map, slice_get, unwrap_or}
 use Rattle.std.specs.Option.{option_map}
 use Rattle.std.specs.List.{Contains, flat_map}
 use Rattle.shader_analysis_spec.specs.Infos.{Resource, InGlobal, InArgument}
@@ -26,7 +26,12 @@ abbrev pub pairs_in : List SamplingKey → List Sampling → List (Resource × R
 pairs_in known open_pairs = map key_pair known ++ map sampling_pair open_pairs
 
 abbrev pub pairs_of : Pairs → List (Resource × Resource)
-pairs_of p = pairs_in p.sampling_set.keys p.sampling.keys
+pairs_of p = pairs_in p.sampling_set.now.keys p.sampling.now.keys
+
+-- the later one collects in the sets that the earlier one was lent
+abbrev pub AreLent : Pairs → Pairs → Type 0
+AreLent earlier later = (later.sampling_set ≡ record earlier.sampling_set { now = later.sampling_set.now })
+    × (later.sampling ≡ record earlier.sampling { now = later.sampling.now })
 
 -- one of the two resources is an argument
 abbrev pub HasArgument : Resource → Resource → Type 0

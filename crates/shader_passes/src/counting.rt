@@ -1,17 +1,17 @@
 //! Reference counts of expressions, and the uses of each global by the function itself.
-ghost use Rattle.std.specs.Prelude.{◌≡◌, ◌<◌, ◌≤◌, ◌^◌, ℕ, [], ◌∷◌, IfSome, None, Some, fold, length, replicate, slice_get, slice_index};
+ghost use Rattle.std.specs.Prelude.{◌≡◌, [], ◌∷◌, fold, length, slice_get};
 ghost use Rattle.std.specs.List.{flat_map};
-ghost use Rattle.shader_analysis_spec.specs.Counts.{count_of};
-ghost use Rattle.shader_ir.specs.Occurs.{local_operands, occurrences, statements};
+ghost use Rattle.shader_ir.specs.Occurs.{local_operands};
+ghost use Rattle.shader_ir.specs.BodyOf.{step_of};
 ghost use Rattle.shader_ir.specs.Operands.{expression_operands, statement_operands};
 ghost use Rattle.shader_ir.specs.Slots.{retained, read_optional};
-ghost use Rattle.shader_passes.specs.CountsAndUses.{bits, ref_counts_after};
-ghost use Rattle.shader_passes.specs.Counting.{bits_in, counted_once, counts_in, is_full_at, is_full_record, records_after, state_after};
-ghost use Rattle.shader_passes.specs.Counting.{uses_by, uses_joined};
-ghost use Rattle.shader_passes.specs.Records.{facts_in, root_in, types_in};
-ghost use Rattle.shader_passes.specs.StatementLists.{steps_of};
+ghost use Rattle.shader_passes.specs.CountsAndUses.{bits};
+ghost use Rattle.shader_passes.specs.Counting.{counted_once, declared_operands, is_full_at, is_full_record, records_after, state_after};
+ghost use Rattle.shader_passes.specs.Counting.{state_of, uses_by, uses_joined, with_state};
+ghost use Rattle.shader_passes.specs.Records.{facts_in, root_in};
+ghost use Rattle.shader_passes.specs.Walking.{facts_by};
 
-use crate::facts::{Root, root_in};
+use crate::facts::{Facts, Root, root_in};
 use bitflags::Flags;
 use shader_arena::{Arena, Handle};
 use shader_info::{ExpressionInfo, GlobalUse};
@@ -87,11 +87,11 @@ fn use_in(uses: &mut [GlobalUse], root: Root, label: Label)
 /// Counts operands in the records of expressions, and records the uses of the globals that they point into.
 #[derive(Drop)]
 pub struct Counting<'a> {
-    records: &'a mut [ExpressionInfo],
-    roots: &'a [Root],
-    uses: &'a mut [GlobalUse],
+    pub(crate) records: &'a mut [ExpressionInfo],
+    pub(crate) roots: &'a [Root],
+    pub(crate) uses: &'a mut [GlobalUse],
     /// An expression whose reference count overflows, if any.
-    full: Option<Handle<mark::Expression>>,
+    pub(crate) full: Option<Handle<mark::Expression>>,
 }
 
 impl<'a> Counting<'a> {
@@ -127,85 +127,42 @@ impl<'a> Counting<'a> {
         }
     }
 
-    /// Counts the operands of statements.
-    #[tactic(auto, using(crate::proofs::RefCountLemmas::folds))]
-    fn count_statements(&mut self, all: &[&Statement])
-        ensures { self.new ≡ fold counting_after self.old (flat_map statement_operands (steps_of all.now)) }
-    {
-        for statement in all {
-            visit_statement(statement, self);
-        }
-    }
-
-    /// Counts all operands of a function, given its statements at any depth.
-    #[tactic(auto, using(crate::proofs::RefCountLemmas::folds))]
-    fn count_function(&mut self, function: &Function, all: &[&Statement])
-        requires { steps_of all.now ≡ statements function.now.body }
-        ensures { self.new ≡ fold counting_after self.old (occurrences function.now) }
+    /// Counts the operands of all expressions, and the initial values of all local variables.
+    #[tactic(auto, using(crate::proofs::CountingLemmas::counts_declared))]
+    pub(crate) fn count_declared(&mut self, function: &Function)
+        requires { length self.old.records.now ≡ length self.old.roots.now }
+        ensures counted { self.new ≡ with_state self.old
+            (fold (state_after self.old.roots.now) (state_of self.old) (declared_operands function.now)) }
+        ensures facts { facts_in self.new.records.now self.new.roots.now ≡ facts_in self.old.records.now self.old.roots.now }
+        ensures long { length self.new.records.now ≡ length self.new.roots.now }
+        ensures roots { self.new.roots ≡ self.old.roots }
     {
         self.count_expressions(&function.expressions);
         self.count_locals(&function.local_variables);
-        self.count_statements(all);
     }
 
-    /// Returns an expression whose count overflows, if any.
-    fn full(&self) -> Option<Handle<mark::Expression>>
-        ensures { result ≡ self.now.full }
+    /// Returns the facts about the function's expressions.
+    #[inline(always)]
+    pub(crate) fn facts(&self) -> Facts<'_>
+        requires { length self.now.records.now ≡ length self.now.roots.now }
+        ensures { result ≡ facts_by self.now }
     {
-        self.full
+        Facts::new(self.records, self.roots)
     }
-}
 
-/// Builds the visitor, and visits all operands of a function.
-#[tactic(auto, using(crate::proofs::CountingLemmas::folds_state))]
-fn visit_operands(
-    function: &Function,
-    all: &[&Statement],
-    records: &mut [ExpressionInfo],
-    roots: &[Root],
-    uses: &mut [GlobalUse],
-) -> Option<Handle<mark::Expression>>
-    requires { steps_of all.now ≡ statements function.now.body }
-    ensures records { records.new ≡ (fold (state_after roots.now) (records.old, uses.old, None) (occurrences function.now)).0 }
-    ensures uses { uses.new ≡ (fold (state_after roots.now) (records.old, uses.old, None) (occurrences function.now)).1 }
-    ensures full { result ≡ (fold (state_after roots.now) (records.old, uses.old, None) (occurrences function.now)).2 }
-{
-    let mut counting = Counting {
-        records,
-        roots,
-        uses,
-        full: None,
-    };
-    counting.count_function(function, all);
-    counting.full()
-}
-
-/// Counts all operands of a function in the records of its expressions, given its statements at any depth, and joins its own uses of
-/// globals. Returns an expression whose count overflows, if any.
-pub fn count_operands(
-    function: &Function,
-    all: &[&Statement],
-    records: &mut [ExpressionInfo],
-    roots: &[Root],
-    uses: &mut [GlobalUse],
-) -> Option<Handle<mark::Expression>>
-    requires all { steps_of all.now ≡ statements function.now.body }
-    requires long { length records.old ≡ length roots.now }
-    requires uncounted { counts_in records.old ≡ replicate (length function.now.expressions) 0 }
-    requires unused { bits_in uses.old ≡ replicate (length uses.old) 0 }
-    ensures facts { facts_in records.new roots.now ≡ facts_in records.old roots.now }
-    ensures types { types_in records.new ≡ types_in records.old }
-    ensures counts { result ≡ None → (e : ℕ) → e < length function.now.expressions →
-        slice_get (counts_in records.new) e ≡ Some (count_of function.now e) }
-    ensures small { (e : ℕ) → slice_index (counts_in records.new) e < 2 ^ 64 }
-    ensures full { IfSome result (λ e. 2 ^ 64 ≤ count_of function.now e) }
-    ensures uses { bits_in uses.new ≡ (fold (ref_counts_after (facts_in records.old roots.now)) (
-      replicate (length function.now.expressions) 0,
-      replicate (length uses.old) 0,
-      None,
-    ) (occurrences function.now)).1 }
-{
-    visit_operands(function, all, records, roots, uses)
+    /// Counts the operands of a statement, without those of the blocks inside.
+    #[inline(always)]
+    #[tactic(auto, using(crate::proofs::WalkLemmas::walks))]
+    pub(crate) fn count_statement(&mut self, statement: &Statement)
+        requires { length self.old.records.now ≡ length self.old.roots.now }
+        ensures counted { self.new ≡ with_state self.old
+            (fold (state_after self.old.roots.now) (state_of self.old) (statement_operands (step_of statement.now))) }
+        ensures roots { self.new.roots ≡ self.old.roots }
+        ensures facts { facts_by self.new ≡ facts_by self.old }
+        ensures long { length self.new.records.now ≡ length self.new.roots.now }
+    {
+        visit_statement(statement, self);
+    }
 }
 
 impl<'a> Visitor for Counting<'a> {

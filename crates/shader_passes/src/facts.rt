@@ -194,6 +194,7 @@ pub fn function_requirements(
 }
 
 /// Returns the function whose result the expression is.
+#[inline(always)]
 pub fn callee_of(expression: &Expression) -> Option<Handle<mark::Function>>
     ensures { result ≡ callee_of expression.now }
 {
@@ -204,6 +205,7 @@ pub fn callee_of(expression: &Expression) -> Option<Handle<mark::Function>>
 }
 
 /// Returns the recorded origin of a callee's result.
+#[inline(always)]
 fn callee_origin(infos: &[FunctionInfo], callee: Option<Handle<mark::Function>>) -> NonUniformResult
     ensures { result ≡ callee_origin infos.now callee }
 {
@@ -215,6 +217,7 @@ fn callee_origin(infos: &[FunctionInfo], callee: Option<Handle<mark::Function>>)
 
 /// Returns a source that makes the expression non-uniform: itself, the origin of its callee's result, or the first origin among its
 /// operands.
+#[inline(always)]
 fn own_origin(
     module: &Module,
     infos: &[FunctionInfo],
@@ -232,6 +235,7 @@ fn own_origin(
 }
 
 /// Returns the global that the expression points into.
+#[inline(always)]
 pub fn own_root(facts: &Facts<'_>, expression: &Expression) -> Root
     ensures { result ≡ own_root facts.now expression.now }
 {
@@ -245,6 +249,7 @@ pub fn own_root(facts: &Facts<'_>, expression: &Expression) -> Root
 }
 
 /// Returns what sampling at the level needs of the flow.
+#[inline(always)]
 fn level_needs(level: SampleLevel) -> UniformityRequirements
     ensures { result.0 ≡ level_needs level }
 {
@@ -257,6 +262,7 @@ fn level_needs(level: SampleLevel) -> UniformityRequirements
 }
 
 /// Returns what the expression needs of the flow by its variant alone.
+#[inline(always)]
 fn form_needs(expression: &Expression) -> UniformityRequirements
     ensures { result.0 ≡ form_needs expression.now }
 {
@@ -271,6 +277,7 @@ fn form_needs(expression: &Expression) -> UniformityRequirements
 }
 
 /// Returns what the expression needs of the flow.
+#[inline(always)]
 fn own_needs(infos: &[FunctionInfo], expression: &Expression) -> UniformityRequirements
     ensures { result.0 ≡ own_needs infos.now expression.now }
 {
@@ -281,6 +288,7 @@ fn own_needs(infos: &[FunctionInfo], expression: &Expression) -> UniformityRequi
 }
 
 /// Returns the record of an expression of this type before its occurrences are counted.
+#[inline(always)]
 pub fn record_of(
     module: &Module,
     infos: &[FunctionInfo],

@@ -1,5 +1,5 @@
-//! The passes of the analysis over the expressions and the statements of one function: what holds of each expression, reference counts,
-//! calls, pairs of image and sampler, control flow, the severity of its violations, and the uniformity that these give.
+//! The passes of the analysis over the expressions and the statements of one function: what holds of each expression; one walk for
+//! reference counts, calls, control flow and uniformity; the severity of violations; and pairs of image and sampler.
 #![tactic(auto)]
 
 pub mod callees;
@@ -10,4 +10,4 @@ pub mod flatten;
 pub mod flow;
 pub mod pairs;
 pub mod sources;
-pub mod uniformity;
+pub mod walk;

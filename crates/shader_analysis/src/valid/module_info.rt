@@ -12,9 +12,10 @@ ghost use Rattle.shader_passes.specs.RecordedPairs.{HaveArguments};
 ghost use Rattle.shader_resolve.specs.declared.error.ResolveError.TheVariants as refusal;
 ghost use Rattle.shader_analysis.specs.AddedTypes.{AddsType, CanType, IsNextType, IsTypeRefusal};
 ghost use Rattle.shader_analysis.specs.Copies.{SameRecord};
+ghost use Rattle.shader_analysis.specs.NewInfo.{IsNewInfo};
 ghost use Rattle.shader_analysis.specs.Processed.{CanProcess, HasFunction, IsFunctionAt, functions_before, infos_before};
 
-use crate::valid::analyzer::function_info;
+use crate::valid::analyzer::{find_info, new_info};
 use crate::valid::copies::{copy_infos, copy_types};
 use shader_arena::Handle;
 use shader_expression_types::type_of;
@@ -52,6 +53,7 @@ impl Model for ModuleInfo {
 }
 
 /// Returns the number of functions before the location.
+#[inline(always)]
 fn functions_before(module: &Module, location: &AnalysisLocation) -> usize
     ensures { result ≡ functions_before «module».now location.now }
 {
@@ -63,6 +65,7 @@ fn functions_before(module: &Module, location: &AnalysisLocation) -> usize
 }
 
 /// Returns the function at a location that has one.
+#[inline(always)]
 fn function_at<'a>(module: &'a Module, location: &AnalysisLocation) -> &'a Function
     requires { HasFunction «module».now location.now }
     ensures { IsFunctionAt «module».now location.now result.now }
@@ -138,11 +141,24 @@ impl ModuleInfo {
         self.global_expressions.len()
     }
 
+    /// Returns the allocator of the lists.
+    pub(crate) fn allocator(&self) -> Global {
+        *self.functions.allocator()
+    }
+
+    /// Makes room for the infos of more functions.
+    pub(crate) fn reserve(&mut self, count: usize) -> Result<(), AllocError>
+        ensures { self.new ≡ self.old }
+    {
+        self.functions.reserve_exact(count)
+    }
+
     /// Adds the info of the next function.
     ///
     /// # Errors
     ///
     /// `AllocFailed` with the info if the memory for it can't be allocated.
+    #[inline(always)]
     pub fn add_function(&mut self, info: FunctionInfo) -> Result<(), AllocFailed<FunctionInfo>>
         ensures ok { OnOk result (self.new ≡ record self.old { functions = self.old.functions ++ info ∷ [] }) }
         ensures value_returned { IfErr result (λ failed. failed.value ≡ info) }
@@ -200,6 +216,7 @@ impl ModuleInfo {
     }
 
     /// Returns the infos of the functions before the location.
+    #[inline(always)]
     fn infos_before<'a>(
         &'a self,
         module: &Module,
@@ -244,11 +261,42 @@ impl ModuleInfo {
             IsNamed (StepFault «module».now (infos_of (infos_before «module».now self.now location)) f (settings_of flags capabilities))
             error.cause) }
     {
+        let mut info = new_info(*self.functions.allocator());
+        self.process_into(location, module, flags, capabilities, &mut info)?;
+        Ok(info)
+    }
+
+    /// Analyses a function as `process_function` does, in a new info.
+    #[inline(always)]
+    pub(crate) fn process_into(
+        &self,
+        location: AnalysisLocation,
+        module: &Module,
+        flags: ValidationFlags,
+        capabilities: Capabilities,
+        info: &mut FunctionInfo,
+    ) -> Result<(), AnalysisError>
+        requires well_formed { IsWellFormed «module».now }
+        requires stored { CanProcess «module».now self.now location }
+        requires new { IsNewInfo info.old }
+        ensures steps { OnOk result ((f : Function) → IsFunctionAt «module».now location f →
+            MeetsSteps «module».now (infos_of (infos_before «module».now self.now location)) f (info_of info.new)) }
+        ensures with_arguments { OnOk result (HaveArguments info.new.sampling.keys) }
+        ensures fits { OnOk result ((f : Function) → IsFunctionAt «module».now location f → Fits «module».now f info.new) }
+        ensures stages { OnOk result (info.new.available_stages.0 ≡ 31) }
+        ensures one_source { OnOk result (info.new.dual_source_blending ≡ false) }
+        ensures clean { IfOk result (λ _. (f : Function) (cause : Cause) → IsFunctionAt «module».now location f →
+            StepFault «module».now (infos_of (infos_before «module».now self.now location)) f (settings_of flags capabilities) cause → ⊥) }
+        ensures place { IfErr result (λ error. error.place ≡ location) }
+        ensures fault { IfErr result (λ error. (f : Function) → IsFunctionAt «module».now location f →
+            IsNamed (StepFault «module».now (infos_of (infos_before «module».now self.now location)) f (settings_of flags capabilities))
+            error.cause) }
+    {
         let alloc = *self.functions.allocator();
         let function = function_at(module, &location);
         let infos = self.infos_before(module, &location);
-        match function_info(alloc, module, infos, function, flags, capabilities) {
-            Ok(info) => Ok(info),
+        match find_info(alloc, module, infos, function, flags, capabilities, info) {
+            Ok(()) => Ok(()),
             Err(cause) => Err(AnalysisError {
                 place: location,
                 cause,

@@ -11,17 +11,50 @@ ghost use Rattle.shader_analysis.specs.Analyzable.{AreStored};
 ghost use Rattle.shader_analysis.specs.Growth.{AddsNext};
 
 use crate::valid::ModuleInfo;
+use crate::valid::analyzer::new_info;
 use shader_arena::Handle;
 use shader_info::{
     AnalysisError, AnalysisLocation, Capabilities, FunctionError, FunctionInfo, ValidationFlags,
 };
 use shader_ir::{Module, mark};
 
+/// Returns the error of a function for whose info there is no memory.
+fn out_of_memory(handle: Handle<mark::Function>) -> AnalysisError
+    ensures { result ≡ record { place = site.Function handle; cause = OutOfMemory } }
+{
+    AnalysisError {
+        place: AnalysisLocation::Function(handle),
+        cause: FunctionError::OutOfMemory,
+    }
+}
+
 impl ModuleInfo {
-    /// Adds the info of the next function, which is found there.
+    /// Makes room for the infos of all functions, before the first.
+    #[inline(always)]
+    fn make_room(
+        &mut self,
+        handle: Handle<mark::Function>,
+        function_count: usize,
+    ) -> Result<(), AnalysisError>
+        ensures same { self.new ≡ self.old }
+        ensures place { IfErr result (λ error. error.place ≡ site.Function handle) }
+        ensures memory { IfErr result (λ error. error.cause ≡ OutOfMemory) }
+    {
+        if self.function_count() > 0 {
+            return Ok(());
+        }
+        match self.reserve(function_count) {
+            Ok(()) => Ok(()),
+            Err(_) => Err(out_of_memory(handle)),
+        }
+    }
+
+    /// Adds the info of the next of so many functions, which is found there.
+    #[inline(always)]
     fn add_found(
         &mut self,
         handle: Handle<mark::Function>,
+        function_count: usize,
         found: FunctionInfo,
     ) -> Result<(), AnalysisError>
         ensures ok { OnOk result (self.new ≡ record self.old { functions = self.old.functions ++ found ∷ [] }) }
@@ -29,12 +62,10 @@ impl ModuleInfo {
         ensures place { IfErr result (λ error. error.place ≡ site.Function handle) }
         ensures memory { IfErr result (λ error. error.cause ≡ OutOfMemory) }
     {
+        self.make_room(handle, function_count)?;
         match self.add_function(found) {
             Ok(()) => Ok(()),
-            Err(_) => Err(AnalysisError {
-                place: AnalysisLocation::Function(handle),
-                cause: FunctionError::OutOfMemory,
-            }),
+            Err(_) => Err(out_of_memory(handle)),
         }
     }
 
@@ -65,8 +96,9 @@ impl ModuleInfo {
         prove!(count < module.functions.len());
         let handle: Handle<mark::Function> = Handle::from_index(count as u32);
         let location = AnalysisLocation::Function(handle);
-        let found = self.process_function(location, module, flags, capabilities)?;
-        self.add_found(handle, found)?;
+        let mut found = new_info(self.allocator());
+        self.process_into(location, module, flags, capabilities, &mut found)?;
+        self.add_found(handle, module.functions.len(), found)?;
         Ok(())
     }
 }

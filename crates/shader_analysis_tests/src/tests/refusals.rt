@@ -6,6 +6,8 @@
 //! `test_rows` does the same.
 ghost use Rattle.std.specs.Prelude.{◌≡◌, [], OnErr};
 
+mod types;
+
 use shader_analysis::ModuleInfo;
 use shader_arena::{Arena, Handle};
 use shader_info::{

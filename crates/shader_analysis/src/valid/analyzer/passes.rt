@@ -1,12 +1,14 @@
 //! Computes a function's pairs, reference counts, kills and uses of globals, or the error that rejects the function.
-ghost use Rattle.std.specs.Prelude.{◌≡◌, ◌≢◌, ◌<◌, ◌^◌, ℕ, Bool, List, IfErr, IfOk, IfSome, IsTrue, None, Some, false, length};
-ghost use Rattle.std.specs.Prelude.{replicate, slice_get, slice_index};
+ghost use Rattle.std.specs.Prelude.{◌≡◌, ◌≢◌, ◌<◌, ◌≤◌, ◌^◌, ℕ, Bool, List, IfErr, IfOk, IfSome, IsTrue, None, Some, false, length};
+ghost use Rattle.std.specs.Prelude.{[], OnOk, replicate};
+ghost use Rattle.std.specs.List.{list_any};
 ghost use Rattle.shader_analysis_spec.specs.Counts.{count_of};
 ghost use Rattle.shader_analysis_spec.specs.Faults.{Disruptor, NoResource, NonUniformControlFlow, Settings};
 ghost use Rattle.shader_analysis_spec.specs.StepFaults.{StepFault};
 ghost use Rattle.shader_analysis_spec.specs.Filters.{HaveEarlierParents};
 ghost use Rattle.shader_analysis_spec.specs.Needs.{Need};
 ghost use Rattle.shader_analysis_spec.specs.Program.{Module, statements};
+ghost use Rattle.shader_passes.specs.Calling.{is_call};
 ghost use Rattle.shader_passes.specs.Causes.{IsNamed, settings_of};
 ghost use Rattle.shader_info.specs.declared.error.ExpressionError.TheVariants as expression;
 ghost use Rattle.shader_info.specs.declared.error.FunctionError.TheVariants as error;
@@ -15,34 +17,38 @@ ghost use Rattle.shader_info.specs.declared.info.FunctionInfo.{FunctionInfo};
 ghost use Rattle.shader_analysis_spec.specs.Infos.{Info};
 ghost use Rattle.shader_passes.specs.Conditions.{EachFits, GlobalsWithin};
 ghost use Rattle.shader_passes.specs.Counting.{bits_in, counts_in};
-ghost use Rattle.shader_passes.specs.Records.{facts_in, types_in};
-ghost use Rattle.shader_passes.specs.Results.{computed_facts, computed_kill, own_uses, computed_pairs};
+ghost use Rattle.shader_passes.specs.Records.{facts_in};
+ghost use Rattle.shader_passes.specs.Results.{computed_facts, computed_pairs};
+ghost use Rattle.shader_passes.specs.Walked.{IsCounted, IsFound};
 ghost use Rattle.shader_pass_laws.specs.OfTheStep.{HasUses};
-ghost use Rattle.shader_passes.specs.StatementLists.{steps_of};
 ghost use Rattle.shader_passes.specs.InfoOf.{PointsBackwards, infos_of};
-ghost use Rattle.shader_passes.specs.RecordedPairs.{HaveArguments, SameMembers, pairs_of};
+ghost use Rattle.shader_passes.specs.RecordedPairs.{HaveArguments, SameMembers, pairs_in};
 ghost use Rattle.shader_analysis.specs.Analyzable.{ChecksFlow};
 
 use bitflags::Flags;
+use shader_arena::Handle;
 use shader_info::{
-    ExpressionError, ExpressionInfo, FunctionError, FunctionInfo, GlobalUse, ValidationFlags,
+    ExpressionError, ExpressionInfo, FunctionError, FunctionInfo, GlobalUse, Sampling, SamplingKey,
+    ValidationFlags,
 };
-use shader_ir::{Function, Module, Severity, Statement};
-use shader_passes::callees::{add_callee_uses, name_globals};
-use shader_passes::counting::count_operands;
+use shader_ir::{Function, Module, Severity, mark};
+use shader_passes::callees::name_globals;
 use shader_passes::facts::{Facts, Root};
 use shader_passes::filters::derivative_severity;
-use shader_passes::flow::{FlowViolation, Results, flow_of_block};
-use shader_passes::pairs::Pairs;
+use shader_passes::flow::FlowViolation;
+use shader_passes::pairs::collect_pairs;
+use shader_passes::walk::{Found, walk_function};
 use std::alloc::{AllocError, Global};
+use std::collections::HashSet;
 
-/// Returns an error if an image or a sampler of the pairs is no resource. Allocates nothing.
-fn check_resources(pairs: &Pairs) -> Result<(), FunctionError>
-    ensures ok { IfOk result (λ _. pairs.now.missing_resource ≡ None) }
-    ensures missing { IfErr result (λ failure. (e : ℕ) × (pairs.now.missing_resource ≡ Some e)
+/// Returns an error for an expression with an image or a sampler that is no resource, if there is one. Allocates nothing.
+#[inline(always)]
+fn check_resources(missing: Option<Handle<mark::Expression>>) -> Result<(), FunctionError>
+    ensures ok { IfOk result (λ _. missing ≡ None) }
+    ensures missing { IfErr result (λ failure. (e : ℕ) × (missing ≡ Some e)
         × (failure ≡ error.Expression e expression.ExpectedGlobalOrArgument)) }
 {
-    match pairs.missing_resource {
+    match missing {
         Some(handle) => Err(FunctionError::Expression {
             handle,
             source: ExpressionError::ExpectedGlobalOrArgument,
@@ -51,27 +57,34 @@ fn check_resources(pairs: &Pairs) -> Result<(), FunctionError>
     }
 }
 
-/// Collects the pairs of an image and a sampler, or returns the error for one that is no resource.
+/// Collects the pairs of an image and a sampler in empty sets, or returns the error for one that is no resource. `calls` is false only if
+/// the function's body has no call.
+#[inline(always)]
 pub fn sampling_pairs(
-    alloc: Global,
     infos: &[FunctionInfo],
     function: &Function,
-    all: &[&Statement],
-) -> Result<Pairs, FunctionError>
-    requires { steps_of all.now ≡ statements function.now.body }
-    ensures members { IfOk result (λ pairs. SameMembers (pairs_of pairs) (computed_pairs infos.now function.now)) }
-    ensures with_arguments { IfOk result (λ pairs. HaveArguments pairs.sampling.keys) }
+    calls: bool,
+    sampling_set: &mut HashSet<SamplingKey>,
+    sampling: &mut HashSet<Sampling>,
+) -> Result<(), FunctionError>
+    requires calls { (calls ≡ false) → list_any is_call (statements function.now.body) ≡ false }
+    requires no_globals { sampling_set.old.keys ≡ [] }
+    requires no_arguments { sampling.old.keys ≡ [] }
+    ensures members { OnOk result (SameMembers (pairs_in sampling_set.new.keys sampling.new.keys)
+        (computed_pairs infos.now function.now)) }
+    ensures with_arguments { OnOk result (HaveArguments sampling.new.keys) }
     ensures resources { IfOk result (λ _. (m : Module) (settings : Settings) (e : ℕ) →
         StepFault m (infos_of infos.now) function.now settings (NoResource e) → ⊥) }
     ensures fault { IfErr result (λ failure. (m : Module) (settings : Settings) →
         IsNamed (StepFault m (infos_of infos.now) function.now settings) failure) }
 {
-    let pairs = Pairs::of_function(alloc, infos, function, all)?;
-    check_resources(&pairs)?;
-    Ok(pairs)
+    let missing = collect_pairs(infos, function, calls, sampling_set, sampling)?;
+    check_resources(missing)?;
+    Ok(())
 }
 
 /// Returns a list with no use of any of the module's globals.
+#[inline(always)]
 pub fn no_uses(alloc: Global, module: &Module) -> Result<Vec<GlobalUse>, AllocError>
     ensures { IfOk result (λ uses. bits_in uses.items ≡ replicate (length «module».now.global_variables) 0) }
 {
@@ -81,61 +94,75 @@ pub fn no_uses(alloc: Global, module: &Module) -> Result<Vec<GlobalUse>, AllocEr
     Ok(uses)
 }
 
-/// Counts in slices as `counted` does in vectors.
-fn counted_in(
-    function: &Function,
-    all: &[&Statement],
-    records: &mut [ExpressionInfo],
-    roots: &[Root],
-    uses: &mut [GlobalUse],
-) -> Result<(), FunctionError>
-    requires all { steps_of all.now ≡ statements function.now.body }
-    requires long { length records.old ≡ length roots.now }
-    requires uncounted { counts_in records.old ≡ replicate (length function.now.expressions) 0 }
-    requires unused { bits_in uses.old ≡ replicate (length uses.old) 0 }
-    ensures facts { facts_in records.new roots.now ≡ facts_in records.old roots.now }
-    ensures types { types_in records.new ≡ types_in records.old }
-    ensures counts { IfOk result (λ _. (e : ℕ) → e < length function.now.expressions →
-        slice_get (counts_in records.new) e ≡ Some (count_of function.now e)) }
-    ensures small { (e : ℕ) → slice_index (counts_in records.new) e < 2 ^ 64 }
-    ensures own_uses { (m : Module) (infos : List FunctionInfo) → length uses.old ≡ length m.global_variables →
-        facts_in records.old roots.now ≡ computed_facts m infos function.now → bits_in uses.new ≡ own_uses m infos function.now }
+/// Returns an error if a reference count overflows.
+fn check_counts(function: &Function, found: &Found) -> Result<(), FunctionError>
+    requires { IfSome found.now.full (λ e. 2 ^ 64 ≤ count_of function.now e) }
+    ensures ok { IfOk result (λ _. found.now.full ≡ None) }
+    ensures full { IfErr result (λ failure. (e : ℕ) × (failure ≡ error.CountFull e)) }
     ensures fault { IfErr result (λ failure. (m : Module) (infos : List Info) (settings : Settings) →
         IsNamed (StepFault m infos function.now settings) failure) }
 {
-    match count_operands(function, all, records, roots, uses) {
+    match found.full {
         Some(handle) => Err(FunctionError::CountFull(handle)),
         None => Ok(()),
     }
 }
 
-/// Counts the operands of a function in the records of its expressions, and joins its own uses of globals; or returns the error for a
-/// count that overflows. Allocates nothing.
-pub fn counted(
+/// Walks a function as `walked` does, over slices.
+fn walked_in(
+    infos: &[FunctionInfo],
     function: &Function,
-    all: &[&Statement],
+    records: &mut [ExpressionInfo],
+    roots: &[Root],
+    uses: &mut [GlobalUse],
+) -> Result<Found, FunctionError>
+    requires long { length records.old ≡ length roots.now }
+    requires uncounted { counts_in records.old ≡ replicate (length function.now.expressions) 0 }
+    requires unused { bits_in uses.old ≡ replicate (length uses.old) 0 }
+    ensures counted { IfOk result (λ _. IsCounted function.now roots.now records.old records.new None) }
+    ensures uses { IfOk result (λ _. (m : Module) → PointsBackwards function.now → GlobalsWithin m function.now → EachFits m infos.now →
+        length uses.old ≡ length m.global_variables → facts_in records.old roots.now ≡ computed_facts m infos.now function.now →
+        HasUses m infos.now function.now (bits_in uses.new)) }
+    ensures found { IfOk result (λ found. (m : Module) →
+        facts_in records.old roots.now ≡ computed_facts m infos.now function.now → IsFound m infos.now function.now found) }
+    ensures fault { IfErr result (λ failure. (m : Module) (infos : List Info) (settings : Settings) →
+        IsNamed (StepFault m infos function.now settings) failure) }
+    ensures full { IfErr result (λ failure. (e : ℕ) × (failure ≡ error.CountFull e)) }
+{
+    let found = walk_function(infos, function, records, roots, uses);
+    let facts = Facts::new(records, roots);
+    name_globals(&facts, uses, &function.named_expressions);
+    check_counts(function, &found)?;
+    Ok(found)
+}
+
+/// Walks a function whose expressions have records: counts all operands in these, and joins all uses of globals, its own, those of its
+/// callees and the queries of globals that it only names. Or returns the error for a count that overflows. Allocates nothing.
+#[inline(always)]
+pub fn walked(
+    infos: &[FunctionInfo],
+    function: &Function,
     records: &mut Vec<ExpressionInfo>,
     roots: &[Root],
     uses: &mut Vec<GlobalUse>,
-) -> Result<(), FunctionError>
-    requires all { steps_of all.now ≡ statements function.now.body }
+) -> Result<Found, FunctionError>
     requires long { length records.old.items ≡ length roots.now }
     requires uncounted { counts_in records.old.items ≡ replicate (length function.now.expressions) 0 }
     requires unused { bits_in uses.old.items ≡ replicate (length uses.old.items) 0 }
-    ensures facts { facts_in records.new.items roots.now ≡ facts_in records.old.items roots.now }
-    ensures types { types_in records.new.items ≡ types_in records.old.items }
-    ensures counts { IfOk result (λ _. (e : ℕ) → e < length function.now.expressions →
-        slice_get (counts_in records.new.items) e ≡ Some (count_of function.now e)) }
-    ensures small { (e : ℕ) → slice_index (counts_in records.new.items) e < 2 ^ 64 }
-    ensures own_uses { (m : Module) (infos : List FunctionInfo) → length uses.old.items ≡ length m.global_variables →
-        facts_in records.old.items roots.now ≡ computed_facts m infos function.now →
-        bits_in uses.new.items ≡ own_uses m infos function.now }
+    ensures counted { IfOk result (λ _. IsCounted function.now roots.now records.old.items records.new.items None) }
+    ensures uses { IfOk result (λ _. (m : Module) → PointsBackwards function.now → GlobalsWithin m function.now → EachFits m infos.now →
+        length uses.old.items ≡ length m.global_variables →
+        facts_in records.old.items roots.now ≡ computed_facts m infos.now function.now →
+        HasUses m infos.now function.now (bits_in uses.new.items)) }
+    ensures found { IfOk result (λ found. (m : Module) →
+        facts_in records.old.items roots.now ≡ computed_facts m infos.now function.now → IsFound m infos.now function.now found) }
     ensures fault { IfErr result (λ failure. (m : Module) (infos : List Info) (settings : Settings) →
         IsNamed (StepFault m infos function.now settings) failure) }
+    ensures full { IfErr result (λ failure. (e : ℕ) × (failure ≡ error.CountFull e)) }
 {
-    counted_in(
+    walked_in(
+        infos,
         function,
-        all,
         records.as_mut_slice(),
         roots,
         uses.as_mut_slice(),
@@ -168,20 +195,18 @@ fn flow_violation_error(flow_violation: &FlowViolation) -> FunctionError
     )
 }
 
-/// Returns whether the function may end an invocation while others go on, or the first non-uniform control flow violation if that is an
-/// error. Allocates nothing.
-pub fn kills(
+/// Returns the first non-uniform control flow violation if that is an error. Allocates nothing.
+pub fn check_flow(
     module: &Module,
     infos: &[FunctionInfo],
     function: &Function,
-    facts: &Facts<'_>,
+    found: &Found,
     flags: ValidationFlags,
-) -> Result<bool, FunctionError>
+) -> Result<(), FunctionError>
     requires parents { HaveEarlierParents «module».now.diagnostic_filters }
     requires leaf { IfSome function.now.diagnostic_filter_leaf (λ leaf. leaf < length «module».now.diagnostic_filters) }
     requires operands { PointsBackwards function.now }
-    requires facts { facts.now ≡ computed_facts «module».now infos.now function.now }
-    ensures kills { IfOk result (λ kills. kills ≡ computed_kill «module».now infos.now function.now) }
+    requires found { IsFound «module».now infos.now function.now found.now }
     ensures undisrupted { IfOk result (λ _. (capabilities : Capabilities) (needs : Need → Bool) (e : ℕ) (flow_disruptor : Disruptor) →
         StepFault «module».now (infos_of infos.now) function.now (settings_of flags capabilities)
         (NonUniformControlFlow needs e flow_disruptor) → ⊥) }
@@ -189,47 +214,11 @@ pub fn kills(
         IsNamed (StepFault «module».now (infos_of infos.now) function.now (settings_of flags capabilities)) failure) }
     ensures allocates_nothing { IfErr result (λ failure. failure ≢ error.OutOfMemory) }
 {
-    let mut found = Results { first: None };
-    let undisrupted = None;
-    let exits = flow_of_block(infos, facts, &mut found, &undisrupted, &function.body);
     // A chain of filters is walked only where there is something to refuse.
     if let Some(flow_violation) = &found.first {
         if checks_flow(module, function, flags) {
             return Err(flow_violation_error(flow_violation));
         }
     }
-    Ok(exits.kills)
-}
-
-/// Completes a slice as `complete_uses` does a vector.
-fn complete_slice(
-    infos: &[FunctionInfo],
-    function: &Function,
-    facts: &Facts<'_>,
-    uses: &mut [GlobalUse],
-    all: &[&Statement],
-)
-    requires { steps_of all.now ≡ statements function.now.body }
-    ensures { (m : Module) → PointsBackwards function.now → GlobalsWithin m function.now → EachFits m infos.now →
-        facts.now ≡ computed_facts m infos.now function.now → bits_in uses.old ≡ own_uses m infos.now function.now →
-        HasUses m infos.now function.now (bits_in uses.new) }
-{
-    add_callee_uses(infos, uses, all);
-    name_globals(facts, uses, &function.named_expressions);
-}
-
-/// Joins to a function's own uses of globals those of its callees, and the queries of globals that it only names.
-pub fn complete_uses(
-    infos: &[FunctionInfo],
-    function: &Function,
-    facts: &Facts<'_>,
-    uses: &mut Vec<GlobalUse>,
-    all: &[&Statement],
-)
-    requires { steps_of all.now ≡ statements function.now.body }
-    ensures { (m : Module) → PointsBackwards function.now → GlobalsWithin m function.now → EachFits m infos.now →
-        facts.now ≡ computed_facts m infos.now function.now → bits_in uses.old.items ≡ own_uses m infos.now function.now →
-        HasUses m infos.now function.now (bits_in uses.new.items) }
-{
-    complete_slice(infos, function, facts, uses.as_mut_slice(), all);
+    Ok(())
 }
