@@ -1,3 +1,4 @@
+pub mod GlobalsRead
 pub mod Maxima
 pub mod Refusals
 pub mod Vertex

@@ -1,9 +1,10 @@
 //! What a reflection tool reads off an analysed module.
-ghost use Rattle.std.specs.Prelude.{◌≡◌, ◌<◌, ◌↔◌, Some, IfOk, IsTrue, length, slice_get};
+ghost use Rattle.std.specs.Prelude.{◌≡◌, ◌<◌, ◌↔◌, ℕ, Contains, Some, IfErr, IfOk, IsTrue, length, slice_get};
+ghost use Rattle.std.specs.List.Sorted.{IsStrictlyIncreasing};
 ghost use Rattle.shader_typing.specs.ExactRecord.{IsExactRecord};
 ghost use Rattle.shader_typing.specs.Function.{Function};
 ghost use Rattle.shader_typing.specs.InfoAnswers.{HasResultOrigin};
-ghost use Rattle.shader_typing.specs.Infos.{InGlobal, Writes};
+ghost use Rattle.shader_typing.specs.Infos.{InGlobal, Reads, Writes};
 ghost use Rattle.shader_typing.specs.Kills.{Kills};
 ghost use Rattle.shader_typing.specs.Pairs.{IsPair};
 ghost use Rattle.shader_typing.specs.Uses.{Uses};
@@ -15,7 +16,7 @@ use shader_typing::valid::{
     AnalysisError, Capabilities, Flags, GlobalUse, ModuleFault, ModuleInfo, ValidationFlags,
     analyze_module, check_module,
 };
-use std::alloc::Global;
+use std::alloc::{AllocError, Global};
 
 /// The reason why a module has no info.
 #[derive(Debug, Drop)]
@@ -89,6 +90,30 @@ pub fn writes(
 {
     let _function = &module.functions[function];
     info[function][global].intersects(GlobalUse::WRITE)
+}
+
+/// Returns the globals that a function reads, by itself or in a function that it calls, in ascending order.
+///
+/// # Errors
+///
+/// `AllocError` if memory for the list can't be allocated. None is taken if the function reads no global.
+#[tactic(auto, using(shader_typing::proofs::Answering::function_count))]
+pub fn globals_read(
+    alloc: Global,
+    module: &Module,
+    info: &ModuleInfo,
+    function: Handle<mark::Function>,
+) -> Result<Vec<Handle<mark::GlobalVariable>>, AllocError>
+    requires exact { IsExactRecord «module».now info.now }
+    requires there { function < length «module».now.functions }
+    ensures ascending { IfOk result (λ globals. IsStrictlyIncreasing globals.items) }
+    ensures read { IfOk result (λ globals. (f : Function) (global : ℕ) → slice_get «module».now.functions function ≡ Some f →
+        global < length «module».now.global_variables → Contains globals.items global ↔ Uses «module».now f global Reads) }
+    ensures memory { IfErr result (λ _. (f : Function) → slice_get «module».now.functions function ≡ Some f →
+        (global : ℕ) × Uses «module».now f global Reads) }
+{
+    let _count = module.global_variables.len();
+    info[function].globals_used(alloc, GlobalUse::READ)
 }
 
 /// Returns whether a function samples a global image with a global sampler, by itself or in a

@@ -3,7 +3,7 @@ ghost use Rattle.std.specs.Prelude.{◌<◌, length};
 ghost use Rattle.shader_typing.specs.ExactRecord.{IsExactRecord};
 ghost use Rattle.shader_typing.specs.WellFormed.{IsWellFormed};
 
-use crate::analyzed::{Refused, analyzed, kills, result_varies, samples, writes};
+use crate::analyzed::{Refused, analyzed, globals_read, kills, result_varies, samples, writes};
 use crate::bounds::checks_of;
 use crate::built::doubling_module;
 use crate::explained::refusal_of;
@@ -130,6 +130,24 @@ fn add_samples(
     Ok(())
 }
 
+/// Adds which globals a function reads.
+fn add_reads(
+    alloc: Global,
+    text: &mut String,
+    module: &Module,
+    info: &ModuleInfo,
+    function: Handle<mark::Function>,
+) -> Result<(), AllocError>
+    requires exact { IsExactRecord «module».now info.now }
+    requires there { function < length «module».now.functions }
+{
+    let globals = globals_read(alloc, module, info, function)?;
+    for global in globals.iter() {
+        write!(text, " reads {}", global.index())?;
+    }
+    Ok(())
+}
+
 /// Adds which globals a function writes.
 fn add_writes(
     text: &mut String,
@@ -196,6 +214,7 @@ fn add_function(
         "function {} varies {varies} kills {kills}",
         function.index()
     )?;
+    add_reads(alloc, text, module, info, function)?;
     add_writes(text, module, info, function)?;
     add_samples(text, module, info, function)?;
     add_checks(alloc, text, module, info, function)
