@@ -12,7 +12,7 @@ from programs import program_of
 
 DATA = TOP / "tests/data"
 MODULES, UNIFORMITY, RULES = DATA / "modules", DATA / "uniformity", DATA / "lines/rules.in"
-REPORT, LITERALS = (program_of(it) for it in ("report", "test_literals"))
+REPORT = program_of("report")
 ACCEPTED, REFUSED, BAD_USAGE, READ_FAILED, WRITE_FAILED, OUT_OF_MEMORY, NOT_MODULE = range(7)
 MODULE = re.compile(rb'"module"\s*:\s*')
 INDEXING = {1: "textures", 2: "storage-textures", 3: "textures,storage-textures"}

@@ -1,98 +1,76 @@
 //! The answer to each line of an input.
+use crate::told::Told;
 use crate::words::Words;
-use crate::{
-    faults, indexes, known, layouts, lengths, operands, origins, parts, refusal, reports, resolve,
-    sizes, types, typifier,
-};
+use crate::{bounds, flow, layouts, lengths, parts, resolve, types, typifier};
 use shader_ir::Module;
 use shader_json_module::{ReadError, read_module};
 use std::alloc::{AllocError, Global};
 
-/// Returns the reply to a question about the module, or about a copy of it if the first word is `copied`.
-fn reply(alloc: Global, question: &str, module: &Module) -> Result<Option<String>, AllocError> {
-    match question.strip_prefix("copied ") {
-        Some(question) => {
-            let copy = module.copy(alloc)?;
-            let reply = reply_of_kind(alloc, question, &copy);
-            drop(copy);
-            reply
-        }
-        None => reply_of_kind(alloc, question, module),
-    }
-}
-
-/// Returns the reply to a question, if a kind of question matches it and it applies to this module.
-fn reply_of_kind(
-    alloc: Global,
-    question: &str,
-    module: &Module,
-) -> Result<Option<String>, AllocError> {
-    let mut words = Words::new(question);
+/// Tells what a question asks of a module.
+fn tell(told: &mut Told, alloc: Global, question: &str, module: &Module) {
+    let mut words = Words { rest: question };
     match words.next_word() {
-        "fault" => faults::fault(alloc, words, module),
-        "indexes" => indexes::reply(alloc, words, module),
-        "known" => known::reply(alloc, words, module),
-        "layouts" => layouts::reply(alloc, words, module),
-        "length" => lengths::reply(alloc, words, module),
-        "nests" => faults::nests(alloc, words, module),
-        "operands" => operands::reply(alloc, words, module),
-        "origins" => origins::reply(alloc, words, module),
-        "part" => parts::reply(alloc, words, module),
-        "refusal" => refusal::reply(alloc, words, module),
-        "report" => reports::reply(alloc, words, module),
-        "resolve" => resolve::reply(alloc, words, module),
-        "size" => sizes::reply(alloc, words, module),
-        "type" => types::reply(alloc, words, module),
-        "typifier" => typifier::reply(alloc, words, module),
-        _ => Ok(None),
+        "bounds" => bounds::tell(told, alloc, words, module),
+        "component" => types::tell_component(told, words, module),
+        "fault" => flow::tell_fault(told, module),
+        "layouts" => layouts::tell(told, alloc, words, module),
+        "length" => lengths::tell(told, words, module),
+        "literals" => parts::tell_literals(told, module),
+        "nests" => flow::tell_nesting(told, words, module),
+        "origins" => flow::tell_origins(told, alloc, words, module),
+        "part" => parts::tell(told, words, module),
+        "refusal" => flow::tell_refusal(told, alloc, module),
+        "resolve" => resolve::tell(told, alloc, words, module),
+        "type" => types::tell(told, words, module),
+        "typifier" => typifier::tell(told, alloc, words, module),
+        _ => {}
     }
 }
 
-/// Returns the question and the text of the module in a line.
-fn split_line(line: &[u8]) -> Option<(&str, &str)> {
-    match str::from_utf8(line) {
-        Ok(text) => text.split_once('\t'),
-        Err(_) => None,
+/// Tells what a question asks of a module, or of a copy of it if the first word is `copied`.
+fn tell_copied(told: &mut Told, alloc: Global, question: &str, module: &Module) {
+    match question.strip_prefix("copied ") {
+        Some(question) => match module.copy(alloc) {
+            Ok(copy) => {
+                tell(told, alloc, question, &copy);
+                drop(copy);
+            }
+            Err(AllocError) => told.fail(),
+        },
+        None => tell(told, alloc, question, module),
     }
 }
 
-fn add_reply(text: &mut String, reply: Option<String>) -> Result<(), AllocError> {
-    match reply {
-        Some(reply) => writeln!(text, "{reply}"),
-        None => text.push_str("bad question\n"),
-    }
-}
-
-/// Adds the reply to a question about the module given by the text.
-fn add_answer(
-    alloc: Global,
-    text: &mut String,
-    question: &str,
-    module: &str,
-) -> Result<(), AllocError> {
-    match read_module(alloc, module.as_bytes()) {
+/// Tells what a question asks of the module that a text is.
+fn tell_read(told: &mut Told, alloc: Global, question: &str, text: &str) {
+    match read_module(alloc, text.as_bytes()) {
         Ok(module) => {
-            let reply = reply(alloc, question, &module);
+            tell_copied(told, alloc, question, &module);
             drop(module);
-            add_reply(text, reply?)
         }
-        Err(ReadError::OutOfMemory) => Err(AllocError),
-        Err(_) => text.push_str("bad module\n"),
+        Err(ReadError::OutOfMemory) => told.fail(),
+        Err(error) => {
+            told.say("unread", &error);
+            drop(error);
+        }
     }
 }
 
-fn add_line(alloc: Global, text: &mut String, line: &[u8]) -> Result<(), AllocError> {
-    match split_line(line) {
-        Some((question, module)) => add_answer(alloc, text, question, module),
-        None => text.push_str("bad question\n"),
+/// Answers a line: a question, a tab and a module.
+fn answer_line(told: &mut Told, alloc: Global, line: &[u8]) {
+    if let Ok(text) = str::from_utf8(line) {
+        if let Some((question, module)) = text.split_once('\t') {
+            tell_read(told, alloc, question, module);
+        }
     }
+    told.end_line();
 }
 
 /// Returns the answers to the lines of the input, one per line.
 pub fn answer(alloc: Global, input: &[u8]) -> Result<String, AllocError> {
-    let mut text = String::new(alloc);
+    let mut told = Told::new(alloc);
     for line in input.split_inclusive(|b| *b == b'\n') {
-        add_line(alloc, &mut text, line.strip_suffix(b"\n").unwrap_or(line))?;
+        answer_line(&mut told, alloc, line.strip_suffix(b"\n").unwrap_or(line));
     }
-    Ok(text)
+    told.into_text()
 }

@@ -2,20 +2,14 @@
 #![tactic(auto)]
 
 mod answer;
-mod faults;
-mod indexes;
-mod known;
+mod bounds;
+mod flow;
 mod layouts;
 mod lengths;
-mod operands;
-mod origins;
 mod parts;
 mod program;
-mod refusal;
-mod render;
-mod reports;
 mod resolve;
-mod sizes;
+mod told;
 mod types;
 mod typifier;
 mod words;

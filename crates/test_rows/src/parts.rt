@@ -1,220 +1,188 @@
-//! Questions about the items of a module: `part`, followed by
+//! Questions about the items of a module:
 //!
-//! - `constant N`, `override N`, `global N`: the name or `-`, the type, the initial expression, and the address space of a global variable;
-//! - `function N`, `entry N`: the name, the numbers of arguments, locals and expressions, the names of expressions, and the contents of the
-//!   body; for an entry point the number of its stage comes first;
-//! - `argument F N`, `local F N`: the name, the type, and the binding or the initial expression;
-//! - `special`: the special types;
-//! - `counts`: the numbers of types, constants, overrides, global expressions, globals, functions, entry points and filters.
-use crate::operands::next_function;
-use crate::render::Reply;
+//! - `part`: the number of items of each kind, and of each constant, override, global variable and special type its fields;
+//! - `part function N [E]`, `part entry N`: the fields of a function, and the operands of expression E and of statement E of its body;
+//! - `literals`: the global expressions that are literals, of a float the bits.
+use crate::told::Told;
 use crate::words::Words;
 use shader_arena::Handle;
-use shader_ir::{Block, Function, Module, Name, SpecialTypes, Statement, SwitchCase, SwitchValue};
-use std::alloc::{AllocError, Global};
+use shader_ir::proc::{Operands, expression_operands, statement_operands};
+use shader_ir::{Block, Expression, Function, Literal, Module, Statement, SwitchCase, SwitchValue};
 
-fn name_of(name: &Option<Name>) -> &str {
-    match name {
-        Some(name) => name.as_str(),
-        None => "-",
+/// Tells how many items a module has of each kind.
+fn tell_counts(told: &mut Told, module: &Module) {
+    let ctx = module.to_ctx();
+    told.show("types", ctx.types.len());
+    told.show("constants", ctx.constants.len());
+    told.show("overrides", ctx.overrides.len());
+    told.show("expressions", ctx.global_expressions.len());
+    told.show("globals", module.global_variables.len());
+    told.show("functions", module.functions.len());
+    told.show("entries", module.entry_points.len());
+    told.show("filters", module.diagnostic_filters.len());
+}
+
+/// Tells the declarations of a module.
+fn tell_declared(told: &mut Told, module: &Module) {
+    for (_, constant) in module.constants.iter() {
+        told.show("constant", (&constant.name, constant.ty, constant.init));
+    }
+    for (_, sizer) in module.overrides.iter() {
+        told.show("override", (&sizer.name, sizer.ty, sizer.init));
+    }
+    for (_, global) in module.global_variables.iter() {
+        told.show(
+            "global",
+            (&global.name, global.ty, global.init, global.space),
+        );
+    }
+    told.show("intersection", module.special_types.ray_intersection);
+    told.show("vertex", module.special_types.ray_vertex_return);
+    for predeclared in module.special_types.predeclared_types.iter() {
+        told.show("predeclared", predeclared);
     }
 }
 
-fn render_constant(alloc: Global, position: u32, module: &Module) -> Reply {
-    let Some(constant) = module.constants.try_get(Handle::from_index(position)) else {
-        return Ok(None);
-    };
-    let name = name_of(&constant.name);
-    format!(in alloc; "{name} {:?} {:?}", constant.ty, constant.init).map(Some)
+/// Tells a literal by the name of its variant and its value.
+fn tell_literal(told: &mut Told, literal: Literal) {
+    match literal {
+        Literal::F64(bits) => told.show("F64", bits),
+        Literal::F32(bits) => told.show("F32", bits),
+        Literal::F16(bits) => told.show("F16", bits),
+        Literal::AbstractFloat(bits) => told.show("AbstractFloat", bits),
+        Literal::U16(value) => told.show("U16", value),
+        Literal::I16(value) => told.show("I16", value),
+        Literal::U32(value) => told.show("U32", value),
+        Literal::I32(value) => told.show("I32", value),
+        Literal::U64(value) => told.show("U64", value),
+        Literal::I64(value) => told.show("I64", value),
+        Literal::AbstractInt(value) => told.show("AbstractInt", value),
+        Literal::Bool(value) => told.show("Bool", value),
+    }
 }
 
-fn render_override(alloc: Global, position: u32, module: &Module) -> Reply {
-    let Some(sizer) = module.overrides.try_get(Handle::from_index(position)) else {
-        return Ok(None);
-    };
-    let name = name_of(&sizer.name);
-    format!(in alloc; "{name} {:?} {:?}", sizer.ty, sizer.init).map(Some)
-}
-
-fn render_global(alloc: Global, position: u32, module: &Module) -> Reply {
-    let Some(global) = module
-        .global_variables
-        .try_get(Handle::from_index(position))
-    else {
-        return Ok(None);
-    };
-    let name = name_of(&global.name);
-    format!(in alloc;
-        "{name} {:?} {:?} {:?}",
-        global.ty, global.init, global.space
-    )
-    .map(Some)
-}
-
-fn render_argument(alloc: Global, function: &Function, position: u32) -> Reply {
-    match function.arguments.as_slice().get(position as usize) {
-        Some(argument) => {
-            let name = name_of(&argument.name);
-            format!(in alloc; "{name} {:?} {:?}", argument.ty, argument.binding).map(Some)
+/// Answers `literals`.
+pub fn tell_literals(told: &mut Told, module: &Module) {
+    for (_, expression) in module.global_expressions.iter() {
+        if let Expression::Literal(literal) = expression {
+            tell_literal(told, *literal);
         }
-        None => Ok(None),
     }
 }
 
-fn render_local(alloc: Global, function: &Function, position: u32) -> Reply {
-    let Some(local) = function
-        .local_variables
-        .try_get(Handle::from_index(position))
-    else {
-        return Ok(None);
-    };
-    let name = name_of(&local.name);
-    format!(in alloc; "{name} {:?} {:?}", local.ty, local.init).map(Some)
-}
-
-fn render_special(alloc: Global, special: &SpecialTypes) -> Reply {
-    let mut text = String::new(alloc);
-    write!(
-        text,
-        "{:?} {:?}",
-        special.ray_intersection, special.ray_vertex_return
-    )?;
-    for (key, ty) in special.predeclared_types.iter() {
-        write!(text, "; {key:?} {ty:?}")?;
-    }
-    Ok(Some(text))
-}
-
-fn add_value(text: &mut String, value: SwitchValue) -> Result<(), AllocError> {
+/// Tells the value of a case.
+fn tell_value(told: &mut Told, value: SwitchValue) {
     match value {
-        SwitchValue::I32(value) => write!(text, " {value}i"),
-        SwitchValue::U32(value) => write!(text, " {value}u"),
-        SwitchValue::Default => text.push_str(" default"),
+        SwitchValue::I32(value) => told.show("i32", value),
+        SwitchValue::U32(value) => told.show("u32", value),
+        SwitchValue::Default => told.name("default"),
     }
 }
 
-#[cycle(add)]
-fn add_case(text: &mut String, case: &SwitchCase) -> Result<(), AllocError> {
-    add_value(text, case.value)?;
-    add_block(text, &case.body)?;
-    text.push_str(if case.fall_through { " falls" } else { "" })
+/// Tells a case.
+#[cycle(tell)]
+fn tell_case(told: &mut Told, case: &SwitchCase) {
+    tell_value(told, case.value);
+    tell_block(told, &case.body);
+    told.show("falls", case.fall_through);
 }
 
-/// Adds a statement, by its name if it controls the flow.
-#[cycle(add)]
-fn add_statement(text: &mut String, statement: &Statement) -> Result<(), AllocError> {
+/// Tells a statement, by its name if it controls the flow.
+#[cycle(tell)]
+fn tell_statement(told: &mut Told, statement: &Statement) {
     match statement {
-        Statement::Kill => text.push_str(" Kill"),
-        Statement::Block(block) => add_block(text, block),
+        Statement::Kill => told.name("Kill"),
+        Statement::Block(block) => tell_block(told, block),
         Statement::If {
             condition,
             accept,
             reject,
         } => {
-            write!(text, " If {}", condition.index())?;
-            add_block(text, accept)?;
-            add_block(text, reject)
+            told.show("If", *condition);
+            tell_block(told, accept);
+            tell_block(told, reject);
         }
         Statement::Switch { selector, cases } => {
-            write!(text, " Switch {}", selector.index())?;
+            told.show("Switch", *selector);
             for case in cases {
-                add_case(text, case)?;
+                tell_case(told, case);
             }
-            Ok(())
         }
         Statement::Loop {
             body,
             continuing,
             ..
         } => {
-            text.push_str(" Loop")?;
-            add_block(text, body)?;
-            add_block(text, continuing)
+            told.name("Loop");
+            tell_block(told, body);
+            tell_block(told, continuing);
         }
-        _ => text.push_str(" other"),
+        _ => told.name("other"),
     }
 }
 
-#[cycle(add)]
-fn add_block(text: &mut String, block: &Block) -> Result<(), AllocError> {
-    text.push_str(" {")?;
+/// Tells a block.
+#[cycle(tell)]
+fn tell_block(told: &mut Told, block: &Block) {
+    told.name("{");
     for statement in &block.statements {
-        add_statement(text, statement)?;
+        tell_statement(told, statement);
     }
-    text.push_str(" }")
+    told.name("}");
 }
 
-fn add_function(text: &mut String, function: &Function) -> Result<(), AllocError> {
-    let (arguments, locals) = (function.arguments.len(), function.local_variables.len());
-    let (name, expressions) = (name_of(&function.name), function.expressions.len());
-    write!(text, "{name} {arguments} {locals} {expressions}")?;
-    for (expression, name) in function.named_expressions.iter() {
-        write!(text, " {expression:?}={}", name.as_str())?;
+/// Tells the fields of a function.
+fn tell_function(told: &mut Told, function: &Function) {
+    told.show("name", &function.name);
+    for argument in &function.arguments {
+        told.show("argument", (&argument.name, argument.ty, argument.binding));
     }
-    add_block(text, &function.body)
+    for (_, local) in function.local_variables.iter() {
+        told.show("local", (&local.name, local.ty, local.init));
+    }
+    told.show("function-expressions", function.expressions.len());
+    for named in function.named_expressions.iter() {
+        told.show("named", named);
+    }
+    tell_block(told, &function.body);
 }
 
-fn render_function(alloc: Global, function: &Function) -> Reply {
-    let mut text = String::new(alloc);
-    add_function(&mut text, function)?;
-    Ok(Some(text))
-}
-
-fn render_entry(alloc: Global, position: u32, module: &Module) -> Reply {
-    match module.entry_points.as_slice().get(position as usize) {
-        Some(entry) => {
-            let mut text = String::new(alloc);
-            write!(text, "{} {} ", entry.stage as u8, entry.name.as_str())?;
-            add_function(&mut text, &entry.function)?;
-            Ok(Some(text))
-        }
-        None => Ok(None),
+/// Tells the operands of an expression or a statement, after this name.
+fn tell_operands(told: &mut Told, name: &str, operands: Operands<'_>) {
+    told.name(name);
+    for operand in operands {
+        told.show("operand", operand);
     }
 }
 
-fn render_counts(alloc: Global, module: &Module) -> Reply {
-    let ctx = module.to_ctx();
-    let (types, constants) = (ctx.types.len(), ctx.constants.len());
-    let (overrides, expressions) = (ctx.overrides.len(), ctx.global_expressions.len());
-    let (globals, functions) = (module.global_variables.len(), module.functions.len());
-    let (entries, filters) = (module.entry_points.len(), module.diagnostic_filters.len());
-    let lent = format!(in alloc; "{types} {constants} {overrides} {expressions}")?;
-    format!(in alloc; "{lent} {globals} {functions} {entries} {filters}").map(Some)
+/// Tells the operands of an expression and of a statement of a function.
+fn tell_at(told: &mut Told, number: u32, function: &Function) {
+    if let Some(expression) = function.expressions.try_get(Handle::from_index(number)) {
+        tell_operands(told, "of-expression", expression_operands(expression));
+    }
+    if let Some(statement) = function.body.statements.get(number as usize) {
+        tell_operands(told, "of-statement", statement_operands(statement));
+    }
 }
 
-/// Returns the reply to a question about an item of a function.
-fn reply_in_function(alloc: Global, queried: &str, mut words: Words<'_>, module: &Module) -> Reply {
-    let Some(function) = next_function(&mut words, module) else {
-        return Ok(None);
+/// Answers `part`, `part function N [E]` and `part entry N`.
+pub fn tell(told: &mut Told, mut words: Words<'_>, module: &Module) {
+    let kind = words.next_word();
+    let Some(number) = words.number() else {
+        tell_counts(told, module);
+        tell_declared(told, module);
+        return;
     };
-    match (queried, words.number()) {
-        ("argument", Some(position)) => render_argument(alloc, function, position),
-        ("local", Some(position)) => render_local(alloc, function, position),
-        ("function", _) => render_function(alloc, function),
-        _ => Ok(None),
-    }
-}
-
-/// Returns the reply to the question, if the words are one and it applies to this module.
-pub fn reply(alloc: Global, mut words: Words<'_>, module: &Module) -> Reply {
-    let queried = words.next_word();
-    match queried {
-        "special" => render_special(alloc, &module.special_types),
-        "counts" => render_counts(alloc, module),
-        "constant" | "override" | "global" | "entry" => match words.number() {
-            Some(position) => render_declared(alloc, queried, position, module),
-            None => Ok(None),
-        },
-        _ => reply_in_function(alloc, queried, words, module),
-    }
-}
-
-/// Returns the reply to a question about an item of the module.
-fn render_declared(alloc: Global, queried: &str, position: u32, module: &Module) -> Reply {
-    match queried {
-        "constant" => render_constant(alloc, position, module),
-        "override" => render_override(alloc, position, module),
-        "global" => render_global(alloc, position, module),
-        _ => render_entry(alloc, position, module),
+    if kind == "entry" {
+        if let Some(entry) = module.entry_points.as_slice().get(number as usize) {
+            told.show("stage", entry.stage as u8);
+            told.show("entry-name", &entry.name);
+            tell_function(told, &entry.function);
+        }
+    } else {
+        if let Some(function) = module.functions.try_get(Handle::from_index(number)) {
+            tell_function(told, function);
+            tell_at(told, words.number().unwrap_or(0), function);
+        }
     }
 }

@@ -1,47 +1,102 @@
-//! Questions about the types of a module: `type`, followed by
+//! Questions about the types of a module:
 //!
-//! - `scalar T`, `kind T`, `numeric T`, `width T`, `vector T`, `components T`, `space T`, `base T`: queries of the type itself;
-//! - `part T I`: the type of the component at an index;
-//! - `atomic-pointer T`, `canonical T`: queries that depend on the type that it names;
-//! - `abstract T`, `constructible T`, `dynamic T`, `leaf T`, `needs-bytes T`: queries that depend on all types that it contains;
-//! - `converts T T`, `equivalent T T`, `same T T`, `named-same T T`: queries of two types, the last with their names;
-//! - `compare R R`, `equal R R`, `fits R`, `inner R`, `handle R`, `copy R`: queries of resolutions of expressions, the last whether a copy
-//!   is equal; an R is `h3`, the handle of a type, or `v3`, a type equal to it as a value;
-//! - `backward`: whether each type names only earlier ones.
-//!
-//! A T is the number of a type. Values are printed as by `Debug`.
-mod pairs;
-mod queries;
-mod resolutions;
+//! - `type T [U]`: whether each type names only earlier ones, what is known of type T, and how it is related to type U;
+//! - `component T I`: the type of a component of type T.
+ghost use Rattle.std.specs.Prelude.{length};
+ghost use Rattle.shader_ir.specs.TypeTree.{IsBackward, PointsBelow};
 
-use crate::render::{Reply, render};
-pub use crate::types::resolutions::next_resolution;
+use crate::told::Told;
 use crate::words::Words;
 use shader_arena::{Handle, UniqueArena};
 use shader_ir::proc::types_backward;
-use shader_ir::{Module, Type, mark};
-use std::alloc::Global;
+use shader_ir::{Module, Same, ScalarKind, Type, TypeInner, mark};
 
 /// The types of a module.
-pub type Types = UniqueArena<Type, mark::Type>;
+type Types = UniqueArena<Type, mark::Type>;
+
+/// Tells what depends on a type alone.
+fn tell_own(told: &mut Told, inner: &TypeInner) {
+    told.show("scalar", inner.scalar());
+    told.show("kind", inner.scalar_kind());
+    told.show("numeric", inner.scalar_kind().map(ScalarKind::is_numeric));
+    told.show("width", inner.scalar_width());
+    told.show("vector", inner.vector_size_and_scalar());
+    told.show("components", inner.components());
+    told.show("space", inner.pointer_space());
+    told.show("base", inner.pointer_base_type());
+}
+
+/// Tells what depends on the types that a type contains.
+fn tell_contained(told: &mut Told, inner: &TypeInner, types: &Types)
+    requires backward { IsBackward types.now }
+    requires inside { PointsBelow (length types.now) inner.now }
+{
+    told.show("atomic-pointer", inner.is_atomic_pointer(types));
+    told.show("canonical", inner.canonical_form(types));
+    told.show("abstract", inner.is_abstract(types));
+    told.show("constructible", inner.is_constructible(types));
+    told.show("dynamic", inner.is_dynamically_sized(types));
+    told.show("leaf", inner.scalar_for_conversions(types));
+    told.show("needs-bytes", inner.needs_host_buffer_byte_size(types));
+}
+
+/// Tells how two types are related by those that they contain. Two structs have no canonical forms to compare.
+fn tell_related(told: &mut Told, left: &TypeInner, right: &TypeInner, types: &Types)
+    requires backward { IsBackward types.now }
+    requires left_in { PointsBelow (length types.now) left.now }
+    requires right_in { PointsBelow (length types.now) right.now }
+{
+    told.show("converts", left.automatically_converts_to(right, types));
+    match (left, right) {
+        (TypeInner::Struct { .. }, TypeInner::Struct { .. }) => {}
+        _ => told.show("equivalent", left.non_struct_equivalent(right, types)),
+    }
+}
+
+/// Tells how type T is related to type U.
+fn tell_pair(told: &mut Told, left: &Type, right: &Type, types: &Types)
+    requires backward { IsBackward types.now }
+    requires left_in { PointsBelow (length types.now) left.now.inner }
+{
+    told.show("same", left.inner.is_same(&right.inner));
+    told.show("named-same", left.is_same(right));
+    if right.inner.is_in_range(types) {
+        tell_related(told, &left.inner, &right.inner, types);
+    }
+}
 
 /// Returns the type with the number in the next word.
-pub fn next_type<'a>(words: &mut Words<'_>, types: &'a Types) -> Option<&'a Type> {
+fn next_type<'a>(words: &mut Words<'_>, types: &'a Types) -> Option<&'a Type> {
     types.try_get(Handle::from_index(words.number()?))
 }
 
-/// Returns the reply to the question, if the words are one and it applies to this module.
-pub fn reply(alloc: Global, mut words: Words<'_>, module: &Module) -> Reply {
+/// Answers `type T [U]`.
+pub fn tell(told: &mut Told, mut words: Words<'_>, module: &Module) {
     let types = &module.types;
-    let query = words.next_word();
-    match query {
-        "backward" => render(alloc, types_backward(types)),
-        "part" => queries::reply_of_part(alloc, words, types),
-        "compare" | "equal" => resolutions::reply_of_two(alloc, query, words, types),
-        "copy" | "fits" | "inner" | "handle" => resolutions::reply(alloc, query, words, types),
-        "converts" | "equivalent" | "same" | "named-same" => {
-            pairs::reply(alloc, query, words, types)
-        }
-        _ => queries::reply(alloc, query, words, types),
+    told.show("backward", types_backward(types));
+    let Some(ty) = next_type(&mut words, types) else {
+        return;
+    };
+    tell_own(told, &ty.inner);
+    if !types_backward(types) || !ty.inner.is_in_range(types) {
+        return;
+    }
+    tell_contained(told, &ty.inner, types);
+    if let Some(other) = next_type(&mut words, types) {
+        tell_pair(told, ty, other, types);
+    }
+}
+
+/// Answers `component T I`. The index must be that of a member if the type is a struct.
+pub fn tell_component(told: &mut Told, mut words: Words<'_>, module: &Module) {
+    let Some(ty) = next_type(&mut words, &module.types) else {
+        return;
+    };
+    let Some(index) = words.number() else {
+        return;
+    };
+    match &ty.inner {
+        TypeInner::Struct { members, .. } if index as usize >= members.len() => {}
+        inner => told.show("component", inner.component_type(index as usize)),
     }
 }

@@ -3,14 +3,10 @@
 /// The words that remain to be read, separated by single spaces.
 #[derive(Clone, Copy)]
 pub struct Words<'a> {
-    rest: &'a str,
+    pub rest: &'a str,
 }
 
 impl<'a> Words<'a> {
-    pub fn new(text: &'a str) -> Words<'a> {
-        Words { rest: text }
-    }
-
     /// Returns the next word, or an empty one if none remains.
     pub fn next_word(&mut self) -> &'a str {
         let rest = self.rest;
@@ -32,15 +28,5 @@ impl<'a> Words<'a> {
             Ok(number) => Some(number),
             Err(_) => None,
         }
-    }
-
-    /// Returns the remaining words.
-    pub fn rest(self) -> &'a str {
-        self.rest
-    }
-
-    /// Returns whether no words remain.
-    pub fn is_done(self) -> bool {
-        self.rest.is_empty()
     }
 }

@@ -1,9 +1,12 @@
-"""Answers questions about the analysis of a module by what `report --json` says of it (tests/data/rows/README.md has the questions)."""
+"""Answers questions about the analysis of a module and about its indexes by what `report --json` says of it.
+
+tests/data/rows/README.md has the questions.
+"""
 import json
 
 from compare_info import variant
 
-KIND = "analysis"
+KINDS, INDEXES, OF_INDEXES = ("analysis", "report"), "indexes", ("checked", "locals", "compare")
 # The bits of each set of flags.
 USES = {"READ": 1, "WRITE": 2, "QUERY": 4, "ATOMIC": 8}
 NEEDS = {"WORK_GROUP_BARRIER": 1, "DERIVATIVE": 2, "IMPLICIT_LEVEL": 4, "COOP_OPS": 8}
@@ -19,14 +22,35 @@ BAD = "bad question"
 
 def is_of_report(question):
     """Returns whether a question is answered here."""
-    return question.split(" ", 1)[0] == KIND
+    words = question.split(" ")
+    return words[0] in KINDS or (words[0] == INDEXES and words[3:4] != [] and words[3] in OF_INDEXES)
 
 
 def arguments(question):
     """Returns the arguments of `report` for a question."""
     words = question.split(" ")
+    if words[0] == INDEXES:
+        policies = [words[4]] if words[3] != "compare" and words[4] != "-" else []
+        return ["--json", FLOW["unchecked"], f"--non-uniform-indexing={','.join(INDEXING['3'])}", "--bounds-checks", *policies]
     flow, bits = words[3:5] if words[1:3] == ["first", "verdict"] and len(words) == 5 else ("checked", "0")
     return ["--json", FLOW[flow], *([f"--non-uniform-indexing={','.join(INDEXING[bits])}"] if INDEXING[bits] else [])]
+
+
+def module_asked(question, text):
+    """Returns the module about which `report` is asked. To compare an index is to ask about an access at the end of the function."""
+    words = question.split(" ")
+    if words[0] != INDEXES or words[3] != "compare":
+        return text
+    module, base, index = json.loads(text), int(words[4]), int(words[5][1:])
+    kind = "AccessIndex" if words[5][0] == "n" else "Access"
+    function_of(module, words)["expressions"].append({kind: {"base": base, "index": index}})
+    return json.dumps(module)
+
+
+def function_of(module, words):
+    """Returns the function of a module that the words of a question name."""
+    number = int(words[2])
+    return module["functions"][number] if words[1] == "function" else module["entry_points"][number]["function"]
 
 
 def bits_of(flags, names):
@@ -64,6 +88,25 @@ def of_refusal(refused):
     else:
         cause = f"A3 at {held}"
     return f"{PLACES[place]} {number} {cause}"
+
+
+def report_of(told):
+    """Returns the report as `typer` prints it: what is recorded of all functions, or a refusal's location and the number of its cause."""
+    if "refused" in told:
+        return f"refused {' '.join(of_refusal(told['refused']).split(' ')[:3])}"
+    return of_info(told["info"], ["module"]) if "info" in told else BAD
+
+
+def of_bounds(told, words, text):
+    """Returns the answer to a question about indexes, given the text of the module."""
+    if "functions" not in told.get("bounds", {}):
+        return BAD
+    found = told["bounds"]["functions" if words[1] == "function" else "entry_points"][int(words[2])]
+    if words[3] == "compare":
+        last = len(function_of(json.loads(module_asked(" ".join(words), text)), words)["expressions"]) - 1
+        lengths = [it["length"] for it in found["accesses"] if it["access"] == last]
+        return {"Dynamic": "dynamic"}.get(str(lengths[0])) or str(lengths[0]["Known"]) if lengths else "-"
+    return " ".join(map(str, found["checked_indexes" if words[3] == "checked" else "oob_local_types"])) or "-"
 
 
 def has_pair(info, words):
@@ -110,9 +153,13 @@ def of_info(info, words):
     return section_of({"function": functions, "entry": entry_points}[words[0]][int(words[1])], words[2:])
 
 
-def answer(question, text):
-    """Returns the answer to a question, given the line that `report` prints."""
-    told = json.loads(text)
+def answer(question, text, module):
+    """Returns the answer to a question, given the line that `report` prints and the text of the module in the row."""
+    told, words = json.loads(text), question.split(" ")
+    if words[0] == INDEXES:
+        return of_bounds(told, words, module)
+    if words[0] == "report":
+        return report_of(told)
     if "refused" in told:
         return of_refusal(told["refused"])
-    return of_info(told["info"], question.split(" ")[1:]) if "info" in told else BAD
+    return of_info(told["info"], words[1:]) if "info" in told else BAD
