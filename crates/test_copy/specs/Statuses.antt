@@ -15,3 +15,7 @@ abbrev pub input_failure : InputError → Failure
 input_failure inputs.ReadFailed = Read
 input_failure inputs.TooLong = TooLong
 input_failure inputs.OutOfMemory = OutOfMemory
+
+-- an input may have 256 MiB, which is more than the memory that a test allows
+abbrev pub most_input_bytes : ℕ
+most_input_bytes = 268435456

@@ -1,7 +1,8 @@
 //! A copy of an input to an output, and why there is none.
 
-ghost use Rattle.std.specs.Prelude.{◌≡◌, ◌↔◌, List, ℕ, false, IsTrue, OnOk};
-ghost use Rattle.std.specs.Io.KnownBytes.{Appends, Consumes, IsAtEnd};
+ghost use Rattle.std.specs.Prelude.{◌≡◌, ◌↔◌, ◌<◌, List, ℕ, false, length, IfErr, IsTrue, OnOk};
+ghost use Rattle.std.specs.Io.KnownBytes.{Appends, Consumes, IsAtEnd, Keeps};
+ghost use Rattle.test_copy.specs.Statuses.{most_input_bytes};
 
 use program_io::{Failed, InputError, Sink, Source, read_input, write_all};
 use std::alloc::Global;
@@ -70,6 +71,9 @@ pub fn copy<R: Source, W: Sink>(
         × Appends (W.contents writer.old) (W.contents writer.new) text) }
     ensures read { (result ≡ Err Failure.Read) ↔ IsTrue (R.has_failed reader.new) }
     ensures written { (result ≡ Err Failure.Write) ↔ IsTrue (W.has_failed writer.new) }
+    ensures too_long { (text : List ℕ) × Consumes (R.remaining reader.old) (R.remaining reader.new) text
+        × ((result ≡ Err Failure.TooLong) ↔ (most_input_bytes < length text)) }
+    ensures nothing { IfErr result (λ failure. (failure ≡ Failure.Write → ⊥) → Keeps (W.contents writer.old) (W.contents writer.new)) }
 {
     let input = read_input(alloc, reader, INPUT_LIMIT)?;
     write_all(writer, input.as_slice())?;
