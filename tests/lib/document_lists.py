@@ -21,8 +21,8 @@ TEST = re.compile(r"#\[test\]\n(?:#\[.*\n)*fn (\w+)")
 UNFOLDABLE = re.compile(r"(?m)^ *unfoldable pub (\w+)")
 # A member or a name that a definition prints as JSON, in a text or as a token; the crates that print such; and what no answer has: types
 # that no typing rule gives by value, and errors of other callers.
-PRINTED = re.compile(r'\\"(\w+)\\"|(?:key|_member|_tokens) \(codes "(\w+)"\)')
-PRINTING = re.compile(r"report_answers|shader_(info_json|report_(bounds|json|resources)|uniformity_text)")
+PRINTED = re.compile(r'\\"(\w+)\\"|(?:key|variant|fields|_member|_tokens) \(codes "(\w+)"\)')
+PRINTING = re.compile(r"report_(answers|json)|shader_(report_(bounds|json|resources)|uniformity_text)")
 UNSEEN = set("""AccelerationStructure Array Atomic BindingArray Constant Depth External FunctionNotDefined Image InvalidArrayElementType
     InvalidStructMemberType OutOfMemory Pending RayQuery Sampled Sampler arrayed class comparison dim format multi vertex_return""".split())
 COSTS, FAILURES, JSON = "docs/maintaining/costs.md", "docs/maintaining/allocation-failures.md", "docs/JSON.md"

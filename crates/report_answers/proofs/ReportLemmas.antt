@@ -1,90 +1,82 @@
--- The report on a module by the flow that the options have decided.
-use Rattle.std.proofs.Common.{refl, ◌≡◌, ◌∙◌, ◌++◌, ap, append_assoc, sym, subst, inl, inr, ℕ, Bool, true, false, List, Option, Some}
+-- The report on a module, by what was found of it.
+use Rattle.std.proofs.Common.{refl, ◌≡◌, ◌∙◌, ◌++◌, ◌∷◌, [], ap, append_assoc, subst, sym, inr, rules}
+use Rattle.std.proofs.Common.{ℕ, Bool, true, false, List, Option, Some, None, Ok, Err, Result}
 use Rattle.std.proofs.Common.{IsSome}
-use Rattle.std.specs.Prelude.{MatchOption, String, string_bytes}
+use Rattle.std.specs.Prelude.{IfOk, MatchOption, is_some}
 use Rattle.std.specs.Str.{IsUtf8}
-use Rattle.std.proofs.lemmas.Str.{IsUtf8-string_bytes}
 use Rattle.json.specs.Json.{Json, document}
+use Rattle.json.specs.Print.{print}
+use Rattle.json.specs.Token.{Token, begin_object, end_object}
+use Rattle.json.specs.Written.{Written}
+use Rattle.report_json.specs.Tokens.{Adds, object}
+use Rattle.report_model.specs.Analyzed.{IsAnalyzed, is_accepted, uniformity_of}
+use Rattle.report_model.specs.declared.analyzed.Analyzed.{Analyzed}
 use Rattle.shader_analysis_spec.specs.Program.{Module}
-use Rattle.shader_passes.specs.Causes.{settings_of}
 use Rattle.shader_json_module.specs.Modules.{IsModule, IsTextOf}
-use Rattle.shader_report_json.specs.Answers.{IsModuleAnswer}
-use Rattle.shader_report_text.specs.Verdicts.{IsVerdict}
-use Rattle.shader_uniformity_text.specs.Sections.{IsPeopleSection}
-use Rattle.report_answers.specs.Members.{AreExtras, AreMembers, EndsWithLines, lines_of}
+use Rattle.shader_report_json.specs.Answers.{AreModuleMembers}
+use Rattle.shader_uniformity.specs.declared.divergence.Uniformity.{Uniformity}
+use Rattle.shader_uniformity_text.specs.Verdicts.{verdict_members}
+use Rattle.report_answers.specs.Options.{checks_uniformity, settings}
 use Rattle.report_answers.specs.Reading.{IsRead}
-use Rattle.report_answers.specs.Options.{capabilities_of, flags_of}
-use Rattle.report_answers.specs.Reports.{verdict, HasFlow, IsDeep, IsDeepReport, IsFlowReport, IsFlowSection, IsJson, IsModuleReport}
-use Rattle.report_answers.specs.Reports.{IsOutputBy, IsPeople, IsReport, IsReportOn, IsRest}
-use Rattle.report_answers.specs.declared.options.FlowCheck.{FlowCheck}
-use Rattle.report_answers.specs.declared.options.FlowCheck.TheVariants.{Defined, Naga, Off}
+use Rattle.report_answers.specs.Reports.{verdict, IsDeep, IsDeepReport, IsJson, IsModuleReport, IsOutputOn, IsPeople, IsPrintedFor}
+use Rattle.report_answers.specs.Reports.{is_divergent}
+use Rattle.report_answers.specs.Reports.{IsReport, IsReportOn}
+use Rattle.report_answers.specs.Sections.{AreSections, EndsWithLines, IsRootIf}
 use Rattle.report_answers.specs.declared.options.Options.{Options}
 use Rattle.report_answers.specs.declared.reports.Outcome.{Outcome}
 use Rattle.report_answers.specs.declared.reports.Outcome.TheVariants.{Accepted, Refused, NotModule}
 
 module _ (options : Options) (j : Json) (m : Module) where
-  told : (accepted : Bool) (outcome : Outcome) (text : List ℕ) → outcome ≡ verdict accepted →
-      IsOutputBy options.flow options j m accepted text → IsReportOn options j m outcome text
-  told true outcome text e h = subst (λ (o : Outcome). IsReportOn options j m o text) (sym e) h
-  told false outcome text e h = subst (λ (o : Outcome). IsReportOn options j m o text) (sym e) h
+  by_verdict : (accepted : Bool) (outcome : Outcome) (text : List ℕ) → outcome ≡ verdict accepted →
+      IsOutputOn options j m accepted text → IsReportOn options j m outcome text
+  by_verdict true outcome text e output = subst (λ (o : Outcome). IsReportOn options j m o text) (sym e) output
+  by_verdict false outcome text e output = subst (λ (o : Outcome). IsReportOn options j m o text) (sym e) output
 
-  by : (flow : FlowCheck) (accepted : Bool) (text : List ℕ) → options.flow ≡ flow → IsOutputBy flow options j m accepted text →
-      IsOutputBy options.flow options j m accepted text
-  by flow accepted text e h = subst (λ (f : FlowCheck). IsOutputBy f options j m accepted text) (sym e) h
+  module _ (analyzed : Analyzed) (found : IsAnalyzed m (settings options) (checks_uniformity options) analyzed) (outcome : Outcome)
+      (text : List ℕ) (accepted : Bool) (is : accepted ≡ is_accepted analyzed) (ends : outcome ≡ verdict accepted) where
+    reported : IsPrintedFor options.is_json options j m analyzed text → IsReportOn options j m outcome text
+    reported printed =
+        by_verdict accepted outcome text ends (record { analyzed = analyzed; found = found; verdict = is; printed = printed })
 
-  pub naga_told : (accepted : Bool) (outcome : Outcome) (text : List ℕ) → options.flow ≡ Naga → outcome ≡ verdict accepted →
-      IsRest options j m accepted text → IsReportOn options j m outcome text
-  naga_told accepted outcome text e v rest = told accepted outcome text v (by Naga accepted text e rest)
+    pub json_reported : options.is_json ≡ true → IsJson options j m analyzed text → IsReportOn options j m outcome text
+    json_reported json printed = reported (subst (λ (b : Bool). IsPrintedFor b options j m analyzed text) (sym json) printed)
 
-  pub off_told : (accepted : Bool) (outcome : Outcome) (text : List ℕ) → options.flow ≡ Off → outcome ≡ verdict accepted →
-      IsRest options j m accepted text → IsReportOn options j m outcome text
-  off_told accepted outcome text e v rest = told accepted outcome text v (by Off accepted text e rest)
+    pub people_reported : options.is_json ≡ false → IsPeople options j m analyzed text → IsReportOn options j m outcome text
+    people_reported people printed = reported (subst (λ (b : Bool). IsPrintedFor b options j m analyzed text) (sym people) printed)
 
-  pub refused_told : (outcome : Outcome) (text : List ℕ) → options.flow ≡ Defined → outcome ≡ verdict false →
-      IsRest options j m false text → IsReportOn options j m outcome text
-  refused_told outcome text e v rest = told false outcome text v (by Defined false text e (inl rest))
+  module _ (analyzed : Analyzed) where
+    -- a text that ends with the lines still does behind another one
+    pub still_ends : (before text : List ℕ) → EndsWithLines options j m analyzed text → EndsWithLines options j m analyzed (before ++ text)
+    still_ends before text ends = record {
+      before = before ++ ends.before;
+      resources = ends.resources;
+      resources_asked = ends.resources_asked;
+      printed = ap (λ (more : List ℕ). before ++ more) ends.printed ∙ sym (append_assoc before ends.before ends.resources);
+    }
 
-  with_section : (accepted : Bool) (section rest text : List ℕ) → IsRest options j m true rest →
-      IsFlowSection options.is_json m accepted section → HasFlow options.is_json accepted section rest text →
-      IsFlowReport options j m accepted text
-  with_section accepted section rest text otherwise decided flow =
-      record { rest = rest; otherwise = otherwise; section = section; decided = decided; told = flow }
-
-  told_by : (accepted : Bool) (outcome : Outcome) (text : List ℕ) → options.flow ≡ Defined → outcome ≡ verdict accepted →
-      IsFlowReport options j m accepted text → IsReportOn options j m outcome text
-  told_by true outcome text e v report = told true outcome text v (by Defined true text e report)
-  told_by false outcome text e v report = told false outcome text v (by Defined false text e (inr report))
-
-  pub flow_told : (accepted decided : Bool) (outcome : Outcome) (section rest text : List ℕ) → options.flow ≡ Defined →
-      outcome ≡ verdict accepted → accepted ≡ decided → IsRest options j m true rest →
-      IsFlowSection options.is_json m decided section → HasFlow options.is_json accepted section rest text →
-      IsReportOn options j m outcome text
-  flow_told accepted decided outcome section rest text e v same otherwise is_section flow =
-      let found = subst (λ (passes : Bool). IsFlowSection options.is_json m passes section) (sym same) is_section in
-      told_by accepted outcome text e v (with_section accepted section rest text otherwise found flow)
-
-  pub json_told : (accepted : Bool) (members text : List ℕ) → AreMembers options j m members →
-      IsModuleAnswer m (settings_of (flags_of options) (capabilities_of options)) members accepted text →
-      IsJson options j m accepted text
-  json_told accepted members text are answer = record { members = members; are = are; answer = answer }
-
-  pub people_told : {Z : Type 0} (accepted : Bool) (string : String Z) (text : List ℕ) → text ≡ string_bytes string →
-      IsVerdict m (settings_of (flags_of options) (capabilities_of options)) accepted → EndsWithLines options j m text →
-      IsPeople options j m accepted text
-  people_told accepted string text same verdict lines = record {
-    utf8 = subst (λ (told : List ℕ). IsUtf8 told) (sym same) (IsUtf8-string_bytes string);
-    verdict = verdict;
-    lines = lines;
-  }
-
-  -- a text that ends with the lines still does behind another one
-  pub still_ends : (before text : List ℕ) → EndsWithLines options j m text → EndsWithLines options j m (before ++ text)
-  still_ends before text ends = record {
-    before = before ++ ends.before;
-    resources = ends.resources;
-    asked = ends.asked;
-    told = ap (λ (more : List ℕ). before ++ more) ends.told ∙ sym (append_assoc before ends.before (lines_of ends.resources));
-  }
+    -- the bytes of an object that is written from nothing, with the end of the line
+    pub object_written : (start end : Written) (text line : List ℕ) (found sections : List Token) → start.before ≡ [] → start.tokens ≡ [] →
+        AreModuleMembers analyzed found → AreSections options j m analyzed sections →
+        Adds start end (begin_object ∷ (verdict_members (uniformity_of analyzed) ++ (found ++ (sections ++ end_object ∷ [])))) →
+        text ≡ end.before ++ print end.tokens → line ≡ text ++ 10 ∷ [] → IsJson options j m analyzed line
+    object_written start end text line found sections before none are asked adds bytes ends =
+        let first = verdict_members (uniformity_of analyzed) in
+        let all = object (first ++ (found ++ sections)) in
+        let regrouped : begin_object ∷ (first ++ (found ++ (sections ++ end_object ∷ []))) ≡ all =
+        ap (λ (ts : List Token). begin_object ∷ ts)
+        (ap (λ (ts : List Token). first ++ ts) (sym (append_assoc found sections (end_object ∷ [])))
+        ∙ sym (append_assoc first (found ++ sections) (end_object ∷ []))) in
+        let tokens : end.tokens ≡ all =
+        adds.added ∙ ap (λ (ts : List Token). ts ++ (begin_object ∷ (first ++ (found ++ (sections ++ end_object ∷ []))))) none
+        ∙ regrouped in
+        record {
+          found = found;
+          found_are = are;
+          sections = sections;
+          sections_are = asked;
+          printed = ends ∙ ap (λ (v : List ℕ). v ++ 10 ∷ [])
+              (bytes ∙ ap (λ (v : List ℕ). v ++ print end.tokens) (adds.before ∙ before) ∙ ap print tokens);
+        }
 
   is_text : (input : List ℕ) → document input ≡ Some j → IsModule j m → IsTextOf input m
   is_text input parses stands = subst (λ (found : Option Json). MatchOption found ⊥ (λ j. IsModule j m)) (sym parses) stands
@@ -93,13 +85,13 @@ module _ (options : Options) (j : Json) (m : Module) where
   is_document input parses = subst (λ (found : Option Json). IsSome found) (sym parses) refl
 
   spelled : (input : List ℕ) (accepted : Bool) (text : List ℕ) → IsUtf8 input → document input ≡ Some j → IsModule j m →
-      IsOutputBy options.flow options j m accepted text → IsModuleReport options input accepted text
-  spelled input accepted text utf8 parses stands report = record {
+      IsOutputOn options j m accepted text → IsModuleReport options input accepted text
+  spelled input accepted text utf8 parses stands output = record {
     utf8 = utf8;
     parses = is_document input parses;
     m = m;
     stands = is_text input parses stands;
-    output = record { j = j; parses = parses; told = report };
+    output = record { j = j; parses = parses; output = output };
   }
 
   nested : (input text : List ℕ) → IsUtf8 input → document input ≡ Some j → IsModule j m → IsDeep options m text →
@@ -119,15 +111,34 @@ module _ (options : Options) (j : Json) (m : Module) where
   module_told input Refused text utf8 parses stands report = spelled input false text utf8 parses stands report
   module_told input NotModule text utf8 parses stands report = inr (nested input text utf8 parses stands report)
 
--- for people the section is any text on the verdict
-pub section_told : {Z : Type 0} (is_json : Bool) (m : Module) (accepted : Bool) (string : String Z) → is_json ≡ false →
-    IsPeopleSection m accepted → IsFlowSection is_json m accepted (string_bytes string)
-section_told is_json m accepted string is decided =
-    subst (λ (json : Bool). IsFlowSection json m accepted (string_bytes string)) (sym is) (IsUtf8-string_bytes string, decided)
+-- no JSON is needed if resources aren't asked for
+pub no_root : (has_resources : Bool) (j : Json) → has_resources ≡ false → IsRootIf has_resources j None
+no_root has_resources j unasked = subst (λ (b : Bool). IsRootIf b j None) (sym unasked) tt
 
 -- the report on a module that was read of an input
-pub read_told : (options : Options) (input : List ℕ) (m : Module) (extras : List ℕ) (outcome : Outcome) (text : List ℕ)
-    → ((j : Json) → AreExtras options j m extras → IsReportOn options j m outcome text) → IsRead options input m extras
-    → IsReport options input outcome text
-read_told options input m extras outcome text on read =
-    module_told options read.j m input outcome text read.utf8 read.parses read.stands (on read.j read.are)
+pub read_told : (options : Options) (input : List ℕ) (m : Module) (outcome : Outcome) (text : List ℕ) →
+    ((j : Json) → IsRootIf options.has_resources j None → IsReportOn options j m outcome text) →
+    IsRead input m × (options.has_resources ≡ false) → IsReport options input outcome text
+read_told options input m outcome text on read =
+    module_told options read.0.j m input outcome text read.0.utf8 read.0.parses read.0.stands
+    (on read.0.j (no_root options.has_resources read.0.j read.1))
+
+differ : true ≡ false → ⊥
+differ e = absurd (cc)
+
+some_unless : {A : Type 0} (found : Option A) → (found ≡ None → ⊥) → is_some found ≡ true
+some_unless None none = absurd (none refl)
+some_unless (Some x) none = refl
+
+-- control flow that isn't accepted is refused
+pub is_refused : (found : Uniformity) (verdict : Option Uniformity) → Some found ≡ verdict → (found.fault ≡ None → ⊥) →
+    is_divergent verdict ≡ false → ⊥
+is_refused found verdict is fault accepted =
+    let refused : is_some found.fault ≡ true = some_unless found.fault fault in
+    let same : is_some found.fault ≡ false = ap is_divergent is ∙ accepted in
+    differ (sym refused ∙ same)
+
+-- a property of each value is one of a result's
+pub if_ok : {X Y : Type 0} (r : Result X Y) (P : X → Type 0) → ((x : X) → P x) → IfOk r P
+if_ok (Ok x) P each = each x
+if_ok (Err y) P each = search rules

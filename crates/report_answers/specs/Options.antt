@@ -4,10 +4,12 @@ use Rattle.std.specs.Prelude.{String, find, is_some, nat_eq, nat_lt, unwrap_or, 
 use Rattle.std.specs.Option.{option_map, option_or}
 use Rattle.std.specs.Str.{bytes_eq}
 use Rattle.std.specs.String.{string_bytes}
+use Rattle.shader_analysis_spec.specs.Faults.{Settings}
 use Rattle.shader_info.specs.declared.flags.Capabilities.{Capabilities}
 use Rattle.shader_info.specs.declared.flags.ValidationFlags.{ValidationFlags}
 use Rattle.shader_bounds.specs.Policies.{unchecked}
 use Rattle.shader_bounds.specs.declared.policies.BoundsCheckPolicies.{BoundsCheckPolicies}
+use Rattle.shader_passes.specs.Causes.{settings_of}
 use Rattle.report_answers.specs.Policies.{policies_of}
 use Rattle.report_answers.specs.declared.options.Flag.{Flag}
 use Rattle.report_answers.specs.declared.options.Flag.TheVariants.{Json, NagaFlow, AnyFlow, NoFlow, IndexTextures, IndexStorageTextures}
@@ -170,3 +172,15 @@ flags_of options = record { 0 = flow_bits options.flow }
 
 abbrev pub capabilities_of : Options → Capabilities
 capabilities_of options = record { 0 = index_bits options.indexes_textures options.indexes_storage_textures }
+
+abbrev pub settings : Options → Settings
+settings options = settings_of (flags_of options) (capabilities_of options)
+
+abbrev checks_by : FlowCheck → Bool
+checks_by Defined = true
+checks_by Naga = false
+checks_by Off = false
+
+-- whether uniform flow is decided by its definition
+abbrev pub checks_uniformity : Options → Bool
+checks_uniformity options = checks_by options.flow

@@ -1,76 +1,61 @@
 -- The report on the module that an input is.
-use Rattle.std.specs.Prelude.{◌≡◌, ◌⊎◌, ◌++◌, ℕ, Bool, true, false, List, IsSome, Some, codes, drop}
+use Rattle.std.specs.Prelude.{◌≡◌, ◌⊎◌, ◌++◌, ◌∷◌, [], ℕ, Bool, true, false, List, IsSome, Option, Some, None, is_some}
 use Rattle.std.specs.Str.{IsUtf8}
 use Rattle.json.specs.Json.{Json, document}
+use Rattle.json.specs.Print.{print}
+use Rattle.json.specs.Token.{Token}
+use Rattle.report_json.specs.Tokens.{object}
+use Rattle.report_model.specs.Analyzed.{IsAnalyzed, is_accepted, uniformity_of}
+use Rattle.report_model.specs.declared.analyzed.Analyzed.{Analyzed}
 use Rattle.shader_analysis_spec.specs.Program.{Module}
 use Rattle.shader_json_module.specs.Modules.{IsTextOf}
 use Rattle.shader_json_reader.specs.Errors.{IsAccurate}
 use Rattle.shader_json_reader.specs.declared.error.ReadError.{ReadError}
-use Rattle.shader_passes.specs.Causes.{settings_of}
-use Rattle.shader_report_json.specs.Answers.{IsModuleAnswer}
+use Rattle.shader_report_json.specs.Answers.{AreModuleMembers}
 use Rattle.shader_resolve.specs.Nesting.{NestsWithin}
-use Rattle.shader_report_text.specs.Verdicts.{IsVerdict}
-use Rattle.shader_uniformity_text.specs.Sections.{IsJsonSection, IsPeopleSection}
+use Rattle.shader_uniformity.specs.declared.divergence.Uniformity.{Uniformity}
+use Rattle.shader_uniformity_text.specs.Verdicts.{verdict_members}
 use Rattle.report_answers.specs.Errors.{IsErrorText, IsObjectText, nesting_object, nesting_text}
-use Rattle.report_answers.specs.Members.{AreMembers, EndsWithLines}
-use Rattle.report_answers.specs.Options.{capabilities_of, flags_of}
-use Rattle.report_answers.specs.declared.options.FlowCheck.{FlowCheck}
-use Rattle.report_answers.specs.declared.options.FlowCheck.TheVariants.{Defined, Naga, Off}
+use Rattle.report_answers.specs.Options.{checks_uniformity, settings}
+use Rattle.report_answers.specs.Sections.{AreSections, EndsWithLines}
 use Rattle.report_answers.specs.declared.options.Options.{Options}
 use Rattle.report_answers.specs.declared.reports.Outcome.{Outcome}
 use Rattle.report_answers.specs.declared.reports.Outcome.TheVariants.{Accepted, Refused, NotModule}
 
--- as JSON the text is the report on the module, with the members that words ask for
-pub record IsJson (options : Options) (j : Json) (m : Module) (accepted : Bool) (text : List ℕ) : Type 0 where
-  pub members : List ℕ
-  pub are : AreMembers options j m members
-  pub answer : IsModuleAnswer m (settings_of (flags_of options) (capabilities_of options)) members accepted text
+-- as JSON the text is an object: the verdict on uniform flow, what was found of the module, and the sections that words ask for
+pub record IsJson (options : Options) (j : Json) (m : Module) (analyzed : Analyzed) (text : List ℕ) : Type 0 where
+  pub found : List Token
+  pub found_are : AreModuleMembers analyzed found
+  pub sections : List Token
+  pub sections_are : AreSections options j m analyzed sections
+  pub printed : text ≡ print (object (verdict_members (uniformity_of analyzed) ++ (found ++ sections))) ++ 10 ∷ []
 
--- for people it explains the verdict, and no clause says in which words; it ends with the resources that words ask for
-pub record IsPeople (options : Options) (j : Json) (m : Module) (accepted : Bool) (text : List ℕ) : Type 0 where
+-- whether control flow is refused
+abbrev pub is_divergent : Option Uniformity → Bool
+is_divergent (Some found) = is_some found.fault
+is_divergent None = false
+
+-- for people no clause says in which words it is; unless control flow is refused, it ends with the resources that words ask for
+pub record IsPeople (options : Options) (j : Json) (m : Module) (analyzed : Analyzed) (text : List ℕ) : Type 0 where
   pub utf8 : IsUtf8 text
-  pub verdict : IsVerdict m (settings_of (flags_of options) (capabilities_of options)) accepted
-  pub lines : EndsWithLines options j m text
+  pub lines : is_divergent (uniformity_of analyzed) ≡ false → EndsWithLines options j m analyzed text
 
-abbrev IsReportFor : Bool → Options → Json → Module → Bool → List ℕ → Type 0
-IsReportFor true options j m accepted text = IsJson options j m accepted text
-IsReportFor false options j m accepted text = IsPeople options j m accepted text
+abbrev pub IsPrintedFor : Bool → Options → Json → Module → Analyzed → List ℕ → Type 0
+IsPrintedFor true options j m analyzed text = IsJson options j m analyzed text
+IsPrintedFor false options j m analyzed text = IsPeople options j m analyzed text
 
--- the report on all but the uniform flow of `shader_uniformity`, of a module that the JSON stands for
-abbrev pub IsRest : Options → Json → Module → Bool → List ℕ → Type 0
-IsRest options j m accepted text = IsReportFor options.is_json options j m accepted text
-
--- the section on the flow of a module, as JSON or for people
-abbrev pub IsFlowSection : Bool → Module → Bool → List ℕ → Type 0
-IsFlowSection true m accepted text = IsJsonSection m accepted text
-IsFlowSection false m accepted text = IsUtf8 text × IsPeopleSection m accepted
-
--- with that section: as JSON it is the first member of the object; for people an accepted flow adds nothing, and a refused one is all
--- that is told
-abbrev pub HasFlow : (is_json accepted : Bool) → (section rest text : List ℕ) → Type 0
-HasFlow true accepted section rest text = text ≡ codes "{" ++ (section ++ (codes "," ++ drop 1 rest))
-HasFlow false true section rest text = text ≡ rest
-HasFlow false false section rest text = text ≡ section
-
--- flow is decided of a module that has no other fault
-pub record IsFlowReport (options : Options) (j : Json) (m : Module) (accepted : Bool) (text : List ℕ) : Type 0 where
-  pub rest : List ℕ
-  pub otherwise : IsRest options j m true rest
-  pub section : List ℕ
-  pub decided : IsFlowSection options.is_json m accepted section
-  pub told : HasFlow options.is_json accepted section rest text
-
-abbrev pub IsOutputBy : FlowCheck → Options → Json → Module → Bool → List ℕ → Type 0
-IsOutputBy Defined options j m true text = IsFlowReport options j m true text
-IsOutputBy Defined options j m false text = IsRest options j m false text ⊎ IsFlowReport options j m false text
-IsOutputBy Naga options j m accepted text = IsRest options j m accepted text
-IsOutputBy Off options j m accepted text = IsRest options j m accepted text
+-- the text is the report on a module for which the JSON stands: the verdict is by what is found of it, and that is printed
+pub record IsOutputOn (options : Options) (j : Json) (m : Module) (accepted : Bool) (text : List ℕ) : Type 0 where
+  pub analyzed : Analyzed
+  pub found : IsAnalyzed m (settings options) (checks_uniformity options) analyzed
+  pub verdict : accepted ≡ is_accepted analyzed
+  pub printed : IsPrintedFor options.is_json options j m analyzed text
 
 -- the text is the report on a module by the JSON that the input spells
 pub record IsOutput (options : Options) (input : List ℕ) (m : Module) (accepted : Bool) (text : List ℕ) : Type 0 where
   pub j : Json
   pub parses : document input ≡ Some j
-  pub told : IsOutputBy options.flow options j m accepted text
+  pub output : IsOutputOn options j m accepted text
 
 abbrev pub verdict : Bool → Outcome
 verdict true = Accepted
@@ -99,8 +84,8 @@ pub record IsDeep (options : Options) (m : Module) (text : List ℕ) : Type 0 wh
 
 -- the text is the report on a module for which the JSON stands
 abbrev pub IsReportOn : Options → Json → Module → Outcome → List ℕ → Type 0
-IsReportOn options j m Accepted text = IsOutputBy options.flow options j m true text
-IsReportOn options j m Refused text = IsOutputBy options.flow options j m false text
+IsReportOn options j m Accepted text = IsOutputOn options j m true text
+IsReportOn options j m Refused text = IsOutputOn options j m false text
 IsReportOn options j m NotModule text = IsDeep options m text
 
 -- the text is the report on a module for which the JSON of the input stands

@@ -3,16 +3,15 @@
 #![tactic(auto)]
 
 mod errors;
-mod flow;
 mod forms;
 pub mod laws;
-mod members;
 mod options;
 mod places;
 mod policies;
 mod progress;
 mod reading;
 mod reports;
+mod sections;
 
 pub use options::{BadWord, Flag, FlowCheck, Options};
 pub use progress::{Progress, Silent, Stage};

@@ -1,6 +1,7 @@
 //! The options of the command line.
 ghost use Rattle.std.specs.Prelude.{◌≡◌, Some};
-ghost use Rattle.report_answers.specs.Options.{bounds_of, capabilities_of, drawing_if, flag_of, flag_text, flags_of, indexing_both, is_set};
+ghost use Rattle.report_answers.specs.Options.{bounds_of, capabilities_of, checks_uniformity, drawing_if, flag_of, flag_text, flags_of};
+ghost use Rattle.report_answers.specs.Options.{indexing_both, is_set};
 ghost use Rattle.report_answers.specs.Options.{named_flag, nearer, nearest, options_from, shared, start, with, with_word};
 
 use crate::policies::policies_of;
@@ -350,6 +351,17 @@ impl Options {
             index += 1;
         }
         Ok(options)
+    }
+
+    /// Returns whether uniform control flow is decided by WGSL's rules.
+    pub fn checks_uniformity(self) -> bool
+        ensures { result ≡ checks_uniformity self }
+    {
+        match self.flow {
+            FlowCheck::Defined => true,
+            FlowCheck::Naga => false,
+            FlowCheck::Off => false,
+        }
     }
 
     /// Returns the validation flags for the analysis.

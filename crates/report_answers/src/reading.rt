@@ -1,27 +1,29 @@
-//! Reads a module from an input, and the optional sections that need the JSON. The input may then be dropped.
-ghost use Rattle.std.specs.Prelude.{◌≡◌, ℕ, IfOk, List, Some, false};
+//! Reads a module from an input. The input may then be dropped.
+ghost use Rattle.std.specs.Prelude.{◌≡◌, IfOk, Some, false};
 ghost use Rattle.std.specs.Str.{IsUtf8};
 ghost use Rattle.json.specs.Json.{document};
 ghost use Rattle.json.specs.Value.{value_view};
-ghost use Rattle.report_answers.specs.Members.{AreExtras};
 ghost use Rattle.report_answers.specs.Reading.{IsRead, IsReading};
+ghost use Rattle.shader_json_module.specs.Modules.{IsModule};
 ghost use Rattle.shader_json_module.specs.Parts.{AreModuleParts};
 ghost use Rattle.shader_json_reader.specs.Errors.{IsAccurate};
 
-use crate::members::Extras;
 use crate::options::Options;
 use crate::progress::{Progress, Stage};
 use crate::reports::Report;
+use crate::sections::bindings_of;
 use json::{Scratch, Value};
+use shader_interface::ResourceBinding;
 use shader_ir::Module;
 use shader_json_module::{ModuleParts, ReadError, parse_bytes, read_parts, read_value};
 use std::alloc::{AllocError, Global};
 
-/// A module that was read, with the optional sections of its report.
+/// A module that was read.
 #[derive(Drop)]
 pub struct ReadModule {
     pub module: Module,
-    pub extras: Extras,
+    /// The binding of each global variable, for a text report.
+    pub bindings: Vec<Option<ResourceBinding>>,
 }
 
 /// The result of reading an input.
@@ -29,12 +31,12 @@ pub struct ReadModule {
 pub enum Reading {
     /// A module.
     Module(ReadModule),
-    /// No module. This report has the error.
-    Refused(Report),
+    /// The report on the input: it is no module, or resources are requested, which are printed from its JSON.
+    Reported(Report),
 }
 
 impl Reading {
-    /// Returns the reading of a module, with the optional sections of its report, which are computed from its JSON.
+    /// Returns the module and the bindings of its globals, if resources aren't requested.
     fn of_module(
         alloc: Global,
         options: Options,
@@ -42,12 +44,12 @@ impl Reading {
         json: &Value<'_>,
         module: Module,
     ) -> Result<Reading, AllocError>
-        requires enough { (extras : List ℕ) → AreExtras options (value_view json.now) «module» extras
-            → IsRead options input.now «module» extras }
+        requires unasked { options.has_resources ≡ false }
+        requires read { IsRead input.now «module» }
         ensures { IfOk result (λ reading. IsReading options input.now reading) }
     {
-        match Extras::of(alloc, options, json, &module) {
-            Ok(extras) => Ok(Reading::Module(ReadModule { module, extras })),
+        match bindings_of(alloc, options, json, &module) {
+            Ok(bindings) => Ok(Reading::Module(ReadModule { module, bindings })),
             Err(error) => {
                 drop(module);
                 Err(error)
@@ -84,35 +86,70 @@ impl Reading {
         ensures { IfOk result (λ reading. IsReading options input.now reading) }
     {
         let report = Report::on_error(alloc, options, input, error)?;
-        Ok(Reading::Refused(report))
+        Ok(Reading::Reported(report))
     }
 
-    /// Reads the JSON value of an input.
-    #[tactic(auto, using(crate::proofs::ReadingLemmas::whole_read))]
-    fn of_value(
+    /// Reports on a module while its JSON is at hand, if resources are requested.
+    #[tactic(auto, using(crate::proofs::ReadingLemmas::whole_read, crate::proofs::ReportLemmas::module_told))]
+    fn of_value_read<P: Progress>(
         alloc: Global,
         options: Options,
         input: &[u8],
         root: &Value<'_>,
+        module: Module,
+        progress: &mut P,
+    ) -> Result<Reading, AllocError>
+        requires utf8 { IsUtf8 input.now }
+        requires parses { document input.now ≡ Some (value_view root.now) }
+        requires stands { IsModule (value_view root.now) «module» }
+        ensures { IfOk result (λ reading. IsReading options input.now reading) }
+    {
+        if !options.has_resources {
+            return Reading::of_module(alloc, options, input, root, module);
+        }
+        let bindings = bindings_of(alloc, options, root, &module)?;
+        let report = Report::on_module(
+            alloc,
+            options,
+            &module,
+            bindings.as_slice(),
+            Some(root),
+            progress,
+        )?;
+        Ok(Reading::Reported(report))
+    }
+
+    /// Reads the JSON value of an input.
+    fn of_value<P: Progress>(
+        alloc: Global,
+        options: Options,
+        input: &[u8],
+        root: &Value<'_>,
+        progress: &mut P,
     ) -> Result<Reading, AllocError>
         requires utf8 { IsUtf8 input.now }
         requires parses { document input.now ≡ Some (value_view root.now) }
         ensures { IfOk result (λ reading. IsReading options input.now reading) }
     {
         match read_value(alloc, root) {
-            Ok(module) => Reading::of_module(alloc, options, input, root, module),
+            Ok(module) => Reading::of_value_read(alloc, options, input, root, module, progress),
             Err(error) => Reading::of_error(alloc, options, input, &error),
         }
     }
 
     /// Reads an input as one JSON value.
-    fn of_whole(alloc: Global, options: Options, input: &[u8]) -> Result<Reading, AllocError>
+    fn of_whole<P: Progress>(
+        alloc: Global,
+        options: Options,
+        input: &[u8],
+        progress: &mut P,
+    ) -> Result<Reading, AllocError>
         ensures { IfOk result (λ reading. IsReading options input.now reading) }
     {
         let mut scratch = Scratch::new(alloc);
         match parse_bytes(alloc, input, &mut scratch) {
             Ok(root) => {
-                let reading = Reading::of_value(alloc, options, input, &root);
+                let reading = Reading::of_value(alloc, options, input, &root, progress);
                 drop(root);
                 reading
             }
@@ -120,7 +157,8 @@ impl Reading {
         }
     }
 
-    /// Reads a module from an input. It is read in parts unless the options ask for resources, which need the whole JSON.
+    /// Reads a module from an input. It is read in parts unless the options ask for resources: then the whole JSON is at hand, and the
+    /// report is made at once.
     ///
     /// # Errors
     ///
@@ -140,6 +178,6 @@ impl Reading {
                 return Reading::of_parts(alloc, options, input, parts);
             }
         }
-        Reading::of_whole(alloc, options, input)
+        Reading::of_whole(alloc, options, input, progress)
     }
 }

@@ -1,16 +1,19 @@
 //! The report on an input.
 
 use crate::errors::{error_object, error_text, nesting_object, nesting_text};
-use crate::flow::{Part, flow_at_last, flow_beforehand, with_flow};
-use crate::members::Extras;
-use crate::options::{FlowCheck, Options};
+use crate::options::Options;
 use crate::progress::{Progress, Stage};
-use crate::reading::{ReadModule, Reading};
+use crate::reading::Reading;
+use crate::sections::{asked_lines, write_sections};
+use json::{Value, Writer};
+use report_model::{Analyzed, analyze};
+use shader_interface::ResourceBinding;
 use shader_ir::Module;
 use shader_json_module::ReadError;
-use shader_report_json::answer_module;
+use shader_report_json::write_module;
 use shader_report_text::summarize;
 use shader_resolve::{MOST_LEVELS, nests_within};
+use shader_uniformity_text::{refusal_text, write_verdict};
 use std::alloc::{AllocError, Global};
 
 /// The verdict on an input.
@@ -36,17 +39,20 @@ pub struct Report {
 impl Report {
     ghost use Rattle.std.specs.Prelude.{◌≡◌, ℕ, IfOk, List, string_bytes};
     ghost use Rattle.json.specs.Json.{Json};
-    ghost use Rattle.report_answers.specs.Members.{AreExtras, AreMembers, EndsWithLines};
+    ghost use Rattle.report_model.specs.Analyzed.{IsAnalyzed};
+    ghost use Rattle.report_model.specs.Fitting.{Fits};
+    ghost use Rattle.report_answers.specs.Options.{checks_uniformity, settings};
     ghost use Rattle.report_answers.specs.Reading.{IsReading};
-    ghost use Rattle.report_answers.specs.Reports.{IsJson, IsNesting, IsPeople, IsRefusal, IsReport, IsReportOn, IsRest, verdict};
+    ghost use Rattle.report_answers.specs.Reports.{IsJson, IsNesting, IsPeople, IsRefusal, IsReport, IsReportOn, verdict};
+    ghost use Rattle.report_answers.specs.Sections.{EndsWithLines, IsRootIf};
+    ghost use Rattle.shader_interface.specs.Interface.{seen};
 
     /// Returns the report with this text and verdict on a module.
-    fn with_verdict(part: Part) -> Report
-        ensures text { result.text.items ≡ part.text.items }
-        ensures outcome { result.outcome ≡ verdict part.is_accepted }
+    fn with_verdict(text: Vec<u8>, is_accepted: bool) -> Report
+        ensures text { result.text.items ≡ text.items }
+        ensures outcome { result.outcome ≡ verdict is_accepted }
     {
-        let text = part.text;
-        if part.is_accepted {
+        if is_accepted {
             Report {
                 text,
                 outcome: Outcome::Accepted,
@@ -105,129 +111,118 @@ impl Report {
         Ok(Report::without_module(text))
     }
 
-    /// Returns the JSON report on a module, with these members at the end, and without the check of `shader_uniformity`.
-    #[tactic(auto, using(crate::proofs::ReportLemmas::json_told))]
-    fn json_of(
+    /// Returns the JSON report on a module.
+    fn json_on(
         alloc: Global,
         options: Options,
-        members: &str,
         module: &Module,
-    ) -> Result<Part, AllocError>
-        ensures { IfOk result (λ part. (j : Json) → AreMembers options j «module».now members.now →
-            IsJson options j «module».now part.is_accepted part.text.items) }
+        analyzed: &Analyzed,
+        root: Option<&Value<'_>>,
+    ) -> Result<Vec<u8>, AllocError>
+        requires are { IsAnalyzed «module».now (settings options) (checks_uniformity options) analyzed.now }
+        requires fits { Fits «module».now analyzed.now }
+        ensures { IfOk result (λ text. (j : Json) → IsRootIf options.has_resources j (seen root.entry) →
+            IsJson options j «module».now analyzed.now text.items) }
     {
-        let (flags, capabilities) = (options.flags(), options.capabilities());
-        let answer = answer_module(alloc, module, flags, capabilities, members)?;
-        Ok(Part {
-            text: answer.text.into_bytes(),
-            is_accepted: answer.is_accepted,
-        })
+        let mut writer = Writer::new(Vec::new(alloc));
+        writer.begin_object()?;
+        write_verdict(alloc, &mut writer, analyzed.uniformity())?;
+        write_module(alloc, &mut writer, module, analyzed)?;
+        write_sections(alloc, &mut writer, options, root, module, analyzed)?;
+        writer.end_object()?;
+        let mut text = writer.into_inner();
+        text.push(b'\n')?;
+        Ok(text)
     }
 
-    /// Returns the text report on a module, without the check of `shader_uniformity`.
-    fn text_of(
+    /// Returns the text report on a module of which control flow isn't refused.
+    fn lines_on(
         alloc: Global,
         options: Options,
-        extras: &Extras,
         module: &Module,
-    ) -> Result<Part, AllocError>
-        ensures { IfOk result (λ part. (j : Json) → EndsWithLines options j «module».now (string_bytes extras.now.text) →
-            IsPeople options j «module».now part.is_accepted part.text.items) }
+        analyzed: &Analyzed,
+        bindings: &[Option<ResourceBinding>],
+        root: Option<&Value<'_>>,
+    ) -> Result<String, AllocError>
+        requires are { IsAnalyzed «module».now (settings options) (checks_uniformity options) analyzed.now }
+        requires fits { Fits «module».now analyzed.now }
+        ensures { IfOk result (λ text. (j : Json) → IsRootIf options.has_resources j (seen root.entry) →
+            EndsWithLines options j «module».now analyzed.now (string_bytes text)) }
     {
-        let (flags, capabilities) = (options.flags(), options.capabilities());
         let is_drawn = options.drawing == Some(true);
-        let bindings = extras.bindings.as_slice();
-        let summary = summarize(alloc, module, bindings, flags, capabilities, is_drawn)?;
-        let is_accepted = summary.is_accepted;
-        let mut text = summary.text;
-        text.push_str(extras.text.as_str())?;
-        Ok(Part {
-            text: text.into_bytes(),
-            is_accepted,
-        })
+        let mut text = summarize(alloc, module, analyzed, bindings, is_drawn)?;
+        let lines = asked_lines(alloc, options, root, module, analyzed)?;
+        text.push_str(lines.as_str())?;
+        Ok(text)
     }
 
-    /// Returns the report on a module, without the check of `shader_uniformity`.
-    fn rest_on(
+    /// Returns the text report on a module.
+    fn text_on(
         alloc: Global,
         options: Options,
-        extras: &Extras,
         module: &Module,
-    ) -> Result<Part, AllocError>
-        ensures { IfOk result (λ part. (j : Json) → AreExtras options j «module».now (string_bytes extras.now.text) →
-            IsRest options j «module».now part.is_accepted part.text.items) }
+        analyzed: &Analyzed,
+        bindings: &[Option<ResourceBinding>],
+        root: Option<&Value<'_>>,
+    ) -> Result<String, AllocError>
+        requires are { IsAnalyzed «module».now (settings options) (checks_uniformity options) analyzed.now }
+        requires fits { Fits «module».now analyzed.now }
+        ensures { IfOk result (λ text. (j : Json) → IsRootIf options.has_resources j (seen root.entry) →
+            IsPeople options j «module».now analyzed.now (string_bytes text)) }
     {
-        if options.is_json {
-            Report::json_of(alloc, options, extras.text.as_str(), module)
-        } else {
-            Report::text_of(alloc, options, extras, module)
+        match analyzed.uniformity() {
+            Some(found) if !found.is_accepted() => refusal_text(alloc, module, found),
+            _ => Report::lines_on(alloc, options, module, analyzed, bindings, root),
         }
     }
 
-    /// Returns the report with the verdict of `shader_uniformity`, if the module has no other fault. That check comes first, since it takes
-    /// as much memory as the rest of the report.
-    #[tactic(auto, using(crate::proofs::ReportLemmas::refused_told, crate::proofs::ReportLemmas::flow_told))]
-    fn with_defined_flow(
+    /// Returns the report on a module that was analysed.
+    #[tactic(auto, using(crate::proofs::ReportLemmas::json_reported, crate::proofs::ReportLemmas::people_reported))]
+    fn on_analyzed(
         alloc: Global,
         options: Options,
-        extras: &Extras,
         module: &Module,
+        analyzed: &Analyzed,
+        bindings: &[Option<ResourceBinding>],
+        root: Option<&Value<'_>>,
     ) -> Result<Report, AllocError>
-        requires { options.flow ≡ FlowCheck.Defined }
-        ensures { IfOk result (λ report. (j : Json) → AreExtras options j «module».now (string_bytes extras.now.text) →
+        requires are { IsAnalyzed «module».now (settings options) (checks_uniformity options) analyzed.now }
+        requires fits { Fits «module».now analyzed.now }
+        ensures { IfOk result (λ report. (j : Json) → IsRootIf options.has_resources j (seen root.entry) →
             IsReportOn options j «module».now report.outcome report.text.items) }
     {
-        let early = flow_beforehand(alloc, options.is_json, module);
-        let rest = Report::rest_on(alloc, options, extras, module)?;
-        if rest.is_accepted {
-            let section = flow_at_last(alloc, options.is_json, module, early)?;
-            let part = with_flow(alloc, options.is_json, section, rest.text)?;
-            Ok(Report::with_verdict(part))
+        let text = if options.is_json {
+            Report::json_on(alloc, options, module, analyzed, root)?
         } else {
-            Ok(Report::with_verdict(rest))
-        }
+            Report::text_on(alloc, options, module, analyzed, bindings, root)?.into_bytes()
+        };
+        Ok(Report::with_verdict(text, analyzed.is_accepted()))
     }
 
-    /// Returns the report on a module, as JSON or as text, with the check of uniform flow that the options set.
-    #[tactic(auto, using(crate::proofs::ReportLemmas::naga_told, crate::proofs::ReportLemmas::off_told))]
-    fn on_module(
+    /// Returns the report on a module. Its JSON is needed if the options ask for resources.
+    ///
+    /// # Errors
+    ///
+    /// `AllocError` if an allocation fails.
+    pub fn on_module<P: Progress>(
         alloc: Global,
         options: Options,
-        extras: &Extras,
         module: &Module,
-    ) -> Result<Report, AllocError>
-        ensures { IfOk result (λ report. (j : Json) → AreExtras options j «module».now (string_bytes extras.now.text) →
-            IsReportOn options j «module».now report.outcome report.text.items) }
-    {
-        match options.flow {
-            FlowCheck::Defined => Report::with_defined_flow(alloc, options, extras, module),
-            FlowCheck::Naga => {
-                let rest = Report::rest_on(alloc, options, extras, module)?;
-                Ok(Report::with_verdict(rest))
-            }
-            FlowCheck::Off => {
-                let rest = Report::rest_on(alloc, options, extras, module)?;
-                Ok(Report::with_verdict(rest))
-            }
-        }
-    }
-
-    /// Returns the report on a module that was read.
-    fn on_read<P: Progress>(
-        alloc: Global,
-        options: Options,
-        read: &ReadModule,
+        bindings: &[Option<ResourceBinding>],
+        root: Option<&Value<'_>>,
         progress: &mut P,
     ) -> Result<Report, AllocError>
-        ensures { IfOk result (λ report. (j : Json) → AreExtras options j read.now.«module» (string_bytes read.now.extras.text) →
-            IsReportOn options j read.now.«module» report.outcome report.text.items) }
+        ensures { IfOk result (λ report. (j : Json) → IsRootIf options.has_resources j (seen root.entry) →
+            IsReportOn options j «module».now report.outcome report.text.items) }
     {
-        let module = &read.module;
         if !nests_within(module, MOST_LEVELS) {
             return Report::on_nesting(alloc, options);
         }
         progress.begins(Stage::Analysis);
-        Report::on_module(alloc, options, &read.extras, module)
+        let (flags, capabilities) = (options.flags(), options.capabilities());
+        let checks_uniformity = options.checks_uniformity();
+        let analyzed = analyze(alloc, module, flags, capabilities, checks_uniformity)?;
+        Report::on_analyzed(alloc, options, module, &analyzed, bindings, root)
     }
 
     /// Returns the report on an input that was read. The input itself isn't needed.
@@ -246,8 +241,11 @@ impl Report {
             IsReport options input report.outcome report.text.items) }
     {
         match reading {
-            Reading::Module(read) => Report::on_read(alloc, options, &read, progress),
-            Reading::Refused(report) => Ok(report),
+            Reading::Module(read) => {
+                let bindings = read.bindings.as_slice();
+                Report::on_module(alloc, options, &read.module, bindings, None, progress)
+            }
+            Reading::Reported(report) => Ok(report),
         }
     }
 

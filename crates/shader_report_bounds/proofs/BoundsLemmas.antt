@@ -6,14 +6,9 @@ use Rattle.std.proofs.lemmas.List.{length-append}
 use Rattle.std.proofs.lemmas.Option.{get_or_from_slice_get, same_Some, slice_get-get_or, slice_get_within}
 use Rattle.std.proofs.Math.ListN.{get_or-append}
 use Rattle.std.proofs.Math.Seq.{get_or-append_seam}
-use Rattle.shader_analysis_spec.specs.Faults.{Cause, IsAccepted, IsFirstFault, Settings, Site}
 use Rattle.shader_analysis_spec.specs.Program.{Function, Module}
 use Rattle.shader_bounds.specs.declared.policies.BoundsCheckPolicies.{BoundsCheckPolicies}
-use Rattle.shader_info.specs.declared.error.ExpressionError.TheVariants as expression
-use Rattle.shader_info.specs.declared.error.FunctionError.{FunctionError}
-use Rattle.shader_info.specs.declared.error.FunctionError.TheVariants as error
 use Rattle.shader_info.specs.declared.info.FunctionInfo.{FunctionInfo}
-use Rattle.shader_passes.specs.Causes.{IsNamed}
 use Rattle.shader_report_bounds.specs.Bounds.{AddsBounds, AreFirst, IsFunctionBounds}
 use Rattle.shader_report_bounds.specs.declared.function.FunctionBounds.{FunctionBounds}
 
@@ -54,20 +49,3 @@ module _ (m : Module) (policies : BoundsCheckPolicies) (functions : List Functio
           (subst (λ v. IsFunctionBounds m v info policies adds.bounds) same adds.are))
     ];
   })
-
--- a cause that is named and is no failure to allocate is one of the causes
-pub named_cause : (IsCause : Cause → Type 0) (failure : FunctionError) → IsNamed IsCause failure → (failure ≡ error.OutOfMemory → ⊥) →
-    (cause : Cause) × IsCause cause
-named_cause IsCause (error.Expression e (expression.Resolve reason)) named fault = (_, named)
-named_cause IsCause (error.Expression e (expression.MissingCapabilities wanted)) named fault = (_, named.2)
-named_cause IsCause (error.Expression e expression.ExpectedGlobalOrArgument) named fault = (_, named)
-named_cause IsCause (error.Expression e expression.BindingArrayElement) named fault = (_, named)
-named_cause IsCause (error.NonUniformControlFlow needs e disruptor) named fault = (_, named.1)
-named_cause IsCause (error.CountFull e) named fault = (_, named)
-named_cause IsCause error.OutOfMemory named fault = absurd (fault refl)
-
--- a module whose first fault is named isn't accepted
-pub not_accepted : (m : Module) (settings : Settings) (site : Site) (failure : FunctionError) →
-    IsNamed (IsFirstFault m settings site) failure → (failure ≡ error.OutOfMemory → ⊥) → IsAccepted m settings → ⊥
-not_accepted m settings site failure named fault accepted =
-    let found = named_cause (IsFirstFault m settings site) failure named fault in accepted site found.0 found.1.is_there

@@ -2,4 +2,4 @@ pub mod Accesses
 pub mod Bounds
 pub mod Laws
 pub mod Sizes
-pub mod Texts
+pub mod Tokens

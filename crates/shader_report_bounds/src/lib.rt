@@ -4,15 +4,14 @@
 
 mod accesses;
 mod function;
-mod json;
 pub mod laws;
 mod module_bounds;
 mod sizes;
 mod text;
+mod written;
 
 pub use accesses::{AccessCheck, AccessIndex, accesses_of};
 pub use function::{FunctionBounds, bounds_of};
-pub use json::BoundsJson;
 pub use module_bounds::{ModuleBounds, find_bounds};
 pub use sizes::first_unsized;
 pub use text::BoundsText;

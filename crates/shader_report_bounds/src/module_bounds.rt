@@ -1,21 +1,18 @@
 //! The checks that a back end makes for a module.
-ghost use Rattle.std.specs.Prelude.{◌≡◌, ◌≢◌, ◌↔◌, length, IfOk, IfSome, IsSome, IsTrue, OnOk};
-ghost use Rattle.shader_analysis_spec.specs.Faults.{IsAccepted};
+ghost use Rattle.std.specs.Prelude.{◌≡◌, length, IfOk, OnOk};
+ghost use Rattle.report_model.specs.Fitting.{HasInfos};
 ghost use Rattle.shader_bounds.specs.Lengths.{AreSizesKnown};
 ghost use Rattle.shader_bounds.specs.Typed.{IsFunctionOf};
-ghost use Rattle.shader_info.specs.declared.error.FunctionError.TheVariants.{OutOfMemory};
-ghost use Rattle.shader_passes.specs.Causes.{settings_of};
 ghost use Rattle.shader_resolve.specs.WellFormed.{IsWellFormed};
 ghost use Rattle.shader_report_bounds.specs.Bounds.{AddsBounds, AreBounds, AreExact, AreModuleBounds, entry_functions};
 
 use crate::function::{FunctionBounds, bounds_of};
 use crate::sizes::first_unsized;
-use shader_analysis::{ModuleInfo, analyze_module};
+use shader_analysis::ModuleInfo;
 use shader_arena::Handle;
 use shader_bounds::BoundsCheckPolicies;
-use shader_info::{Capabilities, FunctionError, FunctionInfo, ValidationFlags};
+use shader_info::FunctionInfo;
 use shader_ir::{Function, Module, mark};
-use shader_resolve::check_module;
 use std::alloc::{AllocError, Global};
 
 /// The checks that a back end makes for a module.
@@ -96,8 +93,7 @@ fn found_by(
     policies: BoundsCheckPolicies,
 ) -> Result<ModuleBounds, AllocError>
     requires well_formed { IsWellFormed «module».now }
-    requires functions { length infos.now.functions ≡ length «module».now.functions }
-    requires entry_points { length infos.now.entry_points ≡ length «module».now.entry_points }
+    requires fits { HasInfos «module».now infos.now }
     requires exact { AreExact «module».now infos.now }
     requires sizes { AreSizesKnown «module».now }
     ensures { IfOk result (AreModuleBounds «module».now policies) }
@@ -107,68 +103,7 @@ fn found_by(
     Ok(ModuleBounds::Found(functions, entry_points))
 }
 
-/// Returns the checks of an analysed module.
-fn bounds_by(
-    alloc: Global,
-    module: &Module,
-    infos: &ModuleInfo,
-    policies: BoundsCheckPolicies,
-) -> Result<ModuleBounds, AllocError>
-    requires well_formed { IsWellFormed «module».now }
-    requires functions { length infos.now.functions ≡ length «module».now.functions }
-    requires entry_points { length infos.now.entry_points ≡ length «module».now.entry_points }
-    requires exact { AreExact «module».now infos.now }
-    ensures { IfOk result (AreModuleBounds «module».now policies) }
-{
-    match first_unsized(module) {
-        Some(handle) => Ok(ModuleBounds::Unsized(handle)),
-        None => found_by(alloc, module, infos, policies),
-    }
-}
-
-/// Returns whether a refusal is a fault, i.e. not an allocation failure.
-fn is_fault(cause: &FunctionError) -> bool
-    ensures { IsTrue result → cause.now ≢ OutOfMemory }
-{
-    match cause {
-        FunctionError::Expression { .. } => true,
-        FunctionError::NonUniformControlFlow(..) => true,
-        FunctionError::CountFull(_) => true,
-        FunctionError::OutOfMemory => false,
-    }
-}
-
-/// Returns the checks of a well-formed module, if the analysis accepts it.
-#[tactic(auto, using(crate::proofs::BoundsLemmas::not_accepted))]
-fn analysed(
-    alloc: Global,
-    module: &Module,
-    flags: ValidationFlags,
-    capabilities: Capabilities,
-    policies: BoundsCheckPolicies,
-) -> Result<Option<ModuleBounds>, AllocError>
-    requires { IsWellFormed «module».now }
-    ensures accepted { IfOk result (λ found. IsSome found ↔ IsAccepted «module».now (settings_of flags capabilities)) }
-    ensures found { IfOk result (λ found. IfSome found (AreModuleBounds «module».now policies)) }
-{
-    match analyze_module(alloc, module, flags, capabilities) {
-        Ok(infos) => {
-            let bounds = bounds_by(alloc, module, &infos, policies)?;
-            Ok(Some(bounds))
-        }
-        Err(error) => {
-            if is_fault(&error.cause) {
-                Ok(None)
-            } else {
-                Err(AllocError)
-            }
-        }
-    }
-}
-
-/// Returns the checks that a back end makes for a module under the policies, if the module is well formed and the analysis accepts it.
-///
-/// `check_module` and the analysis recurse along nested blocks, so check `nests_within` first.
+/// Returns the checks that a back end makes for a module under the policies, by the infos of its functions.
 ///
 /// # Errors
 ///
@@ -176,19 +111,16 @@ fn analysed(
 pub fn find_bounds(
     alloc: Global,
     module: &Module,
-    flags: ValidationFlags,
-    capabilities: Capabilities,
+    infos: &ModuleInfo,
     policies: BoundsCheckPolicies,
-) -> Result<Option<ModuleBounds>, AllocError>
-    ensures accepted { IfOk result (λ found.
-        IsSome found ↔ (IsWellFormed «module».now × IsAccepted «module».now (settings_of flags capabilities))) }
-    ensures found { IfOk result (λ found. IfSome found (AreModuleBounds «module».now policies)) }
+) -> Result<ModuleBounds, AllocError>
+    requires well_formed { IsWellFormed «module».now }
+    requires fits { HasInfos «module».now infos.now }
+    requires exact { AreExact «module».now infos.now }
+    ensures { IfOk result (AreModuleBounds «module».now policies) }
 {
-    match check_module(module) {
-        Ok(()) => {
-            let found = analysed(alloc, module, flags, capabilities, policies)?;
-            Ok(found)
-        }
-        Err(_) => Ok(None),
+    match first_unsized(module) {
+        Some(handle) => Ok(ModuleBounds::Unsized(handle)),
+        None => found_by(alloc, module, infos, policies),
     }
 }

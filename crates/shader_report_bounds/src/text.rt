@@ -2,8 +2,8 @@
 
 use crate::accesses::{AccessCheck, AccessIndex};
 use crate::function::FunctionBounds;
-use crate::json::policy_name;
 use crate::module_bounds::ModuleBounds;
+use crate::written::policy_name;
 use shader_arena::Handle;
 use shader_bounds::IndexableLength;
 use shader_info::AnalysisLocation;

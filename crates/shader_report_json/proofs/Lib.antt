@@ -1,3 +1,2 @@
 mod PairLemmas
-mod SectionLemmas
 mod TakeLemmas

@@ -13,7 +13,7 @@ use Rattle.shader_info.specs.declared.info.GlobalOrArgument.{GlobalOrArgument}
 use Rattle.shader_info.specs.declared.info.GlobalOrArgument.TheVariants as resources
 use Rattle.shader_info.specs.declared.info.Sampling.{Sampling}
 use Rattle.shader_report_json.specs.Sorted.{AreSamplingsOf, resource_cmp, sampling_cmp}
-use Rattle.shader_info_json.specs.Infos.{resource_key}
+use Rattle.report_json.specs.Infos.{resource_key}
 
 -- ---- orders
 

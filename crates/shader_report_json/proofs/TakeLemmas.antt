@@ -1,19 +1,21 @@
 -- Lists collected item by item.
 use Rattle.std.proofs.Common.{◌≡◌, ◌∙◌, refl, sym, ap, subst, ℕ, ◌+◌, ◌≤◌, List, [], ◌∷◌, ◌++◌, Some, length, take, map, arith, codes, Bor}
 use Rattle.std.specs.Prelude.{slice_get}
-use Rattle.std.specs.List.{flat_map, join_by}
+use Rattle.std.specs.List.{flat_map}
 use Rattle.std.proofs.lemmas.List.{map-append, take_all, take_more}
 use Rattle.std.proofs.lemmas.List.Elements.{All-push}
 use Rattle.std.proofs.lemmas.List.Folds.{flat_map-map}
 use Rattle.std.proofs.lemmas.Option.{get_or_from_slice_get, slice_get_within}
 use Rattle.shader_info.specs.declared.info.FunctionInfo.{FunctionInfo}
 use Rattle.shader_ir.specs.declared.proc.type_resolution.TypeResolution.{TypeResolution}
-use Rattle.shader_report_json.specs.Answers.{AddsAnswer, AreAnswersOf, IsInfoText}
-use Rattle.shader_report_json.specs.Sorted.{IsFunctionAnswer}
-use Rattle.shader_info_json.specs.Functions.{answer_text}
-use Rattle.shader_info_json.specs.Types.{resolution_text}
-use Rattle.shader_info_json.specs.declared.functions.FunctionAnswer.{FunctionAnswer}
+use Rattle.json.specs.Token.{Token, key}
+use Rattle.report_json.specs.Functions.{answer_tokens}
+use Rattle.report_json.specs.Tokens.{array, object}
 use Rattle.shader_analysis.specs.Recorded.{Recorded}
+use Rattle.shader_report_json.specs.Answers.{AddsAnswer, AreAnswersOf, AreInfoTokens}
+use Rattle.shader_report_json.specs.Sorted.{IsFunctionAnswer}
+use Rattle.report_json.specs.Types.{resolution_tokens}
+use Rattle.report_json.specs.declared.functions.FunctionAnswer.{FunctionAnswer}
 
 pub one_taken : {X : Type 0} (xs : List X) (n : ℕ) (x : X) → slice_get xs n ≡ Some x → take (n + 1) xs ≡ take n xs ++ x ∷ []
 one_taken xs n x at =
@@ -42,37 +44,37 @@ pub all_reported : (infos : List FunctionInfo) (n : ℕ) (answers : List Functio
     → AreAnswersOf infos answers
 all_reported infos n answers counted = subst (λ v. AreAnswersOf v answers) (take_all n infos (omega (arith, counted)))
 
-pub joined_mapped : {X Y : Type 0} (f : Y → List ℕ) (g : X → Y) (separator : List ℕ) (xs : List X) →
-    join_by (λ x. f (g x)) separator xs ≡ join_by f separator (map g xs)
-joined_mapped f g separator [] = refl
-joined_mapped f g separator (x ∷ xs) = ap (λ v. f (g x) ++ v) (sym (flat_map-map (λ y. separator ++ f y) g xs))
+-- the tokens of types that are borrowed
+pub borrowed_tokens : (types : List (Bor TypeResolution)) (found : List TypeResolution) →
+    map (λ (ty : Bor TypeResolution). ty.now) types ≡ found →
+    flat_map (λ (ty : Bor TypeResolution). resolution_tokens ty.now) types ≡ flat_map resolution_tokens found
+borrowed_tokens types found are =
+    sym (flat_map-map resolution_tokens (λ (ty : Bor TypeResolution). ty.now) types) ∙ ap (flat_map resolution_tokens) are
 
 -- one more item, of a list that is pushed to
 pub one_pushed : {X Y : Type 0} (f : X → Y) (ys : List Y) (n : ℕ) (old new : List X) (x : X) → map f old ≡ take n ys
     → slice_get ys n ≡ Some (f x) → new ≡ old ++ x ∷ [] → map f new ≡ take (n + 1) ys
 one_pushed f ys n old new x so at pushed = ap (map f) pushed ∙ one_mapped f ys n old x so at
 
--- the text of the reports and types
-abbrev pub printed : List FunctionAnswer → List FunctionAnswer → List (Bor TypeResolution) → List ℕ
-printed functions entry_points types =
-    codes "\"info\":{\"functions\":[" ++ (join_by answer_text (codes ",") functions
-    ++ (codes "],\"entry_points\":[" ++ (join_by answer_text (codes ",") entry_points
-    ++ (codes "],\"const_expression_types\":[" ++ (join_by (λ (ty : Bor TypeResolution). resolution_text ty.now) (codes ",") types
-    ++ codes "]}")))))
+-- the tokens that are written of the functions, the entry points and the types
+abbrev pub infos_tokens : List FunctionAnswer → List FunctionAnswer → List (Bor TypeResolution) → List Token
+infos_tokens functions entry_points types =
+    key (codes "info") ∷ object (key (codes "functions") ∷ (array (flat_map answer_tokens functions)
+    ++ key (codes "entry_points") ∷ (array (flat_map answer_tokens entry_points)
+    ++ key (codes "const_expression_types") ∷ array (flat_map (λ (ty : Bor TypeResolution). resolution_tokens ty.now) types))))
 
-pub info_is : (infos : Recorded) (functions entry_points : List FunctionAnswer) (types : List (Bor TypeResolution)) (text : List ℕ)
-    → AreAnswersOf infos.functions functions → AreAnswersOf infos.entry_points entry_points
-    → map (λ (ty : Bor TypeResolution). ty.now) types ≡ infos.global_expressions → text ≡ printed functions entry_points types
-    → IsInfoText infos text
-info_is infos functions entry_points types text first second third reported = record {
+pub infos_written : (infos : Recorded) (functions entry_points : List FunctionAnswer) (types : List (Bor TypeResolution)) →
+    AreAnswersOf infos.functions functions → AreAnswersOf infos.entry_points entry_points →
+    map (λ (ty : Bor TypeResolution). ty.now) types ≡ infos.global_expressions →
+    AreInfoTokens infos (infos_tokens functions entry_points types)
+infos_written infos functions entry_points types first second third = record {
   functions = functions;
   entry_points = entry_points;
   functions_are = first;
   entry_points_are = second;
-  reported = reported
-      ∙ ap (λ (v : List ℕ). codes "\"info\":{\"functions\":[" ++ (join_by answer_text (codes ",") functions
-      ++ (codes "],\"entry_points\":[" ++ (join_by answer_text (codes ",") entry_points
-      ++ (codes "],\"const_expression_types\":[" ++ (v ++ codes "]}"))))))
-      (joined_mapped resolution_text (λ (ty : Bor TypeResolution). ty.now) (codes ",") types
-      ∙ ap (λ (ts : List TypeResolution). join_by resolution_text (codes ",") ts) third);
+  written = ap (λ (tokens : List Token).
+      key (codes "info") ∷ object (key (codes "functions") ∷ (array (flat_map answer_tokens functions)
+      ++ key (codes "entry_points") ∷ (array (flat_map answer_tokens entry_points)
+      ++ key (codes "const_expression_types") ∷ array tokens))))
+      (borrowed_tokens types infos.global_expressions third);
 }

@@ -1,33 +1,24 @@
--- The report on a module as JSON.
-use Rattle.std.specs.Prelude.{◌≡◌, ◌≢◌, ◌⊎◌, ◌∷◌, ◌++◌, ◌&&◌, ℕ, All, Bool, true, false, List, [], Some, codes, length, map}
-use Rattle.std.specs.List.{join_by}
-use Rattle.shader_analysis_spec.specs.Exact.{IsExactModule}
-use Rattle.shader_analysis_spec.specs.Faults.{IsAccepted, IsFirstFault, Settings}
-use Rattle.shader_analysis_spec.specs.Program.{Module}
-use Rattle.shader_info.specs.declared.error.AnalysisError.{AnalysisError}
-use Rattle.shader_info.specs.declared.error.FunctionError.TheVariants.{OutOfMemory}
-use Rattle.shader_info.specs.declared.info.FunctionInfo.{FunctionInfo}
-use Rattle.shader_ir.specs.Layout.{AreFaultless, fault_at, layouts_of}
-use Rattle.shader_ir.specs.declared.«module».GlobalCtx.{GlobalCtx}
-use Rattle.shader_ir.specs.declared.proc.layouter.LayoutError.{LayoutError}
-use Rattle.shader_ir.specs.declared.proc.type_resolution.TypeResolution.{TypeResolution}
-use Rattle.shader_resolve.specs.ContextLaws.{IsCtxOf}
-use Rattle.shader_resolve.specs.WellFormed.{IsWellFormed, ModuleHasFault}
-use Rattle.shader_resolve.specs.declared.well_formed.ModuleFault.{ModuleFault}
-use Rattle.shader_passes.specs.Causes.{IsNamed}
-use Rattle.shader_passes.specs.InfoOf.{infos_of}
-use Rattle.shader_analysis.specs.Fitting.{AllUnrestricted}
-use Rattle.shader_analysis.specs.Recording.{RecordsAllPairs}
-use Rattle.shader_analysis.specs.Processed.{site_of}
+-- The report on a module as members of a JSON object.
+use Rattle.std.specs.Prelude.{◌≡◌, ◌∷◌, ◌++◌, All, List, [], Option, Some, None, Result, Ok, Err, codes, flat_map, map}
+use Rattle.json.specs.Token.{Token, key}
+use Rattle.report_json.specs.declared.functions.FunctionAnswer.{FunctionAnswer}
+use Rattle.report_json.specs.Functions.{answer_tokens}
+use Rattle.report_json.specs.Layouts.{layout_error_tokens, layout_tokens}
+use Rattle.report_json.specs.Refusals.{fault_name, refusal_tokens}
+use Rattle.report_json.specs.Tokens.{array, object, text_tokens}
+use Rattle.report_json.specs.Types.{resolution_tokens}
+use Rattle.report_model.specs.declared.analyzed.Analysis.{Analysis}
+use Rattle.report_model.specs.declared.analyzed.Analyzed.{Analyzed}
+use Rattle.report_model.specs.declared.analyzed.Analyzed.TheVariants.{Fault, WellFormed}
 use Rattle.shader_analysis.specs.Recorded.{Recorded}
-use Rattle.shader_info_json.specs.declared.functions.FunctionAnswer.{FunctionAnswer}
-use Rattle.shader_info_json.specs.Functions.{answer_text}
-use Rattle.shader_info_json.specs.Layouts.{layout_error_text, layout_text}
-use Rattle.shader_info_json.specs.Refusals.{fault_name, refusal_text}
+use Rattle.shader_info.specs.declared.error.AnalysisError.{AnalysisError}
+use Rattle.shader_info.specs.declared.info.FunctionInfo.{FunctionInfo}
+use Rattle.shader_ir.specs.declared.proc.layouter.LayoutError.{LayoutError}
+use Rattle.shader_ir.specs.declared.proc.layouter.TypeLayout.{TypeLayout}
+use Rattle.shader_ir.specs.declared.proc.type_resolution.TypeResolution.{TypeResolution}
 use Rattle.shader_report_json.specs.Sorted.{IsFunctionAnswer}
-use Rattle.shader_info_json.specs.Types.{resolution_text}
 
--- ---- the section on an accepted module
+-- ---- the results of the analysis
 
 -- the report on one info is added
 pub record AddsAnswer (info : FunctionInfo) (old new : List FunctionAnswer) : Type 0 where
@@ -41,81 +32,37 @@ pub record AreAnswersOf (infos : List FunctionInfo) (answers : List FunctionAnsw
   pub of : map (λ (answer : FunctionAnswer). answer.info.now) answers ≡ infos
   pub each : All IsFunctionAnswer answers
 
-abbrev pub info_text : List FunctionAnswer → List FunctionAnswer → List TypeResolution → List ℕ
-info_text functions entry_points types =
-    codes "\"info\":{\"functions\":[" ++ (join_by answer_text (codes ",") functions
-    ++ (codes "],\"entry_points\":[" ++ (join_by answer_text (codes ",") entry_points
-    ++ (codes "],\"const_expression_types\":[" ++ (join_by resolution_text (codes ",") types ++ codes "]}")))))
+abbrev pub info_tokens : List FunctionAnswer → List FunctionAnswer → List TypeResolution → List Token
+info_tokens functions entry_points types =
+    key (codes "info") ∷ object (key (codes "functions") ∷ (array (flat_map answer_tokens functions)
+    ++ key (codes "entry_points") ∷ (array (flat_map answer_tokens entry_points)
+    ++ key (codes "const_expression_types") ∷ array (flat_map resolution_tokens types))))
 
-pub record IsInfoText (infos : Recorded) (text : List ℕ) : Type 0 where
+pub record AreInfoTokens (infos : Recorded) (tokens : List Token) : Type 0 where
   pub functions : List FunctionAnswer
   pub entry_points : List FunctionAnswer
   pub functions_are : AreAnswersOf infos.functions functions
   pub entry_points_are : AreAnswersOf infos.entry_points entry_points
-  pub reported : text ≡ info_text functions entry_points infos.global_expressions
+  pub written : tokens ≡ info_tokens functions entry_points infos.global_expressions
+
+-- the results of the analysis, or the fault that it found
+abbrev pub AreInfoMembers : Result Recorded AnalysisError → List Token → Type 0
+AreInfoMembers (Ok infos) tokens = AreInfoTokens infos tokens
+AreInfoMembers (Err error) tokens = tokens ≡ key (codes "refused") ∷ refusal_tokens error
 
 -- ---- the report on a module
 
-module _ (m : Module) where
-  -- all types have a layout
-  pub record IsLayoutsText (text : List ℕ) : Type 0 where
-    pub ctx : GlobalCtx
-    pub of : IsCtxOf m ctx
-    pub faultless : AreFaultless ctx 0 (length m.types)
-    pub reported : text ≡ codes "\"layouts\":[" ++ (join_by layout_text (codes ",") (layouts_of ctx) ++ codes "]")
+-- the layouts of all types, or the first type without one
+abbrev pub layouts_members : List TypeLayout → Option LayoutError → List Token
+layouts_members layouts None = key (codes "layouts") ∷ array (flat_map layout_tokens layouts)
+layouts_members layouts (Some error) = key (codes "layout_error") ∷ layout_error_tokens error
 
-  -- the first type without a layout, with the reason
-  pub record IsLayoutRefusal (text : List ℕ) : Type 0 where
-    pub ctx : GlobalCtx
-    pub of : IsCtxOf m ctx
-    pub error : LayoutError
-    pub before : AreFaultless ctx 0 error.ty
-    pub fault : fault_at ctx error.ty ≡ Some (Some error.inner)
-    pub reported : text ≡ codes "\"layout_error\":" ++ layout_error_text error
+-- the layouts and the results of the analysis
+pub record AreAnalysisMembers (analysis : Analysis) (tokens : List Token) : Type 0 where
+  pub info : List Token
+  pub info_are : AreInfoMembers analysis.info info
+  pub written : tokens ≡ layouts_members analysis.layouts analysis.layout_error ++ info
 
-  abbrev pub IsLayoutSection : Bool → List ℕ → Type 0
-  IsLayoutSection true text = IsLayoutsText text
-  IsLayoutSection false text = IsLayoutRefusal text
-
-  -- the module has no fault, and the report has exactly the interprocedural results
-  pub record IsInfoSection (settings : Settings) (text : List ℕ) : Type 0 where
-    pub infos : Recorded
-    pub exact : IsExactModule m infos.global_expressions (infos_of infos.functions) (infos_of infos.entry_points)
-    pub pairs : RecordsAllPairs m infos
-    pub unrestricted : AllUnrestricted infos
-    pub accepted : IsAccepted m settings
-    pub reported : IsInfoText infos text
-
-  -- a fault of the first faulty location; an allocation failure is none
-  pub record IsRefusalSection (settings : Settings) (text : List ℕ) : Type 0 where
-    pub refusal : AnalysisError
-    pub first : IsNamed (IsFirstFault m settings (site_of refusal.place)) refusal.cause
-    pub fault : refusal.cause ≢ OutOfMemory
-    pub reported : text ≡ codes "\"refused\":" ++ refusal_text refusal
-
-  abbrev pub IsAnalysisSection : Settings → Bool → List ℕ → Type 0
-  IsAnalysisSection settings true text = IsInfoSection settings text
-  IsAnalysisSection settings false text = IsRefusalSection settings text
-
-  -- the module isn't well formed, and the report has a violation
-  pub record IsFaulty (accepted : Bool) (text : List ℕ) : Type 0 where
-    pub fault : ModuleFault
-    pub is_there : ModuleHasFault m fault
-    pub refused : accepted ≡ false
-    pub reported : text ≡ codes "{\"fault\":\"" ++ (fault_name fault ++ codes "\"}\n")
-
-  -- the module is well formed, and the report has its layouts, the results of the analysis and the further members; it is accepted if both
-  -- sections pass
-  pub record IsAnalysed (settings : Settings) (members : List ℕ) (accepted : Bool) (text : List ℕ) : Type 0 where
-    pub well_formed : IsWellFormed m
-    pub laid : Bool
-    pub layouts : List ℕ
-    pub layouts_are : IsLayoutSection laid layouts
-    pub found : Bool
-    pub analysis : List ℕ
-    pub analysis_is : IsAnalysisSection settings found analysis
-    pub passes : accepted ≡ laid && found
-    pub reported : text ≡ codes "{" ++ (layouts ++ (codes "," ++ (analysis ++ (members ++ codes "}\n"))))
-
-  abbrev pub IsModuleAnswer : Settings → List ℕ → Bool → List ℕ → Type 0
-  IsModuleAnswer settings members accepted text = IsFaulty accepted text ⊎ IsAnalysed settings members accepted text
+abbrev pub AreModuleMembers : Analyzed → List Token → Type 0
+AreModuleMembers (Fault found) tokens = tokens ≡ key (codes "fault") ∷ text_tokens (fault_name found.fault)
+AreModuleMembers (WellFormed analysis) tokens = AreAnalysisMembers analysis tokens

@@ -6,8 +6,8 @@ use Rattle.std.specs.declared.cmp.Ordering.{Ordering}
 use Rattle.shader_info.specs.declared.info.FunctionInfo.{FunctionInfo}
 use Rattle.shader_info.specs.declared.info.GlobalOrArgument.{GlobalOrArgument}
 use Rattle.shader_info.specs.Recorded.{ArePairsOf}
-use Rattle.shader_info_json.specs.declared.functions.FunctionAnswer.{FunctionAnswer}
-use Rattle.shader_info_json.specs.Infos.{resource_key}
+use Rattle.report_json.specs.declared.functions.FunctionAnswer.{FunctionAnswer}
+use Rattle.report_json.specs.Infos.{resource_key}
 
 -- globals come before arguments
 abbrev pub resource_cmp : Bool × ℕ → Bool × ℕ → Ordering

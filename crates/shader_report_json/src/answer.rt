@@ -1,42 +1,21 @@
-//! The report on a module as JSON.
-ghost use Rattle.std.specs.Prelude.{◌≡◌, ◌≢◌, ◌++◌, [], true, false, IfOk, OnOk, codes, length, map, string_bytes};
-ghost use Rattle.std.specs.List.{join_by};
-ghost use Rattle.shader_report_json.specs.Answers.{AddsAnswer, AreAnswersOf, IsAnalysed, IsAnalysisSection, IsInfoText};
-ghost use Rattle.shader_report_json.specs.Answers.{IsLayoutSection, IsModuleAnswer};
-ghost use Rattle.shader_info_json.specs.Layouts.{layout_error_text, layout_text};
-ghost use Rattle.shader_info_json.specs.Refusals.{fault_name, refusal_text};
-ghost use Rattle.shader_info.specs.declared.error.FunctionError.TheVariants.{OutOfMemory};
-ghost use Rattle.shader_resolve.specs.WellFormed.{IsWellFormed};
-ghost use Rattle.shader_passes.specs.Causes.{settings_of};
+//! The report on a module as members of a JSON object.
+ghost use Rattle.std.specs.Prelude.{◌≡◌, [], List, IfOk, None, OnOk, length, map};
+ghost use Rattle.json.specs.Token.{Token};
+ghost use Rattle.report_json.specs.Tokens.{Adds};
+ghost use Rattle.report_model.specs.Fitting.{Fits, FitsAnalysis, FitsInfo, FitsLayouts, HasInfos};
+ghost use Rattle.shader_report_json.specs.Answers.{AddsAnswer, AreAnalysisMembers, AreAnswersOf, AreInfoMembers, AreInfoTokens};
+ghost use Rattle.shader_report_json.specs.Answers.{AreModuleMembers, layouts_members};
 
 use crate::sorted::function_answer;
-use shader_analysis::{ModuleInfo, analyze_module, is_fault};
+use json::Writer;
+use report_json::{FunctionAnswer, Member, WriteMembers, write_object};
+use report_model::{Analysis, Analyzed};
+use shader_analysis::ModuleInfo;
 use shader_arena::Handle;
-use shader_info::{AnalysisError, Capabilities, FunctionInfo, ValidationFlags};
-use shader_info_json::{
-    FunctionAnswer, FunctionsText, LayoutErrorText, LayoutsText, RefusalText, ResolutionsText,
-    fault_name,
-};
-use shader_ir::proc::{LayoutError, Layouter, TypeLayout, TypeResolution, UpdateError};
+use shader_info::{AnalysisError, FunctionInfo};
+use shader_ir::proc::{LayoutError, Layouter, TypeLayout, TypeResolution};
 use shader_ir::{Module, mark};
-use shader_resolve::{ModuleFault, check_module};
 use std::alloc::{AllocError, Global};
-
-/// The report on a module.
-#[derive(Drop)]
-pub struct Answer {
-    /// One line of JSON.
-    pub text: String,
-    /// True if the module has no fault and each type has a layout.
-    pub is_accepted: bool,
-}
-
-/// A section of the report, with whether it reports no error.
-#[derive(Drop)]
-struct Section {
-    text: String,
-    passes: bool,
-}
 
 /// Adds the report on a function.
 fn add_answer<'a>(
@@ -103,66 +82,43 @@ fn types_of<'a>(
     Ok(types)
 }
 
-/// Returns the analysis results for a module as text.
-fn info_text(alloc: Global, module: &Module, infos: &ModuleInfo) -> Result<String, AllocError>
-    requires functions { length infos.now.functions ≡ length «module».now.functions }
-    requires entry_points { length infos.now.entry_points ≡ length «module».now.entry_points }
-    requires types { length infos.now.global_expressions ≡ length «module».now.global_expressions }
-    ensures { IfOk result (λ text. IsInfoText infos.now (string_bytes text)) }
+/// Writes the results of the analysis.
+fn write_infos(
+    alloc: Global,
+    writer: &mut Writer,
+    module: &Module,
+    infos: &ModuleInfo,
+) -> Result<(), AllocError>
+    requires { HasInfos «module».now infos.now }
+    ensures { OnOk result ((tokens : List Token) × AreInfoTokens infos.now tokens × Adds writer.old writer.new tokens) }
 {
+    writer.key("info")?;
     let mut functions = Vec::new(alloc);
     add_functions(alloc, module, infos, &mut functions)?;
     let mut entry_points = Vec::new(alloc);
     add_entry_points(alloc, module, infos, &mut entry_points)?;
     let types = types_of(alloc, module, infos)?;
-    format!(in alloc;
-        "\"info\":{{\"functions\":[{}],\"entry_points\":[{}],\"const_expression_types\":[{}]}}",
-        FunctionsText(functions.as_slice()),
-        FunctionsText(entry_points.as_slice()),
-        ResolutionsText(types.as_slice())
-    )
+    let members = (
+        Member("functions", &functions),
+        Member("entry_points", &entry_points),
+        Member("const_expression_types", &types),
+    );
+    write_object(alloc, writer, &members)
 }
 
-/// Returns the section on an accepted module.
-fn info_section(alloc: Global, module: &Module, infos: &ModuleInfo) -> Result<Section, AllocError>
-    requires functions { length infos.now.functions ≡ length «module».now.functions }
-    requires entry_points { length infos.now.entry_points ≡ length «module».now.entry_points }
-    requires types { length infos.now.global_expressions ≡ length «module».now.global_expressions }
-    ensures { IfOk result (λ section. (section.passes ≡ true) × IsInfoText infos.now (string_bytes section.text)) }
-{
-    let text = info_text(alloc, module, infos)?;
-    Ok(Section { text, passes: true })
-}
-
-/// Returns the section on a refusal.
-fn refusal_section(alloc: Global, error: &AnalysisError) -> Result<Section, AllocError>
-    ensures { IfOk result (λ section. (section.passes ≡ false) × (error.now.cause ≢ OutOfMemory)
-        × (string_bytes section.text ≡ codes "\"refused\":" ++ refusal_text error.now)) }
-{
-    if !is_fault(&error.cause) {
-        return Err(AllocError);
-    }
-    let text = format!(in alloc; "\"refused\":{}", RefusalText(error))?;
-    Ok(Section {
-        text,
-        passes: false,
-    })
-}
-
-/// Analyses a well-formed module and returns the section on it.
-fn analysis_section(
+/// Writes the results of the analysis, or the fault that it found.
+fn write_info(
     alloc: Global,
+    writer: &mut Writer,
     module: &Module,
-    flags: ValidationFlags,
-    capabilities: Capabilities,
-) -> Result<Section, AllocError>
-    requires { IsWellFormed «module».now }
-    ensures { IfOk result
-        (λ section. IsAnalysisSection «module».now (settings_of flags capabilities) section.passes (string_bytes section.text)) }
+    info: &Result<ModuleInfo, AnalysisError>,
+) -> Result<(), AllocError>
+    requires { FitsInfo «module».now info.now }
+    ensures { OnOk result ((tokens : List Token) × AreInfoMembers info.now tokens × Adds writer.old writer.new tokens) }
 {
-    match analyze_module(alloc, module, flags, capabilities) {
-        Ok(infos) => info_section(alloc, module, &infos),
-        Err(error) => refusal_section(alloc, &error),
+    match info {
+        Ok(infos) => write_infos(alloc, writer, module, infos),
+        Err(error) => Member("refused", error).write_members(alloc, writer),
     }
 }
 
@@ -183,111 +139,74 @@ fn layouts_in(
     Ok(layouts)
 }
 
-/// Returns the section on the layouts.
-fn layouts_section(
+/// Writes the layouts of all types.
+fn write_all_layouts(
     alloc: Global,
+    writer: &mut Writer,
     module: &Module,
     layouter: &Layouter,
-) -> Result<Section, AllocError>
+) -> Result<(), AllocError>
     requires { length layouter.now ≡ length «module».now.types }
-    ensures { IfOk result (λ section. (section.passes ≡ true)
-        × (string_bytes section.text ≡ codes "\"layouts\":[" ++ (join_by layout_text (codes ",") layouter.now ++ codes "]"))) }
+    ensures { OnOk result (Adds writer.old writer.new (layouts_members layouter.now None)) }
 {
     let layouts = layouts_in(alloc, module, layouter)?;
-    let text = format!(in alloc; "\"layouts\":[{}]", LayoutsText(layouts.as_slice()))?;
-    Ok(Section { text, passes: true })
+    Member("layouts", &layouts).write_members(alloc, writer)
 }
 
-/// Returns the section on a type without a layout.
-fn layout_error_section(alloc: Global, error: LayoutError) -> Result<Section, AllocError>
-    ensures { IfOk result (λ section. (section.passes ≡ false)
-        × (string_bytes section.text ≡ codes "\"layout_error\":" ++ layout_error_text error)) }
+/// Writes the layouts, or the first type that has none.
+fn write_layouts(
+    alloc: Global,
+    writer: &mut Writer,
+    module: &Module,
+    layouter: &Layouter,
+    error: Option<LayoutError>,
+) -> Result<(), AllocError>
+    requires { FitsLayouts «module».now layouter.now error }
+    ensures { OnOk result (Adds writer.old writer.new (layouts_members layouter.now error)) }
 {
-    let text = format!(in alloc; "\"layout_error\":{}", LayoutErrorText(error))?;
-    Ok(Section {
-        text,
-        passes: false,
-    })
-}
-
-/// Computes the layouts of a well-formed module's types and returns the section on them.
-fn layout_section(alloc: Global, module: &Module) -> Result<Section, AllocError>
-    requires { IsWellFormed «module».now }
-    ensures { IfOk result (λ section. IsLayoutSection «module».now section.passes (string_bytes section.text)) }
-{
-    let ctx = module.to_ctx();
-    let mut layouter = Layouter::new(alloc);
-    match layouter.update(ctx) {
-        Ok(()) => layouts_section(alloc, module, &layouter),
-        Err(UpdateError::Layout(error)) => layout_error_section(alloc, error),
-        Err(UpdateError::OutOfMemory) => Err(AllocError),
+    match error {
+        None => write_all_layouts(alloc, writer, module, layouter),
+        Some(error) => Member("layout_error", &error).write_members(alloc, writer),
     }
 }
 
-/// Returns the line with a section between its front and further members. The section may be long, so it isn't copied.
-fn around(front: &str, section: String, members: &str) -> Result<String, AllocError>
-    ensures { IfOk result (λ text. string_bytes text ≡ front.now ++ (string_bytes section ++ (members.now ++ codes "}\n"))) }
-{
-    let mut text = section;
-    text.insert_str(0, front)?;
-    text.push_str(members)?;
-    text.push_str("}\n")?;
-    Ok(text)
-}
-
-/// Returns the report on a well-formed module, with further members.
-fn analysed(
+/// Writes what was found of a well-formed module.
+fn write_analysis(
     alloc: Global,
+    writer: &mut Writer,
     module: &Module,
-    flags: ValidationFlags,
-    capabilities: Capabilities,
-    members: &str,
-) -> Result<Answer, AllocError>
-    requires { IsWellFormed «module».now }
-    ensures { IfOk result (λ answer.
-        IsAnalysed «module».now (settings_of flags capabilities) members.now answer.is_accepted (string_bytes answer.text)) }
+    analysis: &Analysis,
+) -> Result<(), AllocError>
+    requires { FitsAnalysis «module».now analysis.now }
+    ensures { OnOk result ((tokens : List Token) × AreAnalysisMembers analysis.now tokens × Adds writer.old writer.new tokens) }
 {
-    let layouts = layout_section(alloc, module)?;
-    let analysis = analysis_section(alloc, module, flags, capabilities)?;
-    let is_accepted = layouts.passes && analysis.passes;
-    let front = format!(in alloc; "{{{},", layouts.text)?;
-    let text = around(front.as_str(), analysis.text, members)?;
-    Ok(Answer { text, is_accepted })
+    write_layouts(
+        alloc,
+        writer,
+        module,
+        &analysis.layouts,
+        analysis.layout_error,
+    )?;
+    write_info(alloc, writer, module, &analysis.info)
 }
 
-/// Returns the report on a module that isn't well formed.
-fn faulty(alloc: Global, fault: ModuleFault) -> Result<Answer, AllocError>
-    ensures { IfOk result (λ answer. (answer.is_accepted ≡ false)
-        × (string_bytes answer.text ≡ codes "{\"fault\":\"" ++ (fault_name fault ++ codes "\"}\n"))) }
-{
-    let text = format!(in alloc; "{{\"fault\":\"{}\"}}\n", fault_name(fault))?;
-    Ok(Answer {
-        text,
-        is_accepted: false,
-    })
-}
-
-/// Reports on a module: a violation of well-formedness, or else the layouts of its types and the results of the analysis.
-///
-/// The members, each after a comma, are added to the object for a well-formed module; there may be none.
-///
-/// `check_module` and the analysis recurse along nested blocks, so check `nests_within` first.
+/// Writes what was found of a module as members of a JSON object: a violation of well-formedness, or else the layouts of its types and the
+/// results of the analysis.
 ///
 /// # Errors
 ///
 /// `AllocError` if an allocation fails.
-pub fn answer_module(
+pub fn write_module(
     alloc: Global,
+    writer: &mut Writer,
     module: &Module,
-    flags: ValidationFlags,
-    capabilities: Capabilities,
-    members: &str,
-) -> Result<Answer, AllocError>
-    ensures { IfOk result (λ answer.
-        IsModuleAnswer «module».now (settings_of flags capabilities) members.now answer.is_accepted (string_bytes answer.text)) }
+    analyzed: &Analyzed,
+) -> Result<(), AllocError>
+    requires { Fits «module».now analyzed.now }
+    ensures { OnOk result ((tokens : List Token) × AreModuleMembers analyzed.now tokens × Adds writer.old writer.new tokens) }
 {
-    match check_module(module) {
-        Ok(()) => analysed(alloc, module, flags, capabilities, members),
-        Err(fault) => faulty(alloc, fault),
+    match analyzed {
+        Analyzed::Fault(found) => Member("fault", &found.fault).write_members(alloc, writer),
+        Analyzed::WellFormed(analysis) => write_analysis(alloc, writer, module, analysis),
     }
 }

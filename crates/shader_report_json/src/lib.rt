@@ -4,4 +4,4 @@
 mod answer;
 mod sorted;
 
-pub use answer::{Answer, answer_module};
+pub use answer::write_module;

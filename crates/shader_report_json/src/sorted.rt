@@ -2,8 +2,8 @@
 ghost use Rattle.std.specs.Prelude.{◌≡◌, IfOk};
 ghost use Rattle.shader_report_json.specs.Sorted.{AreSamplingsOf, IsFunctionAnswer};
 
+use report_json::{FunctionAnswer, ResourceKey, resource_key};
 use shader_info::FunctionInfo;
-use shader_info_json::{FunctionAnswer, ResourceKey, resource_key};
 use shader_ir::Items;
 use std::alloc::{AllocError, Global};
 use std::collections::BTreeSet;

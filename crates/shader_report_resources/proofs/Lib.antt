@@ -1,4 +1,3 @@
-mod LayoutLemmas
 mod UsesLemmas
 pub mod WordLemmas
 mod WrittenLemmas

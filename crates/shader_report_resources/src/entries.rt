@@ -5,7 +5,8 @@ ghost use Rattle.json.specs.Value.{value_view};
 ghost use Rattle.shader_report_resources.specs.Entries.{AddsUses, AreUses, access_members, all_idle_tokens, axes_tokens, bound_members};
 ghost use Rattle.shader_report_resources.specs.Entries.{entries_tokens, entry_tokens, is_idle, is_used, is_used_by, pair_tokens};
 ghost use Rattle.shader_report_resources.specs.Entries.{size_members, stage_word, use_tokens, used_tokens, uses_members};
-ghost use Rattle.shader_report_resources.specs.Written.{Adds, number_or_null};
+ghost use Rattle.report_json.specs.Tokens.{Adds};
+ghost use Rattle.shader_report_resources.specs.Written.{number_or_null};
 
 use crate::interfaces::{write_inputs, write_outputs};
 use crate::written::write_text;

@@ -5,7 +5,7 @@ ghost use Rattle.json.specs.Value.{value_view};
 ghost use Rattle.shader_interface.specs.Interface.{seen};
 ghost use Rattle.shader_report_resources.specs.Interfaces.{bound_tokens, input_tokens, inputs_tokens, location_members};
 ghost use Rattle.shader_report_resources.specs.Interfaces.{member_value, outputs_tokens, value_tokens};
-ghost use Rattle.shader_report_resources.specs.Written.{Adds};
+ghost use Rattle.report_json.specs.Tokens.{Adds};
 
 use crate::tables::write_type_members;
 use crate::written::{write_name, write_number, write_text};

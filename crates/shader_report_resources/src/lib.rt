@@ -15,4 +15,4 @@ mod value_lines;
 mod words;
 mod written;
 
-pub use resources::{Notation, find_resources};
+pub use resources::{resources_lines, write_resources};

@@ -1,50 +1,23 @@
 //! The resources of a module.
-ghost use Rattle.std.specs.Prelude.{◌≡◌, ◌≢◌, [], IfOk, OnOk, codes, length, string_bytes};
-ghost use Rattle.std.specs.Option.{option_map};
-ghost use Rattle.json.specs.Print.{print};
+ghost use Rattle.std.specs.Prelude.{◌≡◌, List, IfOk, OnOk, length, string_bytes};
+ghost use Rattle.json.specs.Token.{Token};
 ghost use Rattle.json.specs.Value.{value_view};
-ghost use Rattle.shader_analysis.specs.Validity.{IsReason, IsValidated};
-ghost use Rattle.shader_passes.specs.Causes.{settings_of};
-ghost use Rattle.shader_resolve.specs.WellFormed.{IsWellFormed};
+ghost use Rattle.report_model.specs.Fitting.{HasInfos};
 ghost use Rattle.shader_report_resources.specs.Entries.{AreUses, all_idle_tokens, entries_tokens};
-ghost use Rattle.shader_report_resources.specs.Resources.{AreFoundLayouts, AreLayouts, AreResources, IsFound, declared_tokens};
-ghost use Rattle.shader_report_resources.specs.Resources.{resources_lines, resources_text, resources_tokens, used_tokens};
+ghost use Rattle.shader_report_resources.specs.Resources.{AreResources, AreResourcesLines, declared_tokens};
+ghost use Rattle.shader_report_resources.specs.Resources.{resources_lines, resources_tokens, used_tokens};
 ghost use Rattle.shader_report_resources.specs.Tables.{globals_tokens, overrides_tokens, types_tokens};
-ghost use Rattle.shader_report_resources.specs.Written.{Adds};
+ghost use Rattle.report_json.specs.Tokens.{Adds};
 
 use crate::declared_lines::{all_global_lines, all_override_lines};
 use crate::entries::{EntryUses, uses_of, write_entries, write_idle};
 use crate::entry_lines::{all_entry_lines, all_idle_lines};
 use crate::tables::{write_globals, write_overrides, write_types};
 use json::{Value, Writer};
-use shader_analysis::{ModuleInfo, ValidationError, validate};
-use shader_info::{Capabilities, ValidationFlags};
+use shader_analysis::ModuleInfo;
 use shader_ir::Module;
-use shader_ir::proc::{Layouter, UpdateError};
+use shader_ir::proc::Layouter;
 use std::alloc::{AllocError, Global};
-
-/// The form in which resources are printed.
-#[derive(Clone, Copy, Debug, PartialEq, Eq)]
-pub enum Notation {
-    /// A JSON object, for programs.
-    Json,
-    /// Lines of text output.
-    Lines,
-}
-
-/// Returns the layouts of the types of a module, or nothing if one has no layout.
-fn layouts_of(alloc: Global, module: &Module) -> Result<Option<Layouter>, AllocError>
-    requires { IsWellFormed «module».now }
-    ensures { IfOk result (AreFoundLayouts «module».now) }
-{
-    let ctx = module.to_ctx();
-    let mut layouter = Layouter::new(alloc);
-    match layouter.update(ctx) {
-        Ok(()) => Ok(Some(layouter)),
-        Err(UpdateError::Layout(_)) => Ok(None),
-        Err(UpdateError::OutOfMemory) => Err(AllocError),
-    }
-}
 
 /// Writes the types, the globals and the overrides.
 #[tactic(auto, unfolding(crate::specs::Resources::declared_tokens))]
@@ -95,9 +68,9 @@ fn write_used(
     Ok(())
 }
 
-/// Writes the resources.
+/// Writes the resources by the uses of globals.
 #[tactic(auto, unfolding(crate::specs::Resources::resources_tokens))]
-fn write_resources(
+fn write_object(
     writer: &mut Writer,
     alloc: Global,
     module: &Module,
@@ -116,35 +89,7 @@ fn write_resources(
     Ok(())
 }
 
-/// Returns the text that a writer has written, from nothing.
-fn text_of(writer: Writer) -> String
-    requires { writer.before ≡ [] }
-    ensures { string_bytes result ≡ print writer.tokens }
-{
-    match String::from_utf8(writer.into_inner()) {
-        Ok(text) => text,
-        Err(_) => unreachable!(),
-    }
-}
-
-/// Returns the resources of a module that is laid out and analysed, as JSON.
-fn json_by(
-    alloc: Global,
-    module: &Module,
-    root: &Value<'_>,
-    layouter: &Layouter,
-    uses: &[EntryUses<'_>],
-) -> Result<String, AllocError>
-    requires { length layouter.now ≡ length «module».now.types }
-    ensures { IfOk result (λ text.
-        string_bytes text ≡ print (resources_tokens (value_view root.now) «module».now layouter.now uses.now)) }
-{
-    let mut writer = Writer::new(Vec::new(alloc));
-    write_resources(&mut writer, alloc, module, root, layouter, uses)?;
-    Ok(text_of(writer))
-}
-
-/// Returns the resources of a module that is laid out and analysed, as text output.
+/// Returns the lines on globals, overrides, entry points and unused globals.
 #[tactic(auto, unfolding(crate::specs::Resources::resources_lines))]
 fn lines_by(
     alloc: Global,
@@ -169,100 +114,49 @@ fn lines_by(
     )
 }
 
-/// Returns the resources of a module that is laid out and analysed.
-fn resources_by(
-    alloc: Global,
-    notation: Notation,
-    module: &Module,
-    root: &Value<'_>,
-    layouter: &Layouter,
-    uses: &[EntryUses<'_>],
-) -> Result<String, AllocError>
-    requires { length layouter.now ≡ length «module».now.types }
-    ensures { IfOk result (λ text.
-        string_bytes text ≡ resources_text (value_view root.now) «module».now notation layouter.now uses.now) }
-{
-    match notation {
-        Notation::Json => json_by(alloc, module, root, layouter, uses),
-        Notation::Lines => lines_by(alloc, module, root, layouter, uses),
-    }
-}
-
-/// Returns the resources of a valid module that is laid out.
-fn resources_of(
-    alloc: Global,
-    notation: Notation,
-    module: &Module,
-    root: &Value<'_>,
-    infos: &ModuleInfo,
-    layouter: &Layouter,
-    flags: ValidationFlags,
-    capabilities: Capabilities,
-) -> Result<String, AllocError>
-    requires validated { IsValidated «module».now (settings_of flags capabilities) infos.now }
-    requires laid_out { AreLayouts «module».now layouter.now }
-    ensures { IfOk result (λ text.
-        AreResources notation (value_view root.now) «module».now (settings_of flags capabilities) (string_bytes text)) }
-{
-    let uses = uses_of(alloc, module, infos)?;
-    resources_by(alloc, notation, module, root, layouter, uses.as_slice())
-}
-
-/// Returns the resources of a valid module. Returns `None` only for a type without a layout, which a valid module doesn't have.
-#[tactic(auto, using(crate::proofs::LayoutLemmas::no_layout))]
-fn found_of(
-    alloc: Global,
-    notation: Notation,
-    module: &Module,
-    root: &Value<'_>,
-    infos: &ModuleInfo,
-    flags: ValidationFlags,
-    capabilities: Capabilities,
-) -> Result<Option<String>, AllocError>
-    requires { IsValidated «module».now (settings_of flags capabilities) infos.now }
-    ensures { IfOk result (λ found.
-        IsFound notation (value_view root.now) «module».now (settings_of flags capabilities) (option_map string_bytes found)) }
-{
-    match layouts_of(alloc, module)? {
-        Some(layouter) => {
-            let text = resources_of(
-                alloc,
-                notation,
-                module,
-                root,
-                infos,
-                &layouter,
-                flags,
-                capabilities,
-            )?;
-            Ok(Some(text))
-        }
-        None => Ok(None),
-    }
-}
-
-/// Returns the resources of a module, as a JSON object or as lines of text output, if the module is valid.
+/// Writes the resources of a module as a JSON object, by its layouts and infos.
 ///
-/// `root` is the JSON of the module, which has declarations that the IR leaves out. `validate` recurses along nested blocks, so check
-/// `nests_within` first.
+/// `root` is the JSON of the module, which has declarations that the IR leaves out.
 ///
 /// # Errors
 ///
 /// `AllocError` if an allocation fails.
-pub fn find_resources(
+pub fn write_resources(
+    writer: &mut Writer,
     alloc: Global,
-    notation: Notation,
     module: &Module,
     root: &Value<'_>,
-    flags: ValidationFlags,
-    capabilities: Capabilities,
-) -> Result<Option<String>, AllocError>
-    ensures { IfOk result (λ found.
-        IsFound notation (value_view root.now) «module».now (settings_of flags capabilities) (option_map string_bytes found)) }
+    layouter: &Layouter,
+    infos: &ModuleInfo,
+) -> Result<(), AllocError>
+    requires layouts { length layouter.now ≡ length «module».now.types }
+    requires infos { HasInfos «module».now infos.now }
+    ensures { OnOk result ((tokens : List Token)
+        × AreResources (value_view root.now) «module».now layouter.now infos.now tokens × Adds writer.old writer.new tokens) }
 {
-    match validate(alloc, module, flags, capabilities) {
-        Ok(infos) => found_of(alloc, notation, module, root, &infos, flags, capabilities),
-        Err(ValidationError::OutOfMemory) => Err(AllocError),
-        Err(_) => Ok(None),
-    }
+    let uses = uses_of(alloc, module, infos)?;
+    write_object(writer, alloc, module, root, layouter, uses.as_slice())
+}
+
+/// Returns the resources of a module as lines of text output, by its layouts and infos.
+///
+/// `root` is the JSON of the module.
+///
+/// # Errors
+///
+/// `AllocError` if an allocation fails.
+pub fn resources_lines(
+    alloc: Global,
+    module: &Module,
+    root: &Value<'_>,
+    layouter: &Layouter,
+    infos: &ModuleInfo,
+) -> Result<String, AllocError>
+    requires layouts { length layouter.now ≡ length «module».now.types }
+    requires infos { HasInfos «module».now infos.now }
+    ensures { IfOk result (λ text.
+        AreResourcesLines (value_view root.now) «module».now layouter.now infos.now (string_bytes text)) }
+{
+    let uses = uses_of(alloc, module, infos)?;
+    lines_by(alloc, module, root, layouter, uses.as_slice())
 }

@@ -6,7 +6,7 @@ ghost use Rattle.shader_report_resources.specs.Tables.{binding_members, global_t
 ghost use Rattle.shader_report_resources.specs.Tables.{layout_members, layout_size, member_tokens};
 ghost use Rattle.shader_report_resources.specs.Tables.{members_tokens, override_tokens, overrides_tokens, stride_of};
 ghost use Rattle.shader_report_resources.specs.Tables.{type_members, type_tokens, types_tokens};
-ghost use Rattle.shader_report_resources.specs.Written.{Adds};
+ghost use Rattle.report_json.specs.Tokens.{Adds};
 
 use crate::spaces::{space_word, stated_access};
 use crate::words::words;

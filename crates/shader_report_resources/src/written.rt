@@ -1,7 +1,8 @@
 //! Writes members of objects.
 ghost use Rattle.std.specs.Prelude.{◌≡◌, OnOk};
 ghost use Rattle.std.specs.Option.{option_map};
-ghost use Rattle.shader_report_resources.specs.Written.{Adds, number_member, text_member};
+ghost use Rattle.report_json.specs.Tokens.{Adds};
+ghost use Rattle.shader_report_resources.specs.Written.{number_member, text_member};
 
 use json::Writer;
 use shader_ir::Name;

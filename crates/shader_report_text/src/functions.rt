@@ -1,5 +1,6 @@
 //! The sections of the report on functions, on entry points and on a refusal.
-ghost use Rattle.std.specs.Prelude.{◌≡◌, length, IfOk};
+ghost use Rattle.std.specs.Prelude.{◌≡◌, IfOk};
+ghost use Rattle.report_model.specs.Fitting.{HasInfos};
 ghost use Rattle.shader_uniformity_trace.specs.declared.link.Link.TheVariants as link;
 ghost use Rattle.shader_report_text.specs.Shown.{ShowsBeginning, ShowsRefusal, function_location};
 
@@ -125,8 +126,7 @@ pub fn add_functions(
     infos: &ModuleInfo,
     text: &mut String,
 ) -> Result<(), AllocError>
-    requires functions { length infos.now.functions ≡ length «module».now.functions }
-    requires entry_points { length infos.now.entry_points ≡ length «module».now.entry_points }
+    requires { HasInfos «module».now infos.now }
 {
     for index in 0..module.functions.len() {
         let handle: Handle<mark::Function> = Handle::from_index(index as u32);

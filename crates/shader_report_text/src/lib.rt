@@ -1,4 +1,4 @@
-//! The text report on a module, with the verdict whether the module is accepted.
+//! The text report on a module.
 #![tactic(auto)]
 
 mod chains;
@@ -7,4 +7,4 @@ mod structs;
 mod summary;
 
 pub use chains::steps_from;
-pub use summary::{Summary, summarize};
+pub use summary::summarize;

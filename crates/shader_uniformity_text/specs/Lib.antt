@@ -1,2 +1,2 @@
 pub mod Needs
-pub mod Sections
+pub mod Verdicts

@@ -6,4 +6,4 @@ mod needs;
 mod trace_text;
 mod verdict;
 
-pub use verdict::{Section, json_section, people_section};
+pub use verdict::{refusal_text, write_verdict};

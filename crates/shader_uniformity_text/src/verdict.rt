@@ -1,22 +1,16 @@
-//! The sections of a report on uniform flow.
-ghost use Rattle.std.specs.Prelude.{◌≡◌, IfOk, Some, slice_get, string_bytes};
-ghost use Rattle.shader_uniformity_text.specs.Sections.{IsJsonSection, IsPeopleSection, verdict_text};
+//! The verdict on uniform flow in a report.
+ghost use Rattle.std.specs.Prelude.{OnOk, option_map};
+ghost use Rattle.report_json.specs.Tokens.{Adds};
+ghost use Rattle.shader_uniformity_text.specs.Verdicts.{place_tokens, verdict_members, verdict_tokens};
 
 use crate::trace_text::RefusalText;
+use json::Writer;
+use report_json::{Member, WriteJson, WriteMembers, write_object, write_variant};
 use shader_arena::Handle;
 use shader_info::AnalysisLocation;
 use shader_ir::{Function, Module};
-use shader_uniformity::{BodyLocation, Fact, Uniformity, find_divergence, trace};
+use shader_uniformity::{BodyLocation, Fact, Uniformity, trace};
 use std::alloc::{AllocError, Global};
-use std::fmt;
-
-/// A section of a report.
-#[derive(Drop)]
-pub struct Section {
-    pub text: String,
-    /// True if the flow of the module is uniform wherever that is needed.
-    pub is_accepted: bool,
-}
 
 /// Converts a location to one of the analysis. No module in memory has 2^32 functions.
 pub fn analysis_location(location: BodyLocation) -> AnalysisLocation {
@@ -50,48 +44,65 @@ pub fn function_at(module: &Module, location: BodyLocation) -> Option<&Function>
     }
 }
 
-/// The verdict as a member of a JSON object.
+/// The location of a function or an entry point, as JSON.
 #[derive(Clone, Copy)]
-struct VerdictText(Option<BodyLocation>);
+struct Place(BodyLocation);
 
-impl fmt::Display for VerdictText {
-    ghost output = { λ text. Some (verdict_text text.0) };
+impl WriteJson for Place {
+    ghost tokens = { λ place. place_tokens place.0 };
 
-    fn fmt<W: fmt::Write>(&self, f: &mut fmt::Formatter<W>) -> fmt::Result {
+    #[tactic(auto, unfolding(crate::specs::Verdicts::place_tokens))]
+    fn write_json(&self, alloc: Global, writer: &mut Writer) -> Result<(), AllocError> {
         match self.0 {
-            None => f.write_str("\"uniformity_verdict\":{\"accepted\":true}"),
-            Some(BodyLocation::Function(index)) => write!(
-                f,
-                "\"uniformity_verdict\":{{\"accepted\":false,\"place\":{{\"Function\":{index}}}}}"
-            ),
-            Some(BodyLocation::EntryPoint(index)) => write!(
-                f,
-                "\"uniformity_verdict\":{{\"accepted\":false,\"place\":{{\"EntryPoint\":{index}}}}}"
-            ),
+            BodyLocation::Function(index) => write_variant(alloc, writer, "Function", &index),
+            BodyLocation::EntryPoint(index) => write_variant(alloc, writer, "EntryPoint", &index),
         }
     }
 }
 
-/// Decides the uniform flow of a module, and returns the verdict as a member of a JSON object.
-///
-/// `find_divergence` recurses along nested blocks, so check `nests_within` first.
+/// The verdict as JSON: where control flow is at fault, if it is.
+#[derive(Clone, Copy)]
+struct Verdict(Option<BodyLocation>);
+
+impl WriteJson for Verdict {
+    ghost tokens = { λ verdict. verdict_tokens verdict.0 };
+
+    #[tactic(auto, unfolding(crate::specs::Verdicts::verdict_tokens))]
+    fn write_json(&self, alloc: Global, writer: &mut Writer) -> Result<(), AllocError> {
+        match self.0 {
+            None => write_object(alloc, writer, &Member("accepted", &true)),
+            Some(place) => {
+                let place = Place(place);
+                let members = (Member("accepted", &false), Member("place", &place));
+                write_object(alloc, writer, &members)
+            }
+        }
+    }
+}
+
+/// Writes the verdict as a member of a JSON object, or nothing if control flow wasn't checked.
 ///
 /// # Errors
 ///
-/// `AllocError` if memory runs out, or a function has 2^32 statements.
-pub fn json_section(alloc: Global, module: &Module) -> Result<Section, AllocError>
-    ensures { IfOk result (λ section. IsJsonSection «module».now section.is_accepted (string_bytes section.text)) }
+/// `AllocError` if an allocation fails.
+pub fn write_verdict(
+    alloc: Global,
+    writer: &mut Writer,
+    found: Option<&Uniformity>,
+) -> Result<(), AllocError>
+    ensures { OnOk result (Adds writer.old writer.new (verdict_members (option_map (λ found. found.now) found.entry))) }
 {
-    let found = find_divergence(alloc, module)?;
-    let text = format!(in alloc; "{}", VerdictText(found.fault))?;
-    Ok(Section {
-        text,
-        is_accepted: found.is_accepted(),
-    })
+    match found {
+        Some(found) => {
+            let verdict = Verdict(found.fault);
+            Member("uniformity_verdict", &verdict).write_members(alloc, writer)
+        }
+        None => Ok(()),
+    }
 }
 
 /// Returns the reason why the function or entry point at a location is at fault.
-fn refusal(
+fn refusal_at(
     alloc: Global,
     module: &Module,
     found: &Uniformity,
@@ -112,25 +123,19 @@ fn refusal(
     }
 }
 
-/// Returns the reason why the module is refused, or an empty text if it is accepted.
-fn reason(alloc: Global, module: &Module, found: &Uniformity) -> Result<String, AllocError> {
-    match found.fault {
-        Some(location) => refusal(alloc, module, found, location),
-        None => Ok(String::new(alloc)),
-    }
-}
-
-/// Decides the uniform flow of a module, and returns the reason of a refusal as text output: the trace from a need back to a source.
-/// The text is empty if the module is accepted.
+/// Returns the reason why the control flow of a module is refused, as text output: the trace from a need back to a source. The text is
+/// empty if control flow is accepted.
 ///
 /// # Errors
 ///
-/// The same as those of `json_section`.
-pub fn people_section(alloc: Global, module: &Module) -> Result<Section, AllocError>
-    ensures { IfOk result (λ section. IsPeopleSection «module».now section.is_accepted) }
-{
-    let found = find_divergence(alloc, module)?;
-    let text = reason(alloc, module, &found)?;
-    let is_accepted = found.is_accepted();
-    Ok(Section { text, is_accepted })
+/// `AllocError` if an allocation fails.
+pub fn refusal_text(
+    alloc: Global,
+    module: &Module,
+    found: &Uniformity,
+) -> Result<String, AllocError> {
+    match found.fault {
+        Some(location) => refusal_at(alloc, module, found, location),
+        None => Ok(String::new(alloc)),
+    }
 }

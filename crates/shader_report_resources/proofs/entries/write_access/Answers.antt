@@ -1,5 +1,5 @@
 use Rattle.shader_report_resources.specs.Entries.{access_members}
-use Rattle.shader_report_resources.proofs.WrittenLemmas.{writes_last, writes_then}
+use Rattle.report_json.proofs.WritingLemmas.{writes_last, writes_then}
 use Rattle.shader_report_resources.proofs.entries.write_access.Goals as goal
 
 pub returns : goal.returns

@@ -1,7 +1,7 @@
 use Rattle.std.proofs.Common.{◌≡◌, drop, flat_map}
 use Rattle.std.specs.List.{enumerate_from}
 use Rattle.shader_report_resources.specs.Entries.{use_tokens}
-use Rattle.shader_report_resources.specs.Written.{Leads}
+use Rattle.report_json.specs.Tokens.{Leads}
 use Rattle.shader_report_resources.proofs.entries.write_each_use.Given as goal
 
 abbrev pub invariant-loop-used : goal.invariant-loop-used

@@ -1,6 +1,7 @@
 use Rattle.std.proofs.Common.{ap, List, Some, ℕ}
 use Rattle.shader_report_resources.specs.Entries.{entry_tokens}
-use Rattle.shader_report_resources.proofs.WrittenLemmas.{adds_then, with_text, writes_last, writes_then}
+use Rattle.report_json.proofs.WritingLemmas.{adds_then, writes_last, writes_then}
+use Rattle.shader_report_resources.proofs.WrittenLemmas.{with_text}
 use Rattle.shader_report_resources.proofs.entries.write_entry.Goals as goal
 
 pub returns : goal.returns

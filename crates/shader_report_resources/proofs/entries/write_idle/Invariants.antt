@@ -1,7 +1,7 @@
 use Rattle.std.proofs.Common.{flat_map}
 use Rattle.json.specs.Value.{value_view}
 use Rattle.shader_report_resources.specs.Entries.{all_idle_tokens, idle_tokens}
-use Rattle.shader_report_resources.specs.Written.{Leads}
+use Rattle.report_json.specs.Tokens.{Leads}
 use Rattle.shader_report_resources.proofs.entries.write_idle.Given as goal
 
 abbrev pub invariant-loop-handle : goal.invariant-loop-handle

@@ -1,6 +1,6 @@
 use Rattle.std.proofs.Common.{drop, flat_map}
 use Rattle.shader_report_resources.specs.Entries.{pair_tokens}
-use Rattle.shader_report_resources.specs.Written.{Leads}
+use Rattle.report_json.specs.Tokens.{Leads}
 use Rattle.shader_report_resources.proofs.entries.write_pairs.Given as goal
 
 abbrev pub invariant-loop-pair : goal.invariant-loop-pair

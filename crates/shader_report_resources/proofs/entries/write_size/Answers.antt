@@ -1,8 +1,8 @@
 use Rattle.std.proofs.Common.{◌≡◌, Option, ℕ, List, subst}
 use Rattle.json.specs.Written.{Written}
 use Rattle.shader_report_resources.specs.Entries.{axes_tokens, size_members}
-use Rattle.shader_report_resources.specs.Written.{Adds}
-use Rattle.shader_report_resources.proofs.WrittenLemmas.{adds_then}
+use Rattle.report_json.specs.Tokens.{Adds}
+use Rattle.report_json.proofs.WritingLemmas.{adds_then}
 use Rattle.shader_report_resources.proofs.entries.write_size.Goals as goal
 
 with_axes : (name : List ℕ) {old new : Written} {x y z u v w : Option ℕ} → x ≡ u → y ≡ v → z ≡ w →

@@ -2,8 +2,8 @@ use Rattle.std.proofs.Common.{ℕ, List, flat_map, subst}
 use Rattle.std.specs.List.{enumerate_from}
 use Rattle.shader_info.specs.declared.flags.GlobalUse.{GlobalUse}
 use Rattle.shader_report_resources.specs.Entries.{pair_tokens, use_tokens, uses_members}
-use Rattle.shader_report_resources.specs.Written.{Adds}
-use Rattle.shader_report_resources.proofs.WrittenLemmas.{adds_then, writes_last, writes_then}
+use Rattle.report_json.specs.Tokens.{Adds}
+use Rattle.report_json.proofs.WritingLemmas.{adds_then, writes_last, writes_then}
 use Rattle.shader_report_resources.proofs.entries.write_uses.Goals as goal
 
 pub returns : goal.returns

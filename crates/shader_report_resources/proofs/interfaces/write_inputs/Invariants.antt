@@ -2,7 +2,7 @@ use Rattle.std.proofs.Common.{◌≡◌, drop, flat_map}
 use Rattle.std.specs.List.{enumerate_from}
 use Rattle.json.specs.Value.{value_view}
 use Rattle.shader_report_resources.specs.Interfaces.{input_tokens, inputs_tokens}
-use Rattle.shader_report_resources.specs.Written.{Leads}
+use Rattle.report_json.specs.Tokens.{Leads}
 use Rattle.shader_report_resources.proofs.interfaces.write_inputs.Given as goal
 
 abbrev pub invariant-loop-argument : goal.invariant-loop-argument

@@ -1,5 +1,6 @@
 use Rattle.shader_report_resources.specs.Interfaces.{location_members}
-use Rattle.shader_report_resources.proofs.WrittenLemmas.{adds_then, with_number, with_text}
+use Rattle.report_json.proofs.WritingLemmas.{adds_then}
+use Rattle.shader_report_resources.proofs.WrittenLemmas.{with_number, with_text}
 use Rattle.shader_report_resources.proofs.interfaces.write_location.Goals as goal
 
 pub returns : goal.returns

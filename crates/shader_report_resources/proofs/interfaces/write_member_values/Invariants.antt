@@ -2,7 +2,7 @@ use Rattle.std.proofs.Common.{◌≡◌, drop, flat_map}
 use Rattle.std.specs.List.{enumerate_from}
 use Rattle.json.specs.Value.{value_view}
 use Rattle.shader_report_resources.specs.Interfaces.{member_value}
-use Rattle.shader_report_resources.specs.Written.{Leads}
+use Rattle.report_json.specs.Tokens.{Leads}
 use Rattle.shader_report_resources.proofs.interfaces.write_member_values.Given as goal
 
 abbrev pub invariant-loop-member : goal.invariant-loop-member

@@ -1,5 +1,6 @@
 use Rattle.shader_report_resources.specs.Interfaces.{value_tokens}
-use Rattle.shader_report_resources.proofs.WrittenLemmas.{adds_then, with_text, writes_last, writes_then}
+use Rattle.report_json.proofs.WritingLemmas.{adds_then, writes_last, writes_then}
+use Rattle.shader_report_resources.proofs.WrittenLemmas.{with_text}
 use Rattle.shader_report_resources.proofs.interfaces.write_value.Goals as goal
 
 pub returns : goal.returns

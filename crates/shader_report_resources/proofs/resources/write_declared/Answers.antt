@@ -1,5 +1,5 @@
 use Rattle.shader_report_resources.specs.Resources.{declared_tokens}
-use Rattle.shader_report_resources.proofs.WrittenLemmas.{adds_then, writes_last, writes_then}
+use Rattle.report_json.proofs.WritingLemmas.{adds_then, writes_last, writes_then}
 use Rattle.shader_report_resources.proofs.resources.write_declared.Goals as goal
 
 pub returns : goal.returns

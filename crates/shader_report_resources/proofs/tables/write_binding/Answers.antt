@@ -1,5 +1,6 @@
 use Rattle.shader_report_resources.specs.Tables.{binding_members}
-use Rattle.shader_report_resources.proofs.WrittenLemmas.{adds_then, with_number}
+use Rattle.report_json.proofs.WritingLemmas.{adds_then}
+use Rattle.shader_report_resources.proofs.WrittenLemmas.{with_number}
 use Rattle.shader_report_resources.proofs.tables.write_binding.Goals as goal
 
 pub returns : goal.returns

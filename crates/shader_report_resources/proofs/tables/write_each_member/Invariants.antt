@@ -1,6 +1,6 @@
 use Rattle.std.proofs.Common.{drop, flat_map}
 use Rattle.shader_report_resources.specs.Tables.{member_tokens}
-use Rattle.shader_report_resources.specs.Written.{Leads}
+use Rattle.report_json.specs.Tokens.{Leads}
 use Rattle.shader_report_resources.proofs.tables.write_each_member.Given as goal
 
 abbrev pub invariant-loop-member : goal.invariant-loop-member

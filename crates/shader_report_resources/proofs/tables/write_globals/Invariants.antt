@@ -1,7 +1,7 @@
 use Rattle.std.proofs.Common.{flat_map}
 use Rattle.json.specs.Value.{value_view}
 use Rattle.shader_report_resources.specs.Tables.{global_tokens, globals_tokens}
-use Rattle.shader_report_resources.specs.Written.{Leads}
+use Rattle.report_json.specs.Tokens.{Leads}
 use Rattle.shader_report_resources.proofs.tables.write_globals.Given as goal
 
 abbrev pub invariant-loop-handle : goal.invariant-loop-handle

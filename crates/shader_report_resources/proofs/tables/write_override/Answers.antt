@@ -2,7 +2,8 @@ use Rattle.std.proofs.Common.{◌∙◌, ap}
 use Rattle.json.specs.Value.{value_view}
 use Rattle.shader_interface.specs.Interface.{override_default_of, override_id_of}
 use Rattle.shader_report_resources.specs.Tables.{override_tokens}
-use Rattle.shader_report_resources.proofs.WrittenLemmas.{adds_then, with_number, with_text, writes_last, writes_then}
+use Rattle.report_json.proofs.WritingLemmas.{adds_then, writes_last, writes_then}
+use Rattle.shader_report_resources.proofs.WrittenLemmas.{with_number, with_text}
 use Rattle.shader_report_resources.proofs.tables.write_override.Goals as goal
 
 pub returns : goal.returns

@@ -1,8 +1,9 @@
 use Rattle.std.proofs.Common.{◌∙◌, ap, List, Option, Some, subst, ℕ}
 use Rattle.shader_ir.specs.declared.proc.layouter.TypeLayout.{TypeLayout}
 use Rattle.shader_report_resources.specs.Tables.{layout_members, type_tokens}
-use Rattle.shader_report_resources.specs.Written.{Adds}
-use Rattle.shader_report_resources.proofs.WrittenLemmas.{adds_then, with_number, with_text, writes_last, writes_then}
+use Rattle.report_json.specs.Tokens.{Adds}
+use Rattle.report_json.proofs.WritingLemmas.{adds_then, writes_last, writes_then}
+use Rattle.shader_report_resources.proofs.WrittenLemmas.{with_number, with_text}
 use Rattle.shader_report_resources.proofs.tables.write_type.Goals as goal
 
 pub returns : goal.returns

@@ -1,5 +1,6 @@
 use Rattle.std.proofs.Common.{◌∙◌, ap, List, Some, ℕ}
-use Rattle.shader_report_resources.proofs.WrittenLemmas.{adds_then, with_number, with_text}
+use Rattle.report_json.proofs.WritingLemmas.{adds_then}
+use Rattle.shader_report_resources.proofs.WrittenLemmas.{with_number, with_text}
 use Rattle.shader_report_resources.proofs.tables.write_type_members.Goals as goal
 
 pub returns : goal.returns

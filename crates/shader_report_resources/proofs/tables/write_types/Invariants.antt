@@ -1,6 +1,6 @@
 use Rattle.std.proofs.Common.{flat_map}
 use Rattle.shader_report_resources.specs.Tables.{type_tokens, types_tokens}
-use Rattle.shader_report_resources.specs.Written.{Leads}
+use Rattle.report_json.specs.Tokens.{Leads}
 use Rattle.shader_report_resources.proofs.tables.write_types.Given as goal
 
 abbrev pub invariant-loop-handle : goal.invariant-loop-handle

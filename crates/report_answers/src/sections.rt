@@ -1,0 +1,206 @@
+//! The optional sections of a report: bounds checks and resources.
+ghost use Rattle.std.specs.Prelude.{◌≡◌, ◌∷◌, List, Option, IfOk, OnOk, codes, length, string_bytes};
+ghost use Rattle.json.specs.Json.{Json};
+ghost use Rattle.json.specs.Token.{Token, key};
+ghost use Rattle.json.specs.Value.{value_view};
+ghost use Rattle.report_json.specs.Tokens.{Adds};
+ghost use Rattle.report_model.specs.Analyzed.{IsAnalyzed};
+ghost use Rattle.report_model.specs.Fitting.{Fits, HasInfos};
+ghost use Rattle.report_answers.specs.Options.{checks_uniformity, settings};
+ghost use Rattle.report_answers.specs.Sections.{AreBindings, AreBoundsAsked, AreLinesAsked, AreResourcesAsked, AreSections, EndsWithLines};
+ghost use Rattle.report_answers.specs.Sections.{IsRootIf, bounds_members};
+ghost use Rattle.shader_interface.specs.Interface.{seen};
+ghost use Rattle.shader_report_resources.specs.Resources.{AreResources};
+
+use crate::options::Options;
+use json::{Value, Writer};
+use report_json::{Member, WriteMembers};
+use report_model::{Analyzed, Sound};
+use shader_interface::{Interface, ResourceBinding};
+use shader_ir::Module;
+use shader_report_bounds::{BoundsText, ModuleBounds, find_bounds};
+use shader_report_resources::{resources_lines, write_resources};
+use std::alloc::{AllocError, Global};
+
+/// Returns the bounds checks of a module, if the options ask for them and the analysis accepts it.
+fn asked_bounds(
+    alloc: Global,
+    options: Options,
+    module: &Module,
+    analyzed: &Analyzed,
+) -> Result<Option<ModuleBounds>, AllocError>
+    requires are { IsAnalyzed «module».now (settings options) (checks_uniformity options) analyzed.now }
+    requires fits { Fits «module».now analyzed.now }
+    ensures { IfOk result (AreBoundsAsked options «module».now analyzed.now) }
+{
+    match (options.bounds(), analyzed.info()) {
+        (Some(policies), Some(infos)) => {
+            let bounds = find_bounds(alloc, module, infos, policies)?;
+            Ok(Some(bounds))
+        }
+        _ => Ok(None),
+    }
+}
+
+/// Writes the bounds checks as a member, if the options ask for them and the analysis accepts the module.
+fn write_bounds(
+    alloc: Global,
+    writer: &mut Writer,
+    options: Options,
+    module: &Module,
+    analyzed: &Analyzed,
+) -> Result<(), AllocError>
+    requires are { IsAnalyzed «module».now (settings options) (checks_uniformity options) analyzed.now }
+    requires fits { Fits «module».now analyzed.now }
+    ensures { OnOk result ((found : Option ModuleBounds) × AreBoundsAsked options «module».now analyzed.now found
+        × Adds writer.old writer.new (bounds_members found)) }
+{
+    match asked_bounds(alloc, options, module, analyzed)? {
+        Some(bounds) => Member("bounds", &bounds).write_members(alloc, writer),
+        None => Ok(()),
+    }
+}
+
+/// Writes the resources of a module as a member.
+fn write_found_resources(
+    alloc: Global,
+    writer: &mut Writer,
+    root: &Value<'_>,
+    module: &Module,
+    found: Sound<'_>,
+) -> Result<(), AllocError>
+    requires layouts { length found.layouts.now ≡ length «module».now.types }
+    requires infos { HasInfos «module».now found.info.now }
+    ensures { OnOk result ((tokens : List Token)
+        × AreResources (value_view root.now) «module».now found.entry.layouts.now found.entry.info.now tokens
+        × Adds writer.old writer.new (key (codes "resources") ∷ tokens)) }
+{
+    writer.key("resources")?;
+    write_resources(writer, alloc, module, root, found.layouts, found.info)
+}
+
+/// Writes the resources of a module with this JSON as a member, if the options ask for them and the module has no fault besides its
+/// control flow.
+fn write_asked_resources(
+    alloc: Global,
+    writer: &mut Writer,
+    options: Options,
+    root: Option<&Value<'_>>,
+    module: &Module,
+    analyzed: &Analyzed,
+) -> Result<(), AllocError>
+    requires { Fits «module».now analyzed.now }
+    ensures { OnOk result ((tokens : List Token) × ((j : Json) → IsRootIf options.has_resources j (seen root.entry) →
+        AreResourcesAsked options j «module».now analyzed.now tokens) × Adds writer.old writer.new tokens) }
+{
+    if !options.has_resources {
+        return Ok(());
+    }
+    match (root, analyzed.sound()) {
+        (Some(root), Some(found)) => write_found_resources(alloc, writer, root, module, found),
+        _ => Ok(()),
+    }
+}
+
+/// Writes the members that the options ask for.
+pub fn write_sections(
+    alloc: Global,
+    writer: &mut Writer,
+    options: Options,
+    root: Option<&Value<'_>>,
+    module: &Module,
+    analyzed: &Analyzed,
+) -> Result<(), AllocError>
+    requires are { IsAnalyzed «module».now (settings options) (checks_uniformity options) analyzed.now }
+    requires fits { Fits «module».now analyzed.now }
+    ensures { OnOk result ((tokens : List Token) × ((j : Json) → IsRootIf options.has_resources j (seen root.entry) →
+        AreSections options j «module».now analyzed.now tokens) × Adds writer.old writer.new tokens) }
+{
+    write_bounds(alloc, writer, options, module, analyzed)?;
+    write_asked_resources(alloc, writer, options, root, module, analyzed)
+}
+
+/// Returns the lines on bounds checks, or an empty text if the options don't ask for them or the module isn't accepted.
+fn bounds_lines(
+    alloc: Global,
+    options: Options,
+    module: &Module,
+    analyzed: &Analyzed,
+) -> Result<String, AllocError>
+    requires are { IsAnalyzed «module».now (settings options) (checks_uniformity options) analyzed.now }
+    requires fits { Fits «module».now analyzed.now }
+{
+    match asked_bounds(alloc, options, module, analyzed)? {
+        Some(bounds) => {
+            let bounds = BoundsText {
+                module,
+                bounds: &bounds,
+            };
+            format!(in alloc; "{bounds}")
+        }
+        None => Ok(String::new(alloc)),
+    }
+}
+
+/// Returns the lines on the resources of a module with this JSON, or an empty text if the options don't ask for them or the module has a
+/// fault besides its control flow.
+fn asked_resources(
+    alloc: Global,
+    options: Options,
+    root: Option<&Value<'_>>,
+    module: &Module,
+    analyzed: &Analyzed,
+) -> Result<String, AllocError>
+    requires { Fits «module».now analyzed.now }
+    ensures { IfOk result (λ text. (j : Json) → IsRootIf options.has_resources j (seen root.entry) →
+        AreLinesAsked options j «module».now analyzed.now (string_bytes text)) }
+{
+    if !options.has_resources {
+        return Ok(String::new(alloc));
+    }
+    match (root, analyzed.sound()) {
+        (Some(root), Some(found)) => {
+            resources_lines(alloc, module, root, found.layouts, found.info)
+        }
+        _ => Ok(String::new(alloc)),
+    }
+}
+
+/// Returns the lines at the end of a text report that the options ask for: those on bounds checks, then those on resources.
+pub fn asked_lines(
+    alloc: Global,
+    options: Options,
+    root: Option<&Value<'_>>,
+    module: &Module,
+    analyzed: &Analyzed,
+) -> Result<String, AllocError>
+    requires are { IsAnalyzed «module».now (settings options) (checks_uniformity options) analyzed.now }
+    requires fits { Fits «module».now analyzed.now }
+    ensures { IfOk result (λ text. (j : Json) → IsRootIf options.has_resources j (seen root.entry) →
+        EndsWithLines options j «module».now analyzed.now (string_bytes text)) }
+{
+    let mut text = bounds_lines(alloc, options, module, analyzed)?;
+    let lines = asked_resources(alloc, options, root, module, analyzed)?;
+    text.push_str(lines.as_str())?;
+    Ok(text)
+}
+
+/// Returns the binding of each global variable, for a text report. JSON has resources as a member of their own.
+///
+/// # Errors
+///
+/// `AllocError` if an allocation fails.
+pub fn bindings_of(
+    alloc: Global,
+    options: Options,
+    root: &Value<'_>,
+    module: &Module,
+) -> Result<Vec<Option<ResourceBinding>>, AllocError>
+    ensures { IfOk result (λ bindings. AreBindings options (value_view root.now) «module».now bindings.items) }
+{
+    if options.is_json {
+        Ok(Vec::new(alloc))
+    } else {
+        Interface(root).bound_first(alloc, module.global_variables.len())
+    }
+}

@@ -1,0 +1,2 @@
+pub mod Analyzed
+pub mod Fitting
