@@ -1,6 +1,6 @@
 -- Facts in a table: a cell for each fact, with the first moment from which it holds.
-use Rattle.std.specs.Prelude.{ℕ, ◌+◌, ◌*◌, Bool, true, false, not, ◌&&◌, ◌||◌, List, [], ◌∷◌, Option, Some, None, if◌then◌else◌, nat_lt}
-use Rattle.std.specs.Prelude.{max}
+use Rattle.std.specs.Prelude.{ℕ, ◌+◌, ◌*◌, Bool, true, false, not, ◌==◌, ◌&&◌, ◌||◌, List, [], ◌∷◌, Option, Some, None, if◌then◌else◌}
+use Rattle.std.specs.Prelude.{max, nat_lt}
 use Rattle.std.specs.Prelude.{slice_index_or, slice_set, IsTrue, ◌↔◌}
 use Rattle.shader_uniformity.specs.Marks.{leads, Marked}
 use Rattle.shader_uniformity.specs.declared.facts.Fact.{Fact}
@@ -49,6 +49,10 @@ cell fact = 16 * number fact + kind fact
 abbrev pub is_from : Option ℕ → ℕ → Bool
 is_from (Some first) t = not (nat_lt t first)
 is_from None t = false
+
+-- the second fact is the first one, or the same at a later moment
+abbrev pub covers : Fact → Fact → Bool
+covers fact needed = (cell fact == cell needed) && not (nat_lt (moment needed) (moment fact))
 
 -- the table has a fact
 abbrev pub holds : List (Option ℕ) → Fact → Bool

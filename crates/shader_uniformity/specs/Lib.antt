@@ -1,7 +1,9 @@
 pub mod Apart
 pub mod Calls
 pub mod Cells
+pub mod Costs
 pub mod Differs
+pub mod Effects
 pub mod Fault
 pub mod Filters
 pub mod Leaves
@@ -14,4 +16,5 @@ pub mod RunWords
 pub mod Together
 pub mod Traces
 pub mod Verdict
+pub mod Ways
 pub mod Words

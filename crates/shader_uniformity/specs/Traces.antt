@@ -1,8 +1,9 @@
 -- How a fact follows from a first one by rules: a trace that goes back from it.
-use Rattle.std.specs.Prelude.{ℕ, List, [], ◌∷◌, Bool, true, false, ◌==◌, ◌&&◌, not, nat_lt, Option, Some, None, slice_get, take}
+use Rattle.std.specs.Prelude.{ℕ, ◌≤◌, List, [], ◌∷◌, true, false, Option, Some, None, slice_get, sum_by, take}
+use Rattle.std.specs.Global.{Vec}
 use Rattle.std.specs.List.{Contains}
 use Rattle.shader_uniformity.specs.Words.{Module, Function, EntryPoint}
-use Rattle.shader_uniformity.specs.Cells.{cell, moment}
+use Rattle.shader_uniformity.specs.Costs.{cost}
 use Rattle.shader_uniformity.specs.Fault.{function_rules, severity}
 use Rattle.shader_uniformity.specs.Marks.{Marked}
 use Rattle.shader_uniformity.specs.declared.facts.BodyLocation.{BodyLocation}
@@ -16,13 +17,21 @@ abbrev pub IsTrace : List Rule → (last : Fact) → List Rule → (first : Fact
 IsTrace rules last [] first = Marked [] first last
 IsTrace rules last (rule ∷ trace) first = Contains rules rule × Marked [] rule.effect last × IsTrace rules rule.cause trace first
 
--- the law of traces: what has one follows from the first fact
+-- a trace, or none if the last fact doesn't follow from the first one
+abbrev pub IsTraceOf : List Rule → (first last : Fact) → Option (Vec Rule) → Type 0
+IsTraceOf rules first last (Some trace) = IsTrace rules last trace.items first
+IsTraceOf rules first last None = Marked rules first last → ⊥
+
+-- no other trace costs less
+abbrev pub IsShortest : List Rule → (first last : Fact) → List Rule → Type 0
+IsShortest rules first last trace = (other : List Rule) → IsTrace rules last other first → sum_by cost trace ≤ sum_by cost other
+
+-- the laws of traces: what has one follows from the first fact, and what follows has one
 abbrev pub TracesAreMarks : Type 0
 TracesAreMarks = (rules trace : List Rule) (last first : Fact) → IsTrace rules last trace first → Marked rules first last
 
--- the second fact is the first one, or the same at a later moment
-abbrev pub covers : Fact → Fact → Bool
-covers fact needed = (cell fact == cell needed) && not (nat_lt (moment needed) (moment fact))
+abbrev pub MarksHaveTraces : Type 0
+MarksHaveTraces = (rules : List Rule) (last first : Fact) → Marked rules first last → (trace : List Rule) × IsTrace rules last trace first
 
 module _ (m : Module) (known : List (List Rule)) where
   -- the rules of a function or entry point of a module, with what is known of the functions before it

@@ -1,6 +1,6 @@
 //! A table of facts: the cell of a fact has the first moment from which it is true.
 ghost use Rattle.std.specs.Prelude.{◌≡◌, ◌<◌, ◌^◌, None, IfOk, length, replicate, slice_index_or};
-ghost use Rattle.shader_uniformity.specs.Cells.{cell, cells_with, holds, is_from, kind, moment, number};
+ghost use Rattle.shader_uniformity.specs.Cells.{cell, cells_with, covers, holds, is_from, kind, moment, number};
 
 use crate::facts::{Fact, Jump, Place};
 use std::alloc::{AllocError, Global};
@@ -82,6 +82,13 @@ pub fn at(table: &[Option<u32>], place: usize) -> Option<u32>
         Some(first) => *first,
         None => None,
     }
+}
+
+/// Checks whether the second fact is the first one, or the same at a later moment.
+pub fn covers(fact: &Fact, needed: &Fact) -> bool
+    ensures { result ≡ covers fact.now needed.now }
+{
+    (cell(fact) == cell(needed)) & !(moment(needed) < moment(fact))
 }
 
 fn is_from(first: Option<u32>, moment: u32) -> bool

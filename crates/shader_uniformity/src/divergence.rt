@@ -86,8 +86,8 @@ fn is_fault(
         function.diagnostic_filter_leaf,
     );
     let rules = function_rules(alloc, module, callees, severe, true, function)?;
-    let reached = reach(alloc, &rules, &Fact::Always)?;
-    Ok(holds(&reached.table, &Fact::Must))
+    let table = reach(alloc, &rules, &Fact::Always)?;
+    Ok(holds(&table, &Fact::Must))
 }
 
 /// Checks for each of some entry points whether it is at fault.

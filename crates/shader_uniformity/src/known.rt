@@ -249,8 +249,8 @@ fn known_by(
 {
     let mut known = Vec::new(alloc);
     for first in firsts {
-        let reached = reach(alloc, rules, first)?;
-        add_ended(&mut known, &reached.table, first, lasts)?;
+        let table = reach(alloc, rules, first)?;
+        add_ended(&mut known, &table, first, lasts)?;
     }
     Ok(known)
 }

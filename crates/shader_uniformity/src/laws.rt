@@ -1,6 +1,6 @@
 //! Laws over the definitions, each the contract of a function that does nothing.
 ghost use Rattle.shader_uniformity.specs.Together.{EmptyCallsRun, EntryPointsStayTogether, FunctionsStayTogether};
-ghost use Rattle.shader_uniformity.specs.Traces.{TracesAreMarks};
+ghost use Rattle.shader_uniformity.specs.Traces.{MarksHaveTraces, TracesAreMarks};
 
 /// States that in every finite lockstep execution of an entry point that isn't at fault, all invocations execute together each statement
 /// that needs all of them, whatever the expressions mean. `I` is the type of the invocations, and `V` that of the values.
@@ -23,4 +23,10 @@ pub fn empty_calls_run<I, V>()
 #[tactic(auto, using(crate::proofs::TraceLemmas::traces_mark))]
 pub fn traces_mark()
     ensures { TracesAreMarks }
+{}
+
+/// States that a fact that follows from another fact has a trace from it.
+#[tactic(auto, using(crate::proofs::TraceLemmas::marks_have_traces))]
+pub fn marks_have_traces()
+    ensures { MarksHaveTraces }
 {}

@@ -5,6 +5,7 @@ mod calls;
 mod cells;
 mod differs;
 mod divergence;
+mod effects;
 mod facts;
 mod filters;
 mod known;
@@ -16,6 +17,7 @@ mod rules;
 mod traces;
 mod verdict;
 mod walk;
+mod ways;
 
 pub use divergence::{Uniformity, find_divergence};
 pub use facts::{BodyLocation, Fact, Jump, Place, Rule};

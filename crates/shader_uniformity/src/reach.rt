@@ -61,8 +61,8 @@ fn pass(
     Ok(changed)
 }
 
-/// Returns a number above the cells of all effects and of the first fact.
-fn width(start: &Fact, rules: &[Rule]) -> usize
+/// Returns a number above the cells of all effects and of a fact.
+pub fn width(start: &Fact, rules: &[Rule]) -> usize
     ensures { result ≡ width start.now rules.now }
 {
     let mut width = cell(start) + 1;
@@ -191,16 +191,7 @@ fn spread(
     Ok(())
 }
 
-/// The facts that follow from a first one.
-#[derive(Drop)]
-pub struct Reached {
-    /// The table of these facts.
-    pub table: Vec<Option<u32>>,
-    /// The numbers of the implications that entered them, in that order.
-    pub order: Vec<u32>,
-}
-
-/// Returns the facts that follow from a first one.
+/// Returns the table of the facts that follow from a first one.
 ///
 /// Applies all implications in the order of the slice, then those that lead backward, then all once more to show that nothing new
 /// follows. No other pass is needed if the implications with causes in one cell are sorted by the causes' moments, as those of a
@@ -209,8 +200,8 @@ pub struct Reached {
 /// # Errors
 ///
 /// `AllocError` if memory runs out, or there are 2^32 implications.
-pub fn reach(alloc: Global, rules: &[Rule], start: &Fact) -> Result<Reached, AllocError>
-    ensures { IfOk result (λ reached. HasMarks rules.now start.now reached.table.items) }
+pub fn reach(alloc: Global, rules: &[Rule], start: &Fact) -> Result<Vec<Option<u32>>, AllocError>
+    ensures { IfOk result (λ table. HasMarks rules.now start.now table.items) }
 {
     let width = width(start, rules);
     let mut table = empty(alloc, width)?;
@@ -221,7 +212,7 @@ pub fn reach(alloc: Global, rules: &[Rule], start: &Fact) -> Result<Reached, All
     for _ in 0..u64::MAX {
         let from = order.len();
         if !pass(&mut table, &mut order, rules)? {
-            return Ok(Reached { table, order });
+            return Ok(table);
         }
         spread(alloc, &mut table, &mut order, from, rules)?;
     }

@@ -1,71 +1,16 @@
 //! Traces from a fact back to a first one: the implications on the way.
-ghost use Rattle.std.specs.Prelude.{◌≡◌, Contains, IfOk, IfSome, slice_get, take, true};
+ghost use Rattle.std.specs.Prelude.{◌≡◌, IfOk, IfSome, slice_get, take};
 ghost use Rattle.std.specs.Option.{option_copied};
 ghost use Rattle.shader_uniformity.specs.Fault.{function_rules, severity};
-ghost use Rattle.shader_uniformity.specs.Traces.{covers, rules_at, rules_of_function, rules_of_point, IsTrace};
+ghost use Rattle.shader_uniformity.specs.Traces.{rules_at, rules_of_function, rules_of_point, IsShortest, IsTraceOf};
 
-use crate::cells::{cell, moment};
 use crate::facts::{BodyLocation, Fact, Rule};
 use crate::filters::is_severe;
 use crate::known::function_rules;
-use crate::reach::reach;
+use crate::ways::shortest_trace;
 use shader_arena::Handle;
 use shader_ir::{Function, Items, Module, mark};
 use std::alloc::{AllocError, Global};
-
-/// Checks whether the second fact is the first one, or the same at a later moment.
-fn covers(fact: &Fact, needed: &Fact) -> bool
-    ensures { result ≡ covers fact.now needed.now }
-{
-    (cell(fact) == cell(needed)) & !(moment(needed) < moment(fact))
-}
-
-/// Returns the implication of this number, if its effect covers the needed fact.
-fn rule_for(rules: &[Rule], number: u32, needed: &Fact) -> Option<Rule>
-    ensures contains { IfSome result (λ rule. Contains rules.now rule) }
-    ensures covers { IfSome result (λ rule. covers rule.effect needed.now ≡ true) }
-{
-    match rules.get(number as usize) {
-        Some(rule) => {
-            if covers(&rule.effect, needed) {
-                Some(*rule)
-            } else {
-                None
-            }
-        }
-        None => None,
-    }
-}
-
-/// Returns a trace from the last fact back by the implications in an order, if it ends at the first fact.
-#[tactic(auto, using(crate::proofs::TraceLemmas::trace_push, crate::proofs::TraceLemmas::trace_end))]
-fn trace_by(
-    alloc: Global,
-    rules: &[Rule],
-    order: &[u32],
-    first: &Fact,
-    last: &Fact,
-) -> Result<Option<Vec<Rule>>, AllocError>
-    ensures { IfOk result (λ found. IfSome found (λ trace. IsTrace rules.now last.now trace.items first.now)) }
-{
-    let mut needed = *last;
-    let mut trace = Vec::new(alloc);
-    for step in 0..order.len() {
-        let number = order[order.len() - 1 - step];
-        match rule_for(rules, number, &needed) {
-            Some(rule) => {
-                trace.push(rule)?;
-                needed = rule.cause;
-            }
-            None => {}
-        }
-    }
-    Ok(if covers(first, &needed) {
-        Some(trace)
-    } else {
-        None
-    })
-}
 
 /// Returns the summaries of the functions before one.
 fn earlier(known: &[Items<Rule>], index: usize) -> &[Items<Rule>]
@@ -148,13 +93,14 @@ fn rules_at(
     }
 }
 
-/// Returns the implications by which the last fact follows from the first one at a location, from the last fact back.
+/// Returns the implications by which the last fact follows from the first one at a location, from the last fact back: the shortest such
+/// trace, where steps in time and from block to block cost nothing. `None` if the last fact doesn't follow from the first one.
 ///
-/// `known` has the summaries that `find_divergence` returns. The trace isn't the shortest one. `None` if no trace is found.
+/// `known` has the summaries that `find_divergence` returns. Of equally short traces, the first by the order of implications is returned.
 ///
 /// # Errors
 ///
-/// `AllocError` if memory runs out.
+/// `AllocError` if memory runs out, or there are 2^32 implications.
 pub fn trace(
     alloc: Global,
     module: &Module,
@@ -163,10 +109,10 @@ pub fn trace(
     first: &Fact,
     last: &Fact,
 ) -> Result<Option<Vec<Rule>>, AllocError>
-    ensures { IfOk result (λ found. IfSome found (λ trace.
-        IsTrace (rules_at «module».now known.now location) last.now trace.items first.now)) }
+    ensures found { IfOk result (λ found. IsTraceOf (rules_at «module».now known.now location) first.now last.now found) }
+    ensures shortest { IfOk result (λ found. IfSome found (λ trace.
+        IsShortest (rules_at «module».now known.now location) first.now last.now trace.items)) }
 {
     let rules = rules_at(alloc, module, known, location)?;
-    let reached = reach(alloc, &rules, first)?;
-    trace_by(alloc, &rules, &reached.order, first, last)
+    shortest_trace(alloc, &rules, first, last)
 }

@@ -19,10 +19,10 @@ loop-first-preserved c =
     let lasts = c.args.lasts.now in
     let known = c.loop-first.known.items in
     let first = c.first-item.result in
-    let P : List Fact → Type 0 = λ v. IsKnown v lasts c.args.rules.now (known ++ flat_map (ending c.in_ok-reached.reached.table.items first) lasts) in
+    let P : List Fact → Type 0 = λ v. IsKnown v lasts c.args.rules.now (known ++ flat_map (ending c.in_ok-table.table.items first) lasts) in
     let Q : List Rule → Type 0 = λ v. IsKnown (take (c.loop-first.first-index + 1) c.args.firsts.now) lasts c.args.rules.now v in
     subst Q (sym (c.in_ok-add_ended.ensures
     ∙ ap (λ (v : List (Option ℕ)). known ++ flat_map (ending v first) lasts) c.deref.ensures.value))
     (subst P (sym (take_more c.args.firsts.now c.loop-first.first-index first c.loop-first-test.true
     ∙ ap (λ (x : Fact). before ++ x ∷ []) (sym c.first-item.is)))
-    (known_more before lasts c.args.rules.now known first c.in_ok-reached.reached.table.items c.loop-first.invariant c.in_ok-reached.ensures))
+    (known_more before lasts c.args.rules.now known first c.in_ok-table.table.items c.loop-first.invariant c.in_ok-table.ensures))
