@@ -158,9 +158,9 @@ class Chosen(unittest.TestCase):
         self.assertEqual({f"{crate}/{name}" for crate, name in edits if choice.takes(crate, name)}, choice.always)
 
     def test_since(self):
-        """Finds the newest commit that is a day older, and none in a shorter history."""
-        day = 24 * 60 * 60
-        rows = [f"a {9 * day}", f"b {8 * day + 1}", f"c {8 * day}", f"d {7 * day}"]
+        """Finds the newest commit that is half a day older, and none in a shorter history."""
+        half = 12 * 60 * 60
+        rows = [f"a {9 * half}", f"b {8 * half + 1}", f"c {8 * half}", f"d {7 * half}"]
         self.assertEqual((commit_before(rows), commit_before(rows[:2])), ("c", None))
 
     def test_comments(self):

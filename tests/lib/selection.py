@@ -1,7 +1,7 @@
 """Chooses which mutants of crates/*/mutants a run tries, by the history of the commit.
 
-A run tries all mutants of a crate whose src/ or specs/ changed, otherwise than in comments, since the newest commit that is a day older
-than HEAD, and each mutant that changed itself; one that only moved within its crate hasn't changed. It tries the mutants in
+A run tries all mutants of a crate whose src/ or specs/ changed, otherwise than in comments, since the newest commit that is half a day
+older than HEAD, and each mutant that changed itself; one that only moved within its crate hasn't changed. It tries the mutants in
 tests/data/mutants_always.txt. The mutants of a crate are tried together, since each check first reads everything below it. Without a
 history, as in a copy without .git, nothing says what changed, and the run tries those of the list.
 """
@@ -11,7 +11,8 @@ import subprocess
 from crates import TOP
 
 ALWAYS = TOP / "tests/data/mutants_always.txt"
-LATELY = 24 * 60 * 60
+# Longer than the work on one change. A change that lands has its own mutants tried then, so a longer time tries them again.
+LATELY = 12 * 60 * 60
 SOURCE = re.compile(r"crates/(\w+)/(?:src|specs)/")
 EDIT = re.compile(r"crates/(\w+)/mutants/(\w+)\.edit$")
 MOVED = re.compile(r"R100\tcrates/(\w+)/\S*\tcrates/\1/")
@@ -92,5 +93,5 @@ class Choice:
             return f"all of {', '.join(sorted(self.crates))}" if self.crates else "all"
         listed = f"{len(self.always)} that every run tries"
         if not self.since:
-            return f"{listed}, as no history of a day says what changed"
+            return f"{listed}, as no history of half a day says what changed"
         return f"{listed}, and those changed since {self.since[:9]}; crates changed since: {', '.join(sorted(self.changed)) or 'none'}"
