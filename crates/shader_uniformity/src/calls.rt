@@ -33,7 +33,7 @@ fn argument_at(
 }
 
 /// Returns the caller's fact that makes this fact true when the called function begins.
-fn cause_of(site: &CallSite<'_>, fact: &Fact) -> Fact
+pub fn cause_of(site: &CallSite<'_>, fact: &Fact) -> Fact
     ensures { result ≡ cause_of site.now.places.now site.now.position site.now.around site.now.arguments.now site.now.result fact.now }
 {
     match fact {
@@ -68,7 +68,7 @@ fn add_gives(
 }
 
 /// Adds the effect of a fact that the cause makes true when the called function ends.
-fn add_effect(
+pub fn add_effect(
     rules: &mut Vec<Rule>,
     site: &CallSite<'_>,
     cause: Fact,

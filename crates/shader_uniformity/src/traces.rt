@@ -24,7 +24,7 @@ fn earlier(known: &[Items<Rule>], index: usize) -> &[Items<Rule>]
 }
 
 /// Returns the function at a number, if there is one.
-fn function_at(module: &Module, index: usize) -> Option<&Function>
+pub fn function_at(module: &Module, index: usize) -> Option<&Function>
     ensures { option_copied result ≡ slice_get «module».now.functions index }
 {
     if index < module.functions.len() {
@@ -79,7 +79,11 @@ fn rules_of_point(
 }
 
 /// Returns the implications of the function or entry point at a location, or none if the module has no such location.
-fn rules_at(
+///
+/// # Errors
+///
+/// `AllocError` if memory runs out, or there are 2^32 positions.
+pub fn rules_at(
     alloc: Global,
     module: &Module,
     known: &[Items<Rule>],

@@ -1,0 +1,5 @@
+pub mod CalleeLemmas
+pub mod CallerLemmas
+pub mod ChainLemmas
+pub mod OriginLemmas
+pub mod PassLemmas

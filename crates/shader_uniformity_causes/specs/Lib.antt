@@ -1,0 +1,4 @@
+pub mod Callers
+pub mod Chains
+pub mod Origins
+pub mod Ways

@@ -1,0 +1,4 @@
+pub mod BodyLemmas
+pub mod FollowLemmas
+pub mod NoteLemmas
+pub mod SearchLemmas
