@@ -1,0 +1,56 @@
+-- Places in a module as JSON.
+use Rattle.std.specs.Prelude.{ℕ, List, ◌∷◌, ◌++◌, Option, Some, None, codes}
+use Rattle.json.specs.Token.{Token, key}
+use Rattle.report_json.specs.Tokens.{number_tokens, object, optional_tokens, text_tokens, variant}
+use Rattle.report_diagnostics.specs.Members.{optional_member}
+use Rattle.report_diagnostics.specs.declared.location.BodyPlace.{BodyPlace}
+use Rattle.report_diagnostics.specs.declared.location.BodyPlace.TheVariants as body
+use Rattle.report_diagnostics.specs.declared.location.Location.{Location}
+
+unfoldable pub body_tokens : BodyPlace → List Token
+body_tokens (body.ConstExpression i) = variant (codes "ConstExpression") (number_tokens i)
+body_tokens (body.Function i) = variant (codes "Function") (number_tokens i)
+body_tokens (body.EntryPoint i) = variant (codes "EntryPoint") (number_tokens i)
+
+-- where it is in a function
+abbrev pub function_members : Location → List Token
+function_members location =
+    key (codes "body") ∷ optional_tokens body_tokens location.body
+    ++ (optional_member text_tokens (codes "name") location.name
+    ++ (optional_member text_tokens (codes "statement") location.statement
+    ++ optional_member number_tokens (codes "expression") location.expression))
+
+-- where it is in the module
+abbrev pub module_members : Location → List Token
+module_members location =
+    optional_member number_tokens (codes "argument") location.argument
+    ++ (optional_member number_tokens (codes "type") location.ty
+    ++ optional_member text_tokens (codes "pointer") location.pointer)
+
+-- where it is in the text
+abbrev pub text_members : Location → List Token
+text_members location =
+    optional_member text_tokens (codes "path") location.path
+    ++ (optional_member number_tokens (codes "line") location.line
+    ++ (optional_member number_tokens (codes "column") location.column
+    ++ optional_member number_tokens (codes "byte") location.byte))
+
+unfoldable pub location_tokens : Location → List Token
+location_tokens location = object (function_members location ++ (module_members location ++ text_members location))
+
+-- a place that is known in the module, and not in its text
+abbrev pub within_module : Option BodyPlace → (name statement : Option (List ℕ)) → (expression ty : Option ℕ) → (pointer : List ℕ) →
+    Location
+within_module body name statement expression ty pointer = record {
+  body = body;
+  name = name;
+  statement = statement;
+  expression = expression;
+  argument = None;
+  ty = ty;
+  pointer = Some pointer;
+  path = None;
+  line = None;
+  column = None;
+  byte = None;
+}

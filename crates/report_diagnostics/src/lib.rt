@@ -1,0 +1,22 @@
+//! Diagnostics, with their codes and places, and the head of an answer as JSON.
+#![tactic(auto)]
+
+mod body_codes;
+mod codes;
+mod diagnostic;
+mod facts;
+mod head;
+mod location;
+mod members;
+mod module_codes;
+mod text;
+
+pub use body_codes::{FlowCode, ResourceCode, TypeCode};
+pub use codes::Code;
+pub use diagnostic::{Diagnostic, Related, Severity};
+pub use facts::{Fact, FactValue, Facts};
+pub use head::{VERSION, Verdict, write_head};
+pub use location::{BodyPlace, Location};
+pub use members::{OptionalMember, Word};
+pub use module_codes::{InputCode, LayoutCode, ModuleCode};
+pub use text::Text;

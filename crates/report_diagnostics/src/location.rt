@@ -1,0 +1,118 @@
+//! Places in a module and in its JSON.
+ghost use Rattle.std.specs.Prelude.{◌≡◌};
+ghost use Rattle.report_diagnostics.specs.Locations.{body_tokens, location_tokens, within_module};
+
+use crate::members::OptionalMember;
+use crate::text::Text;
+use json::Writer;
+use report_json::{Member, WriteJson, write_object, write_variant};
+use shader_arena::Handle;
+use shader_ir::mark;
+use std::alloc::{AllocError, Global};
+
+/// A function, an entry point or a global expression, by its number among those of its kind.
+#[derive(Clone, Copy, Debug, PartialEq, Eq)]
+pub enum BodyPlace {
+    /// A global expression.
+    ConstExpression(usize),
+    /// A function that may be called.
+    Function(usize),
+    /// An entry point.
+    EntryPoint(usize),
+}
+
+/// Where a diagnostic stands: in a module, in the JSON that is read, or in both.
+#[derive(Debug, Drop)]
+pub struct Location {
+    /// The function, entry point or global expression.
+    pub body: Option<BodyPlace>,
+    /// The name of the function or entry point.
+    pub name: Option<Text>,
+    /// The way to a statement from the JSON object of its function, as `body[2].If.accept[0]`.
+    pub statement: Option<Text>,
+    /// The expression.
+    pub expression: Option<Handle<mark::Expression>>,
+    /// The number of the argument.
+    pub argument: Option<u32>,
+    /// The type.
+    pub ty: Option<Handle<mark::Type>>,
+    /// The JSON pointer (RFC 6901) from the module to the most precise of these.
+    pub pointer: Option<Text>,
+    /// The way to a value in the JSON, as `entry_points[0].stage`.
+    pub path: Option<Text>,
+    /// The line of that value, from 1.
+    pub line: Option<usize>,
+    /// The column in that line, from 1, in characters.
+    pub column: Option<usize>,
+    /// The byte of the input, from 0.
+    pub byte: Option<usize>,
+}
+
+impl Location {
+    /// Returns a place that is known in the module, and not in its text.
+    pub fn within_module(
+        body: Option<BodyPlace>,
+        name: Option<Text>,
+        statement: Option<Text>,
+        expression: Option<Handle<mark::Expression>>,
+        ty: Option<Handle<mark::Type>>,
+        pointer: Text,
+    ) -> Location
+        ensures { result ≡ within_module body name statement expression ty pointer }
+    {
+        Location {
+            body,
+            name,
+            statement,
+            expression,
+            argument: None,
+            ty,
+            pointer: Some(pointer),
+            path: None,
+            line: None,
+            column: None,
+            byte: None,
+        }
+    }
+}
+
+impl WriteJson for BodyPlace {
+    ghost tokens = { λ place. body_tokens place };
+
+    #[tactic(auto, unfolding(crate::specs::Locations::body_tokens))]
+    fn write_json(&self, alloc: Global, writer: &mut Writer) -> Result<(), AllocError> {
+        match self {
+            BodyPlace::ConstExpression(index) => {
+                write_variant(alloc, writer, "ConstExpression", index)
+            }
+            BodyPlace::Function(index) => write_variant(alloc, writer, "Function", index),
+            BodyPlace::EntryPoint(index) => write_variant(alloc, writer, "EntryPoint", index),
+        }
+    }
+}
+
+impl WriteJson for Location {
+    ghost tokens = { λ location. location_tokens location };
+
+    #[tactic(auto, unfolding(crate::specs::Locations::location_tokens))]
+    fn write_json(&self, alloc: Global, writer: &mut Writer) -> Result<(), AllocError> {
+        let in_function = (
+            Member("body", &self.body),
+            OptionalMember("name", &self.name),
+            OptionalMember("statement", &self.statement),
+            OptionalMember("expression", &self.expression),
+        );
+        let in_module = (
+            OptionalMember("argument", &self.argument),
+            OptionalMember("type", &self.ty),
+            OptionalMember("pointer", &self.pointer),
+        );
+        let in_text = (
+            OptionalMember("path", &self.path),
+            OptionalMember("line", &self.line),
+            OptionalMember("column", &self.column),
+            OptionalMember("byte", &self.byte),
+        );
+        write_object(alloc, writer, &(in_function, in_module, in_text))
+    }
+}

@@ -1,0 +1,3 @@
+mod AcceptedLemmas
+mod CollectLemmas
+mod WayLemmas

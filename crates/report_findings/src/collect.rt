@@ -1,0 +1,213 @@
+//! The diagnostics of a module.
+ghost use Rattle.std.specs.Prelude.{◌≡◌, [], ◌∷◌, IfOk, OnOk, option_to_list};
+ghost use Rattle.report_findings.specs.Collected.{AddsEach, AddsFlow, AddsViolations, AreAnalysisDiagnostics, AreDiagnostics};
+ghost use Rattle.report_findings.specs.Collected.{HasNoneIfAccepted};
+ghost use Rattle.report_findings.specs.Flow.{IsFlowDiagnostic};
+ghost use Rattle.report_findings.specs.ModuleFaults.{IsFaultDiagnostic};
+ghost use Rattle.shader_uniformity_causes.specs.Callers.{AreCallers};
+ghost use Rattle.report_findings.specs.Refusals.{IsLayoutDiagnostic, IsRefusalDiagnostic};
+
+use crate::flow::flow_diagnostic;
+use crate::module_faults::fault_diagnostic;
+use crate::refusals::{layout_diagnostic, refusal_diagnostic};
+use crate::related::{Causes, causes_of_need};
+use report_diagnostics::Diagnostic;
+use report_model::{Analysis, Analyzed};
+use shader_info::AnalysisError;
+use shader_ir::proc::LayoutError;
+use shader_ir::{Items, Module};
+use shader_resolve::FaultAt;
+use shader_uniformity::{Rule, Uniformity};
+use shader_uniformity_causes::{PassedBy, find_callers};
+use shader_uniformity_needs::{Violation, find_violations};
+use std::alloc::{AllocError, Global};
+
+/// Adds the diagnostic of a module that isn't well formed.
+fn add_fault(
+    alloc: Global,
+    module: &Module,
+    diagnostics: &mut Vec<Diagnostic>,
+    found: &FaultAt,
+) -> Result<(), AllocError>
+    ensures { OnOk result (AddsEach (IsFaultDiagnostic «module».now) (found.now ∷ []) diagnostics.old.items diagnostics.new.items) }
+{
+    let diagnostic = fault_diagnostic(alloc, module, found)?;
+    diagnostics.push(diagnostic)?;
+    Ok(())
+}
+
+/// Adds the diagnostic of a type without a layout, if there is one.
+fn add_layout(
+    alloc: Global,
+    diagnostics: &mut Vec<Diagnostic>,
+    error: &Option<LayoutError>,
+) -> Result<(), AllocError>
+    ensures { OnOk result (AddsEach IsLayoutDiagnostic (option_to_list error.now) diagnostics.old.items diagnostics.new.items) }
+{
+    match error {
+        Some(error) => {
+            let diagnostic = layout_diagnostic(alloc, error)?;
+            diagnostics.push(diagnostic)?;
+            Ok(())
+        }
+        None => Ok(()),
+    }
+}
+
+/// Adds the diagnostic of a refusal.
+fn add_refusal(
+    alloc: Global,
+    module: &Module,
+    diagnostics: &mut Vec<Diagnostic>,
+    refusal: &AnalysisError,
+) -> Result<(), AllocError>
+    ensures { OnOk result (AddsEach (IsRefusalDiagnostic «module».now) (refusal.now ∷ []) diagnostics.old.items diagnostics.new.items) }
+{
+    let diagnostic = refusal_diagnostic(alloc, module, refusal)?;
+    diagnostics.push(diagnostic)?;
+    Ok(())
+}
+
+/// Returns a diagnostic with its causes.
+fn with_causes(diagnostic: Diagnostic, causes: Causes) -> Diagnostic
+    ensures code { result.code ≡ diagnostic.code }
+    ensures severity { result.severity ≡ diagnostic.severity }
+    ensures location { result.location ≡ diagnostic.location }
+{
+    Diagnostic {
+        related: causes.related,
+        omitted: causes.omitted,
+        ..diagnostic
+    }
+}
+
+/// Returns the diagnostic of a violated need, with its causes.
+fn explained(
+    alloc: Global,
+    module: &Module,
+    known: &[Items<Rule>],
+    callers: &[Vec<PassedBy>],
+    violation: &Violation,
+) -> Result<Diagnostic, AllocError>
+    requires { AreCallers «module».now known.now callers.now }
+    ensures { IfOk result (IsFlowDiagnostic «module».now violation.now) }
+{
+    let causes = causes_of_need(alloc, module, known, callers, violation)?;
+    let diagnostic = flow_diagnostic(alloc, module, violation)?;
+    Ok(with_causes(diagnostic, causes))
+}
+
+/// Adds the diagnostics of violated needs, each with its causes. `callers` are those of the functions, which are known by these rules.
+fn add_each(
+    alloc: Global,
+    module: &Module,
+    diagnostics: &mut Vec<Diagnostic>,
+    known: &[Items<Rule>],
+    callers: &[Vec<PassedBy>],
+    violations: &[Violation],
+) -> Result<(), AllocError>
+    requires { AreCallers «module».now known.now callers.now }
+    ensures { OnOk result (AddsEach (IsFlowDiagnostic «module».now) violations.now diagnostics.old.items diagnostics.new.items) }
+{
+    for violation in violations {
+        let diagnostic = explained(alloc, module, known, callers, violation)?;
+        diagnostics.push(diagnostic)?;
+    }
+    Ok(())
+}
+
+/// Adds a diagnostic for each violated need, where functions are known by these rules.
+fn add_violations(
+    alloc: Global,
+    module: &Module,
+    diagnostics: &mut Vec<Diagnostic>,
+    known: &[Items<Rule>],
+) -> Result<(), AllocError>
+    ensures { OnOk result (AddsViolations «module».now known.now diagnostics.old.items diagnostics.new.items) }
+{
+    let violations = find_violations(alloc, module, known)?;
+    let callers = find_callers(alloc, module, known)?;
+    add_each(
+        alloc,
+        module,
+        diagnostics,
+        known,
+        &callers,
+        violations.as_slice(),
+    )?;
+    Ok(())
+}
+
+/// Adds a diagnostic for each violated need, if control flow is refused.
+fn add_flow(
+    alloc: Global,
+    module: &Module,
+    diagnostics: &mut Vec<Diagnostic>,
+    uniformity: &Option<Uniformity>,
+) -> Result<(), AllocError>
+    ensures { OnOk result (AddsFlow «module».now uniformity.now diagnostics.old.items diagnostics.new.items) }
+{
+    match uniformity {
+        Some(found) => match found.fault {
+            Some(_) => add_violations(alloc, module, diagnostics, found.functions.as_slice()),
+            None => Ok(()),
+        },
+        None => Ok(()),
+    }
+}
+
+/// Returns the diagnostics of a well-formed module.
+fn analysis_diagnostics(
+    alloc: Global,
+    module: &Module,
+    analysis: &Analysis,
+) -> Result<Vec<Diagnostic>, AllocError>
+    ensures { IfOk result (λ diagnostics. AreAnalysisDiagnostics «module».now analysis.now diagnostics.items) }
+{
+    let mut diagnostics = Vec::new(alloc);
+    add_layout(alloc, &mut diagnostics, &analysis.layout_error)?;
+    if let Err(refusal) = &analysis.info {
+        add_refusal(alloc, module, &mut diagnostics, refusal)?;
+    }
+    add_flow(alloc, module, &mut diagnostics, &analysis.uniformity)?;
+    Ok(diagnostics)
+}
+
+/// Returns the diagnostics of a module.
+fn list_diagnostics(
+    alloc: Global,
+    module: &Module,
+    found: &Analyzed,
+) -> Result<Vec<Diagnostic>, AllocError>
+    ensures { IfOk result (λ diagnostics. AreDiagnostics «module».now found.now diagnostics.items) }
+{
+    match found {
+        Analyzed::Fault(fault) => {
+            let mut diagnostics = Vec::new(alloc);
+            add_fault(alloc, module, &mut diagnostics, fault)?;
+            Ok(diagnostics)
+        }
+        Analyzed::WellFormed(analysis) => analysis_diagnostics(alloc, module, analysis),
+    }
+}
+
+/// Returns what is wrong with a module, in the order in which it was checked: a fault of a module that isn't well formed; or else the first
+/// type without a layout, the refused expression, and each violated need of uniform control flow in the order of the module. An accepted
+/// module has no diagnostics.
+///
+/// # Errors
+///
+/// `AllocError` if an allocation fails, or a function has 2^32 statements. Also if the refusal of the analysis is an allocation failure,
+/// which that of `analyze` never is.
+#[tactic(auto, using(crate::proofs::AcceptedLemmas::accepted_none))]
+pub fn diagnostics_of(
+    alloc: Global,
+    module: &Module,
+    found: &Analyzed,
+) -> Result<Vec<Diagnostic>, AllocError>
+    ensures diagnostics { IfOk result (λ diagnostics. AreDiagnostics «module».now found.now diagnostics.items) }
+    ensures accepted { IfOk result (λ diagnostics. HasNoneIfAccepted «module».now found.now diagnostics.items) }
+{
+    let diagnostics = list_diagnostics(alloc, module, found)?;
+    Ok(diagnostics)
+}

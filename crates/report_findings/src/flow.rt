@@ -1,0 +1,104 @@
+//! Diagnostics of violated needs of uniform control flow.
+ghost use Rattle.std.specs.Prelude.{◌≡◌, IfOk};
+ghost use Rattle.std.specs.Option.{option_map};
+ghost use Rattle.report_findings.specs.Flow.{IsFlowDiagnostic, flow_code, need_location, need_pointer, place_of_body};
+
+use crate::paths::{StatementAt, Wanted};
+use crate::pointers::{body_pointer, expression_pointer, statement_pointer};
+use crate::sites::{name_at, statement_at, way_text};
+use crate::words::need_message;
+use report_diagnostics::{BodyPlace, Code, Diagnostic, FlowCode, Location, Text};
+use shader_arena::Handle;
+use shader_ir::{Module, mark};
+use shader_uniformity::BodyLocation;
+use shader_uniformity_needs::{Need, NeedKind, Violation};
+use std::alloc::{AllocError, Global};
+
+/// Returns the code of a need.
+fn flow_code(kind: NeedKind) -> FlowCode
+    ensures { result ≡ flow_code kind }
+{
+    match kind {
+        NeedKind::Derivative => FlowCode::Derivative,
+        NeedKind::ImplicitLevel => FlowCode::ImplicitLevel,
+        NeedKind::Barrier => FlowCode::Barrier,
+        NeedKind::MemoryBarrier => FlowCode::MemoryBarrier,
+        NeedKind::UniformLoad => FlowCode::UniformLoad,
+        NeedKind::CooperativeOperation => FlowCode::CooperativeOperation,
+    }
+}
+
+/// Returns a function or an entry point as a place.
+pub fn place_of_body(location: BodyLocation) -> BodyPlace
+    ensures { result ≡ place_of_body location }
+{
+    match location {
+        BodyLocation::Function(index) => BodyPlace::Function(index),
+        BodyLocation::EntryPoint(index) => BodyPlace::EntryPoint(index),
+    }
+}
+
+/// Returns the pointer to the expression that has a need, or else to the statement.
+fn need_pointer(
+    alloc: Global,
+    place: &BodyPlace,
+    expression: Option<Handle<mark::Expression>>,
+    found: &Option<StatementAt<'_>>,
+) -> Result<Text, AllocError>
+    ensures { IfOk result (λ text. text ≡ need_pointer place.now expression (option_map (λ at. at.way.items) found.now)) }
+{
+    let text = match expression {
+        Some(expression) => expression_pointer(alloc, place, expression.index())?,
+        None => match found {
+            Some(at) => statement_pointer(alloc, place, &at.way)?,
+            None => body_pointer(alloc, place)?,
+        },
+    };
+    Ok(Text::from(text))
+}
+
+/// Returns the place of a need, whose statement was found.
+fn need_location(
+    alloc: Global,
+    module: &Module,
+    place: &BodyPlace,
+    need: &Need,
+    found: &Option<StatementAt<'_>>,
+) -> Result<Location, AllocError>
+    ensures { IfOk result (λ location. location
+        ≡ need_location «module».now place.now need.now (option_map (λ at. at.way.items) found.now)) }
+{
+    let statement = way_text(alloc, found)?;
+    let name = name_at(alloc, module, place)?;
+    let pointer = need_pointer(alloc, place, need.expression, found)?;
+    Ok(Location::within_module(
+        Some(*place),
+        name,
+        statement,
+        need.expression,
+        None,
+        pointer,
+    ))
+}
+
+/// Returns the diagnostic of a violated need.
+///
+/// # Errors
+///
+/// `AllocError` if an allocation fails.
+pub fn flow_diagnostic(
+    alloc: Global,
+    module: &Module,
+    violation: &Violation,
+) -> Result<Diagnostic, AllocError>
+    ensures { IfOk result (IsFlowDiagnostic «module».now violation.now) }
+{
+    let place = place_of_body(violation.place);
+    let need = &violation.need;
+    let wanted = Wanted::At(need.position);
+    let found = statement_at(alloc, module, &place, &wanted)?;
+    let location = need_location(alloc, module, &place, need, &found)?;
+    let message = need_message(alloc, module, &place, need, &found)?;
+    let code = Code::Flow(flow_code(need.kind));
+    Ok(Diagnostic::error(alloc, code, message, location))
+}
