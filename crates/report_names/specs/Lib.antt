@@ -1,0 +1,9 @@
+pub mod Builtins
+pub mod Images
+pub mod Items
+pub mod Literals
+pub mod Names
+pub mod Operators
+pub mod Scalars
+pub mod Statements
+pub mod Types
