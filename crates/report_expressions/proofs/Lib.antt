@@ -1,0 +1,4 @@
+pub mod SaidLemmas
+pub mod ReachLemmas
+pub mod MakerLemmas
+pub mod TextLemmas
