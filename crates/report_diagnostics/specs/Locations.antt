@@ -1,23 +1,19 @@
--- Places in a module as JSON.
+-- The places of diagnostics as JSON.
 use Rattle.std.specs.Prelude.{ℕ, List, ◌∷◌, ◌++◌, Option, Some, None, codes}
 use Rattle.json.specs.Token.{Token, key}
-use Rattle.report_json.specs.Tokens.{number_tokens, object, optional_tokens, text_tokens, variant}
+use Rattle.report_json.specs.Tokens.{number_tokens, object, optional_tokens, text_tokens}
+use Rattle.report_places.specs.Tokens.{body_tokens, path_tokens}
+use Rattle.report_places.specs.declared.body_place.BodyPlace.{BodyPlace}
+use Rattle.report_places.specs.declared.paths.StatementPath.{StatementPath}
 use Rattle.report_diagnostics.specs.Members.{optional_member}
-use Rattle.report_diagnostics.specs.declared.location.BodyPlace.{BodyPlace}
-use Rattle.report_diagnostics.specs.declared.location.BodyPlace.TheVariants as body
 use Rattle.report_diagnostics.specs.declared.location.Location.{Location}
-
-unfoldable pub body_tokens : BodyPlace → List Token
-body_tokens (body.ConstExpression i) = variant (codes "ConstExpression") (number_tokens i)
-body_tokens (body.Function i) = variant (codes "Function") (number_tokens i)
-body_tokens (body.EntryPoint i) = variant (codes "EntryPoint") (number_tokens i)
 
 -- where it is in a function
 abbrev pub function_members : Location → List Token
 function_members location =
     key (codes "body") ∷ optional_tokens body_tokens location.body
     ++ (optional_member text_tokens (codes "name") location.name
-    ++ (optional_member text_tokens (codes "statement") location.statement
+    ++ (optional_member path_tokens (codes "statement") location.statement
     ++ optional_member number_tokens (codes "expression") location.expression))
 
 -- where it is in the module
@@ -39,8 +35,8 @@ unfoldable pub location_tokens : Location → List Token
 location_tokens location = object (function_members location ++ (module_members location ++ text_members location))
 
 -- a place that is known in the module, and not in its text
-abbrev pub within_module : Option BodyPlace → (name statement : Option (List ℕ)) → (expression ty : Option ℕ) → (pointer : List ℕ) →
-    Location
+abbrev pub within_module : Option BodyPlace → (name : Option (List ℕ)) → Option StatementPath → (expression ty : Option ℕ) →
+    (pointer : List ℕ) → Location
 within_module body name statement expression ty pointer = record {
   body = body;
   name = name;

@@ -16,7 +16,7 @@ pub use codes::Code;
 pub use diagnostic::{Diagnostic, Related, Severity};
 pub use facts::{Fact, FactValue, Facts};
 pub use head::{VERSION, Verdict, write_head};
-pub use location::{BodyPlace, Location};
+pub use location::Location;
 pub use members::{OptionalMember, Word};
 pub use module_codes::{InputCode, LayoutCode, ModuleCode};
 pub use text::Text;

@@ -1,25 +1,15 @@
 //! Places in a module and in its JSON.
 ghost use Rattle.std.specs.Prelude.{◌≡◌};
-ghost use Rattle.report_diagnostics.specs.Locations.{body_tokens, location_tokens, within_module};
+ghost use Rattle.report_diagnostics.specs.Locations.{location_tokens, within_module};
 
 use crate::members::OptionalMember;
 use crate::text::Text;
 use json::Writer;
-use report_json::{Member, WriteJson, write_object, write_variant};
+use report_json::{Member, WriteJson, write_object};
+use report_places::{BodyPlace, StatementPath};
 use shader_arena::Handle;
 use shader_ir::mark;
 use std::alloc::{AllocError, Global};
-
-/// A function, an entry point or a global expression, by its number among those of its kind.
-#[derive(Clone, Copy, Debug, PartialEq, Eq)]
-pub enum BodyPlace {
-    /// A global expression.
-    ConstExpression(usize),
-    /// A function that may be called.
-    Function(usize),
-    /// An entry point.
-    EntryPoint(usize),
-}
 
 /// Where a diagnostic stands: in a module, in the JSON that is read, or in both.
 #[derive(Debug, Drop)]
@@ -28,8 +18,8 @@ pub struct Location {
     pub body: Option<BodyPlace>,
     /// The name of the function or entry point.
     pub name: Option<Text>,
-    /// The way to a statement from the JSON object of its function, as `body[2].If.accept[0]`.
-    pub statement: Option<Text>,
+    /// The way from the function to a statement.
+    pub statement: Option<StatementPath>,
     /// The expression.
     pub expression: Option<Handle<mark::Expression>>,
     /// The number of the argument.
@@ -53,7 +43,7 @@ impl Location {
     pub fn within_module(
         body: Option<BodyPlace>,
         name: Option<Text>,
-        statement: Option<Text>,
+        statement: Option<StatementPath>,
         expression: Option<Handle<mark::Expression>>,
         ty: Option<Handle<mark::Type>>,
         pointer: Text,
@@ -72,21 +62,6 @@ impl Location {
             line: None,
             column: None,
             byte: None,
-        }
-    }
-}
-
-impl WriteJson for BodyPlace {
-    ghost tokens = { λ place. body_tokens place };
-
-    #[tactic(auto, unfolding(crate::specs::Locations::body_tokens))]
-    fn write_json(&self, alloc: Global, writer: &mut Writer) -> Result<(), AllocError> {
-        match self {
-            BodyPlace::ConstExpression(index) => {
-                write_variant(alloc, writer, "ConstExpression", index)
-            }
-            BodyPlace::Function(index) => write_variant(alloc, writer, "Function", index),
-            BodyPlace::EntryPoint(index) => write_variant(alloc, writer, "EntryPoint", index),
         }
     }
 }

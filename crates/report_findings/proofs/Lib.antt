@@ -1,3 +1,2 @@
 mod AcceptedLemmas
 mod CollectLemmas
-mod WayLemmas

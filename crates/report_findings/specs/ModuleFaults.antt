@@ -6,14 +6,14 @@ use Rattle.shader_resolve.specs.declared.well_formed.ModuleFault.TheVariants as 
 use Rattle.shader_resolve.specs.declared.well_formed.locations.FaultAt.{FaultAt}
 use Rattle.shader_resolve.specs.declared.well_formed.locations.ModuleLocation.{ModuleLocation}
 use Rattle.shader_resolve.specs.declared.well_formed.locations.ModuleLocation.TheVariants as at
+use Rattle.report_places.specs.Pointers.{body_pointer, expression_pointer, item_pointer}
+use Rattle.report_places.specs.Sites.{named_at}
+use Rattle.report_places.specs.declared.body_place.BodyPlace.{BodyPlace}
+use Rattle.report_places.specs.declared.body_place.BodyPlace.TheVariants as body
 use Rattle.report_diagnostics.specs.Diagnostics.{IsError}
 use Rattle.report_diagnostics.specs.Locations.{within_module}
-use Rattle.report_findings.specs.Pointers.{body_pointer, expression_pointer, item_pointer}
-use Rattle.report_findings.specs.Sites.{named_at}
 use Rattle.report_diagnostics.specs.declared.codes.Code.TheVariants as of
 use Rattle.report_diagnostics.specs.declared.diagnostic.Diagnostic.{Diagnostic}
-use Rattle.report_diagnostics.specs.declared.location.BodyPlace.{BodyPlace}
-use Rattle.report_diagnostics.specs.declared.location.BodyPlace.TheVariants as body
 use Rattle.report_diagnostics.specs.declared.location.Location.{Location}
 use Rattle.report_diagnostics.specs.declared.module_codes.ModuleCode.{ModuleCode}
 use Rattle.report_diagnostics.specs.declared.module_codes.ModuleCode.TheVariants as code

@@ -18,9 +18,11 @@ use Rattle.shader_ir.specs.declared.proc.layouter.LayoutErrorInner.TheVariants.{
 use Rattle.shader_ir.specs.declared.proc.layouter.LayoutErrorInner.TheVariants as layout
 use Rattle.shader_resolve.specs.declared.error.ResolveError.{ResolveError}
 use Rattle.shader_resolve.specs.declared.error.ResolveError.TheVariants as error
+use Rattle.report_places.specs.Pointers.{item_pointer}
+use Rattle.report_places.specs.declared.body_place.BodyPlace.{BodyPlace}
+use Rattle.report_places.specs.declared.body_place.BodyPlace.TheVariants as body
 use Rattle.report_diagnostics.specs.Diagnostics.{IsError}
 use Rattle.report_diagnostics.specs.Locations.{within_module}
-use Rattle.report_findings.specs.Pointers.{item_pointer}
 use Rattle.report_findings.specs.Sites.{expression_location}
 use Rattle.report_diagnostics.specs.declared.body_codes.FlowCode.{FlowCode}
 use Rattle.report_diagnostics.specs.declared.body_codes.FlowCode.TheVariants as flow
@@ -31,8 +33,6 @@ use Rattle.report_diagnostics.specs.declared.body_codes.TypeCode.TheVariants as 
 use Rattle.report_diagnostics.specs.declared.codes.Code.{Code}
 use Rattle.report_diagnostics.specs.declared.codes.Code.TheVariants as of
 use Rattle.report_diagnostics.specs.declared.diagnostic.Diagnostic.{Diagnostic}
-use Rattle.report_diagnostics.specs.declared.location.BodyPlace.{BodyPlace}
-use Rattle.report_diagnostics.specs.declared.location.BodyPlace.TheVariants as body
 use Rattle.report_diagnostics.specs.declared.location.Location.{Location}
 use Rattle.report_diagnostics.specs.declared.module_codes.LayoutCode.TheVariants.{OddWidth, TooLarge}
 use Rattle.report_diagnostics.specs.declared.module_codes.ModuleCode.TheVariants.{TypeNotEarlier}

@@ -7,10 +7,12 @@ ghost use Rattle.report_findings.specs.ModuleFaults.{IsFaultDiagnostic};
 ghost use Rattle.shader_uniformity_causes.specs.Callers.{AreCallers};
 ghost use Rattle.report_findings.specs.Refusals.{IsLayoutDiagnostic, IsRefusalDiagnostic};
 
+use crate::advice::advised;
 use crate::flow::flow_diagnostic;
+use crate::help::need_help;
 use crate::module_faults::fault_diagnostic;
 use crate::refusals::{layout_diagnostic, refusal_diagnostic};
-use crate::related::{Causes, causes_of_need};
+use crate::related::causes_of_need;
 use report_diagnostics::Diagnostic;
 use report_model::{Analysis, Analyzed};
 use shader_info::AnalysisError;
@@ -68,19 +70,6 @@ fn add_refusal(
     Ok(())
 }
 
-/// Returns a diagnostic with its causes.
-fn with_causes(diagnostic: Diagnostic, causes: Causes) -> Diagnostic
-    ensures code { result.code ≡ diagnostic.code }
-    ensures severity { result.severity ≡ diagnostic.severity }
-    ensures location { result.location ≡ diagnostic.location }
-{
-    Diagnostic {
-        related: causes.related,
-        omitted: causes.omitted,
-        ..diagnostic
-    }
-}
-
 /// Returns the diagnostic of a violated need, with its causes.
 fn explained(
     alloc: Global,
@@ -94,7 +83,13 @@ fn explained(
 {
     let causes = causes_of_need(alloc, module, known, callers, violation)?;
     let diagnostic = flow_diagnostic(alloc, module, violation)?;
-    Ok(with_causes(diagnostic, causes))
+    let chain = causes.chain.as_slice();
+    let help = need_help(alloc, module, known, violation, &diagnostic.location, chain)?;
+    let advised = advised(diagnostic, causes.related, Vec::new(alloc), help);
+    Ok(Diagnostic {
+        omitted: causes.omitted,
+        ..advised
+    })
 }
 
 /// Adds the diagnostics of violated needs, each with its causes. `callers` are those of the functions, which are known by these rules.

@@ -1,16 +1,17 @@
 //! Diagnostics of violated needs of uniform control flow.
 ghost use Rattle.std.specs.Prelude.{◌≡◌, IfOk};
 ghost use Rattle.std.specs.Option.{option_map};
-ghost use Rattle.report_findings.specs.Flow.{IsFlowDiagnostic, flow_code, need_location, need_pointer, place_of_body};
+ghost use Rattle.report_findings.specs.Flow.{IsFlowDiagnostic, flow_code, need_location, need_pointer};
 
-use crate::paths::{StatementAt, Wanted};
-use crate::pointers::{body_pointer, expression_pointer, statement_pointer};
-use crate::sites::{name_at, statement_at, way_text};
+use crate::sites::{path_of, text_of};
 use crate::words::need_message;
-use report_diagnostics::{BodyPlace, Code, Diagnostic, FlowCode, Location, Text};
+use report_diagnostics::{Code, Diagnostic, FlowCode, Location, Text};
+use report_places::{
+    BodyPlace, StatementAt, Wanted, body_pointer, expression_pointer, name_at, place_of_body,
+    statement_at, statement_pointer,
+};
 use shader_arena::Handle;
 use shader_ir::{Module, mark};
-use shader_uniformity::BodyLocation;
 use shader_uniformity_needs::{Need, NeedKind, Violation};
 use std::alloc::{AllocError, Global};
 
@@ -28,16 +29,6 @@ fn flow_code(kind: NeedKind) -> FlowCode
     }
 }
 
-/// Returns a function or an entry point as a place.
-pub fn place_of_body(location: BodyLocation) -> BodyPlace
-    ensures { result ≡ place_of_body location }
-{
-    match location {
-        BodyLocation::Function(index) => BodyPlace::Function(index),
-        BodyLocation::EntryPoint(index) => BodyPlace::EntryPoint(index),
-    }
-}
-
 /// Returns the pointer to the expression that has a need, or else to the statement.
 fn need_pointer(
     alloc: Global,
@@ -45,12 +36,12 @@ fn need_pointer(
     expression: Option<Handle<mark::Expression>>,
     found: &Option<StatementAt<'_>>,
 ) -> Result<Text, AllocError>
-    ensures { IfOk result (λ text. text ≡ need_pointer place.now expression (option_map (λ at. at.way.items) found.now)) }
+    ensures { IfOk result (λ text. text ≡ need_pointer place.now expression (option_map (λ at. at.path.steps) found.now)) }
 {
     let text = match expression {
         Some(expression) => expression_pointer(alloc, place, expression.index())?,
         None => match found {
-            Some(at) => statement_pointer(alloc, place, &at.way)?,
+            Some(at) => statement_pointer(alloc, place, at.path.steps.as_slice())?,
             None => body_pointer(alloc, place)?,
         },
     };
@@ -63,18 +54,17 @@ fn need_location(
     module: &Module,
     place: &BodyPlace,
     need: &Need,
-    found: &Option<StatementAt<'_>>,
+    found: Option<StatementAt<'_>>,
 ) -> Result<Location, AllocError>
     ensures { IfOk result (λ location. location
-        ≡ need_location «module».now place.now need.now (option_map (λ at. at.way.items) found.now)) }
+        ≡ need_location «module».now place.now need.now (option_map (λ at. at.path.steps) found.entry)) }
 {
-    let statement = way_text(alloc, found)?;
-    let name = name_at(alloc, module, place)?;
-    let pointer = need_pointer(alloc, place, need.expression, found)?;
+    let name = text_of(name_at(alloc, module, place)?);
+    let pointer = need_pointer(alloc, place, need.expression, &found)?;
     Ok(Location::within_module(
         Some(*place),
         name,
-        statement,
+        path_of(found),
         need.expression,
         None,
         pointer,
@@ -97,8 +87,8 @@ pub fn flow_diagnostic(
     let need = &violation.need;
     let wanted = Wanted::At(need.position);
     let found = statement_at(alloc, module, &place, &wanted)?;
-    let location = need_location(alloc, module, &place, need, &found)?;
     let message = need_message(alloc, module, &place, need, &found)?;
+    let location = need_location(alloc, module, &place, need, found)?;
     let code = Code::Flow(flow_code(need.kind));
     Ok(Diagnostic::error(alloc, code, message, location))
 }

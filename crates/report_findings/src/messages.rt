@@ -1,7 +1,8 @@
 //! What is wrong, in a sentence. No clause says the words: they may change in any release.
 
 use crate::words::naga_message;
-use report_diagnostics::{BodyPlace, Code, LayoutCode, ModuleCode, ResourceCode, Text, TypeCode};
+use report_diagnostics::{Code, LayoutCode, ModuleCode, ResourceCode, Text, TypeCode};
+use report_places::BodyPlace;
 use shader_info::{ExpressionError, FunctionError};
 use shader_ir::Module;
 use shader_resolve::ResolveError;

@@ -1,13 +1,14 @@
 //! Diagnostics of modules that aren't well formed.
-ghost use Rattle.std.specs.Prelude.{◌≡◌, ◌++◌, IfOk, codes, string_bytes};
+ghost use Rattle.std.specs.Prelude.{◌≡◌, IfOk, string_bytes};
 ghost use Rattle.report_findings.specs.ModuleFaults.{IsFaultDiagnostic, fault_code, fault_expression, fault_location, fault_place};
 ghost use Rattle.report_findings.specs.ModuleFaults.{fault_pointer, fault_type, place_pointer};
-ghost use Rattle.report_findings.specs.Pointers.{body_pointer};
 
 use crate::messages::message_of;
-use crate::pointers::{body_pointer, expression_pointer, item_pointer};
-use crate::sites::named_at;
-use report_diagnostics::{BodyPlace, Code, Diagnostic, Location, ModuleCode, Text};
+use crate::sites::text_of;
+use report_diagnostics::{Code, Diagnostic, Location, ModuleCode, Text};
+use report_places::{
+    BodyPlace, body_pointer, expression_pointer, item_pointer, named_at, statement_pointer,
+};
 use shader_arena::Handle;
 use shader_ir::{Module, mark};
 use shader_resolve::{FaultAt, ModuleFault, ModuleLocation};
@@ -69,15 +70,6 @@ fn fault_type(location: &ModuleLocation) -> Option<Handle<mark::Type>>
     }
 }
 
-/// Returns the pointer to the statements of a function.
-fn statements_pointer(alloc: Global, place: &BodyPlace) -> Result<String, AllocError>
-    ensures { IfOk result (λ text. string_bytes text ≡ body_pointer place.now ++ codes "/body") }
-{
-    let mut text = body_pointer(alloc, place)?;
-    text.push_str("/body")?;
-    Ok(text)
-}
-
 /// Returns the pointer to a location in a function, or to a global expression.
 fn place_pointer(alloc: Global, location: &ModuleLocation) -> Result<String, AllocError>
     ensures { IfOk result (λ text. string_bytes text ≡ place_pointer location.now) }
@@ -94,14 +86,14 @@ fn place_pointer(alloc: Global, location: &ModuleLocation) -> Result<String, All
             )
         }
         ModuleLocation::FunctionBody(handle) => {
-            statements_pointer(alloc, &BodyPlace::Function(handle.index()))
+            statement_pointer(alloc, &BodyPlace::Function(handle.index()), &[])
         }
         ModuleLocation::EntryPoint(index) => body_pointer(alloc, &BodyPlace::EntryPoint(*index)),
         ModuleLocation::EntryPointExpression(index, handle) => {
             expression_pointer(alloc, &BodyPlace::EntryPoint(*index), handle.index())
         }
         ModuleLocation::EntryPointBody(index) => {
-            statements_pointer(alloc, &BodyPlace::EntryPoint(*index))
+            statement_pointer(alloc, &BodyPlace::EntryPoint(*index), &[])
         }
         _ => "/special_types".to_string(alloc),
     }
@@ -137,7 +129,7 @@ fn fault_location(
     ensures { IfOk result (λ place. place ≡ fault_location «module».now location.now) }
 {
     let place = fault_place(location);
-    let name = named_at(alloc, module, &place)?;
+    let name = text_of(named_at(alloc, module, &place)?);
     let pointer = Text::from(fault_pointer(alloc, location)?);
     Ok(Location::within_module(
         place,

@@ -5,13 +5,14 @@ ghost use Rattle.report_findings.specs.Refusals.{cause_expression, expression_co
 ghost use Rattle.report_findings.specs.Refusals.{place_of};
 ghost use Rattle.report_json.specs.Flags.{is_set};
 
+use crate::advice::{advised, refusal_causes, refusal_notes};
+use crate::help::help_of;
 use crate::messages::{message_of, refusal_message};
-use crate::pointers::item_pointer;
 use crate::sites::expression_location;
 use report_diagnostics::{
-    BodyPlace, Code, Diagnostic, FlowCode, LayoutCode, Location, ModuleCode, ResourceCode, Text,
-    TypeCode,
+    Code, Diagnostic, FlowCode, LayoutCode, Location, ModuleCode, ResourceCode, Text, TypeCode,
 };
+use report_places::{BodyPlace, item_pointer};
 use shader_arena::Handle;
 use shader_info::{
     AnalysisError, AnalysisLocation, Capabilities, ExpressionError, FunctionError,
@@ -178,5 +179,9 @@ pub fn refusal_diagnostic(
     let place = place_of(&refusal.place);
     let message = refusal_message(alloc, module, &place, code, &refusal.cause)?;
     let location = expression_location(alloc, module, &place, expression)?;
-    Ok(Diagnostic::error(alloc, code, message, location))
+    let related = refusal_causes(alloc, module, &place, &refusal.cause)?;
+    let notes = refusal_notes(alloc, &refusal.cause)?;
+    let help = help_of(alloc, module, code, place)?;
+    let diagnostic = Diagnostic::error(alloc, code, message, location);
+    Ok(advised(diagnostic, related, notes, help))
 }

@@ -1,74 +1,75 @@
-//! What the causes of a violated need say, in words, and what they are about.
+//! What the causes of a violated need are about, and why.
 
-use crate::owners::{Branch, owner_of};
+use crate::owners::{Branch, broken_by, owner_of};
+use crate::reasons::Reason;
 use shader_arena::Handle;
 use shader_ir::{AddressSpace, Expression, Function, Module, mark};
 use shader_uniformity::{Fact, Jump, Place, Rule};
 
-/// What a cause is about, and what it says. Statements are given by their positions.
+/// What a cause is about, and why it is one. Statements are given by their positions.
 #[derive(Clone, Copy)]
 pub enum Said {
     /// A statement.
-    Statement(u32, &'static str),
+    Statement(u32, Reason),
     /// An expression by which the statement at the position decides.
-    Condition(u32, Handle<mark::Expression>, &'static str),
+    Condition(u32, Handle<mark::Expression>, Reason),
     /// An expression, at the statement that evaluates it.
-    Expression(Handle<mark::Expression>, &'static str),
+    Expression(Handle<mark::Expression>, Reason),
     /// An argument of the function.
-    Argument(u32, &'static str),
+    Argument(u32, Reason),
+    /// An expression whose value is stored to memory.
+    Stored(Handle<mark::Expression>, Place),
+    /// A statement that stores to memory.
+    Store(u32, Place),
+    /// An expression that has a name.
+    Let(Handle<mark::Expression>),
     /// A step that an author need not know.
     Nothing,
 }
 
-/// Returns what is said of a statement that exits blocks.
-fn jump_words(jump: Jump) -> &'static str {
+/// Returns why a statement that exits blocks is a cause. The first of these blocks is at a position.
+fn jump_reason(function: &Function, jump: Jump, block: u32) -> Reason {
     match jump {
-        Jump::Return => "some invocations may return here, and others not",
-        Jump::Break => "some invocations may leave the loop or switch here, and others not",
-        Jump::Continue => "some invocations may skip the rest of this round, and others not",
+        Jump::Return => Reason::Returns,
+        Jump::Break => match broken_by(&function.body, block) {
+            Branch::Switch => Reason::LeavesSwitch,
+            _ => Reason::LeavesLoop,
+        },
+        Jump::Continue => Reason::SkipsRound,
     }
 }
 
-/// Returns what is said of a value by which a statement enters its blocks.
-fn branch_words(branch: Branch) -> &'static str {
+/// Returns why a value by which a statement enters its blocks is a cause.
+fn branch_reason(branch: Branch) -> Reason {
     match branch {
-        Branch::If => "may differ between invocations, which then take different branches",
-        Branch::Switch => "may differ between invocations, which then take different cases",
-        Branch::Loop => {
-            "may differ between invocations, which then leave the loop at different times"
-        }
+        Branch::If => Reason::Branches,
+        Branch::Switch => Reason::Cases,
+        Branch::Loop => Reason::Rounds,
     }
 }
 
-/// Returns what is said of a value that always differs, by the form of its expression.
-fn source_words(expression: &Expression) -> &'static str {
+/// Returns why a value always differs, by the form of its expression.
+fn source_reason(expression: &Expression) -> Reason {
     match expression {
-        Expression::Derivative { .. } => "derivatives may differ between invocations",
-        Expression::ImageSample { .. } => "sampled values may differ between invocations",
-        Expression::AtomicResult { .. } => {
-            "results of atomic operations may differ between invocations"
-        }
-        Expression::RayQueryProceedResult =>
-            "results of ray queries may differ between invocations",
-        Expression::SubgroupBallotResult | Expression::SubgroupOperationResult { .. } => {
-            "results of subgroup operations may differ between invocations"
-        }
-        Expression::CallResult(_) => "this call may return different values",
-        _ => "may differ between invocations",
+        Expression::Derivative { .. } => Reason::Derivative,
+        Expression::ImageSample { .. } => Reason::Sample,
+        Expression::AtomicResult { .. } => Reason::Atomic,
+        Expression::RayQueryProceedResult => Reason::RayQuery,
+        Expression::SubgroupBallotResult | Expression::SubgroupOperationResult { .. } =>
+            Reason::Subgroup,
+        Expression::CallResult(_) => Reason::Call,
+        _ => Reason::Differs,
     }
 }
 
-/// Returns what is said of memory in an address space that other invocations may have written.
-fn memory_words(space: AddressSpace) -> &'static str {
+/// Returns why a value differs that is read from memory in an address space.
+fn memory_reason(space: AddressSpace) -> Reason {
     match space {
-        AddressSpace::WorkGroup => "workgroup memory, which other invocations may have written",
-        AddressSpace::Storage { .. } =>
-            "writable storage, which other invocations may have written",
-        AddressSpace::Handle => {
-            "writable storage texture, which other invocations may have written"
-        }
-        AddressSpace::Private => "private variable, which may differ between invocations",
-        _ => "memory that may differ between invocations",
+        AddressSpace::WorkGroup => Reason::WorkGroupMemory,
+        AddressSpace::Storage { .. } => Reason::Storage,
+        AddressSpace::Handle => Reason::StorageTexture,
+        AddressSpace::Private => Reason::PrivateVariable,
+        _ => Reason::Memory,
     }
 }
 
@@ -95,24 +96,22 @@ fn global_read(function: &Function, read: &Expression) -> Option<Handle<mark::Gl
     None
 }
 
-/// Returns what is said of a value that is read from memory.
-fn load_words(module: &Module, function: &Function, read: &Expression) -> &'static str {
+/// Returns why a value differs that is read from memory.
+fn load_reason(module: &Module, function: &Function, read: &Expression) -> Reason {
     match global_read(function, read) {
         Some(variable) => match module.global_variables.try_get(variable) {
-            Some(global) => memory_words(global.space),
-            None => "memory that may differ between invocations",
+            Some(global) => memory_reason(global.space),
+            None => Reason::Memory,
         },
-        None => "memory that may differ between invocations",
+        None => Reason::Memory,
     }
 }
 
 /// Returns what is said of an expression that always differs.
 fn source(function: &Function, handle: Handle<mark::Expression>) -> Said {
     match function.expressions.try_get(handle) {
-        Some(Expression::FunctionArgument(index)) => {
-            Said::Argument(*index, "each invocation has its own value")
-        }
-        Some(expression) => Said::Expression(handle, source_words(expression)),
+        Some(Expression::FunctionArgument(index)) => Said::Argument(*index, Reason::OwnValue),
+        Some(expression) => Said::Expression(handle, source_reason(expression)),
         None => Said::Nothing,
     }
 }
@@ -120,7 +119,7 @@ fn source(function: &Function, handle: Handle<mark::Expression>) -> Said {
 /// Returns what is said of an expression that reads memory which differs.
 fn load(module: &Module, function: &Function, handle: Handle<mark::Expression>) -> Said {
     match function.expressions.try_get(handle) {
-        Some(expression) => Said::Expression(handle, load_words(module, function, expression)),
+        Some(expression) => Said::Expression(handle, load_reason(module, function, expression)),
         None => Said::Nothing,
     }
 }
@@ -128,7 +127,7 @@ fn load(module: &Module, function: &Function, handle: Handle<mark::Expression>) 
 /// Returns what is said of a differing value by which invocations enter the block at a position.
 fn branch(function: &Function, condition: Handle<mark::Expression>, block: u32) -> Said {
     match owner_of(&function.body, block) {
-        Some((owner, branch)) => Said::Condition(owner, condition, branch_words(branch)),
+        Some((owner, branch)) => Said::Condition(owner, condition, branch_reason(branch)),
         None => Said::Nothing,
     }
 }
@@ -136,20 +135,22 @@ fn branch(function: &Function, condition: Handle<mark::Expression>, block: u32) 
 /// Returns what is said of an expression that differs for a reason other than its operands.
 fn differing(function: &Function, handle: Handle<mark::Expression>) -> Said {
     match function.expressions.try_get(handle) {
-        Some(Expression::CallResult(_)) => {
-            Said::Expression(handle, "this call may return different values")
-        }
-        Some(_) => Said::Expression(handle, "some invocations may compute this, and others not"),
+        Some(Expression::CallResult(_)) => Said::Expression(handle, Reason::Call),
+        Some(_) => Said::Expression(handle, Reason::ComputedApart),
         None => Said::Nothing,
     }
+}
+
+/// Checks whether an expression has a name.
+pub fn is_named(function: &Function, handle: Handle<mark::Expression>) -> bool {
+    function.named_expressions.get(&handle).is_some()
 }
 
 /// Returns what is said of an expression that differs where another one does.
 fn derived(function: &Function, handle: Handle<mark::Expression>) -> Said {
     match function.expressions.try_get(handle) {
-        Some(Expression::CallResult(_)) => {
-            Said::Expression(handle, "this call may return different values")
-        }
+        Some(Expression::CallResult(_)) => Said::Expression(handle, Reason::Call),
+        Some(_) if is_named(function, handle) => Said::Let(handle),
         _ => Said::Nothing,
     }
 }
@@ -163,9 +164,9 @@ fn of_apart(function: &Function, cause: &Fact, position: u32) -> Said {
 }
 
 /// Returns what is said of the cause by which only some invocations exit a block.
-fn of_leaving(cause: &Fact, jump: Jump) -> Said {
+fn of_leaving(function: &Function, cause: &Fact, jump: Jump, block: u32) -> Said {
     match cause {
-        Fact::Apart(position) => Said::Statement(*position, jump_words(jump)),
+        Fact::Apart(position) => Said::Statement(*position, jump_reason(function, jump, block)),
         _ => Said::Nothing,
     }
 }
@@ -179,7 +180,7 @@ fn of_differing(
 ) -> Said {
     match cause {
         Fact::Always => source(function, handle),
-        Fact::Argument(index) => Said::Argument(*index, "may be passed different values"),
+        Fact::Argument(index) => Said::Argument(*index, Reason::PassedValues),
         Fact::Holds(place, _) => match place {
             Place::Shared => load(module, function, handle),
             _ => Said::Nothing,
@@ -191,15 +192,11 @@ fn of_differing(
 }
 
 /// Returns what is said of the cause by which memory holds different values.
-fn of_holding(cause: &Fact) -> Said {
+fn of_holding(cause: &Fact, place: Place) -> Said {
     match cause {
-        Fact::Behind(index) => Said::Argument(*index, "may point to different values"),
-        Fact::Differs(handle) => {
-            Said::Expression(*handle, "is stored, and may differ between invocations")
-        }
-        Fact::Apart(position) => {
-            Said::Statement(*position, "some invocations may store here, and others not")
-        }
+        Fact::Behind(index) => Said::Argument(*index, Reason::PointedValues),
+        Fact::Differs(handle) => Said::Stored(*handle, place),
+        Fact::Apart(position) => Said::Store(*position, place),
         _ => Said::Nothing,
     }
 }
@@ -207,11 +204,8 @@ fn of_holding(cause: &Fact) -> Said {
 /// Returns what is said of the cause by which a function returns different values.
 fn of_giving(cause: &Fact) -> Said {
     match cause {
-        Fact::Differs(handle) => Said::Expression(*handle, "may return different values"),
-        Fact::Apart(position) => {
-            let words = "some invocations may return here, and others elsewhere";
-            Said::Statement(*position, words)
-        }
+        Fact::Differs(handle) => Said::Expression(*handle, Reason::ReturnedValues),
+        Fact::Apart(position) => Said::Statement(*position, Reason::ReturnsElsewhere),
         _ => Said::Nothing,
     }
 }
@@ -220,9 +214,9 @@ fn of_giving(cause: &Fact) -> Said {
 pub fn said_of(module: &Module, function: &Function, rule: &Rule) -> Said {
     match &rule.effect {
         Fact::Apart(position) => of_apart(function, &rule.cause, *position),
-        Fact::Leaves(jump, _) => of_leaving(&rule.cause, *jump),
+        Fact::Leaves(jump, block) => of_leaving(function, &rule.cause, *jump, *block),
         Fact::Differs(handle) => of_differing(module, function, &rule.cause, *handle),
-        Fact::Holds(_, _) => of_holding(&rule.cause),
+        Fact::Holds(place, _) => of_holding(&rule.cause, *place),
         Fact::Gives => of_giving(&rule.cause),
         _ => Said::Nothing,
     }
@@ -231,15 +225,8 @@ pub fn said_of(module: &Module, function: &Function, rule: &Rule) -> Said {
 /// Returns what is said of a fact of the caller by which a call passes on what differs.
 pub fn passed(fact: &Fact) -> Said {
     match fact {
-        Fact::Apart(position) => {
-            Said::Statement(
-                *position,
-                "some invocations may make this call, and others not",
-            )
-        }
-        Fact::Differs(handle) => {
-            Said::Expression(*handle, "is passed, and may differ between invocations")
-        }
+        Fact::Apart(position) => Said::Statement(*position, Reason::CalledApart),
+        Fact::Differs(handle) => Said::Expression(*handle, Reason::Passed),
         _ => Said::Nothing,
     }
 }

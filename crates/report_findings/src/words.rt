@@ -1,8 +1,7 @@
 //! The built-in functions of WGSL that need uniform control flow, and what is said of them.
 
-use crate::paths::StatementAt;
-use crate::sites::expression_at;
-use report_diagnostics::{BodyPlace, Text};
+use report_diagnostics::Text;
+use report_places::{BodyPlace, StatementAt, expression_at};
 use shader_arena::Handle;
 use shader_ir::{
     Barrier, DerivativeAxis, DerivativeControl, Expression, Module, SampleLevel, Statement, mark,

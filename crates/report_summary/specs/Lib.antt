@@ -1,0 +1,3 @@
+pub mod Headings
+pub mod Resources
+pub mod Summaries
