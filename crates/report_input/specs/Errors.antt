@@ -1,0 +1,113 @@
+-- Errors of the input, as JSON and for people.
+use Rattle.std.specs.Prelude.{◌≡◌, ℕ, List, [], ◌∷◌, ◌++◌, Some, codes, string_bytes}
+use Rattle.std.specs.Fmt.{decimal, signed_decimal}
+use Rattle.json.specs.Print.{print}
+use Rattle.json.specs.Token.{Token, key}
+use Rattle.report_diagnostics.specs.Heads.{head_members}
+use Rattle.report_diagnostics.specs.declared.codes.Code.TheVariants.{Input}
+use Rattle.report_diagnostics.specs.declared.diagnostic.Diagnostic.{Diagnostic}
+use Rattle.report_diagnostics.specs.declared.diagnostic.Severity.TheVariants.{Error}
+use Rattle.report_diagnostics.specs.declared.head.Verdict.TheVariants.{InvalidInput}
+use Rattle.report_diagnostics.specs.declared.module_codes.InputCode.TheVariants.{NestsTooDeep}
+use Rattle.report_json.specs.Tokens.{number_tokens, object, text_tokens}
+use Rattle.shader_json_reader.specs.Errors.{most_text_bytes}
+use Rattle.shader_json_reader.specs.declared.error.ReadError.{ReadError}
+use Rattle.shader_json_reader.specs.declared.error.ReadError.TheVariants.{OutOfMemory, TooLong, NotJson, TooDeep, NotModule}
+use Rattle.shader_json_reader.specs.declared.error.Wanted.{Wanted}
+use Rattle.shader_json_reader.specs.declared.error.Wanted.TheVariants.{Value, Integer, Field}
+use Rattle.report_input.specs.Inputs.{IsOfError}
+use Rattle.report_input.specs.Forms.{form_in, form_text}
+use Rattle.report_input.specs.Places.{place_in, place_text}
+use Rattle.report_input.specs.declared.forms.Form.{Form}
+use Rattle.report_input.specs.declared.places.Place.{Place}
+
+-- an object with a location and with what is wanted there
+abbrev pub place_tokens : List ℕ → List Token → List ℕ → List Token
+place_tokens kind location wanted = object (key kind ∷ location ++ key (codes "wanted") ∷ text_tokens wanted)
+
+abbrev pub path_tokens : List ℕ → List ℕ → List Token
+path_tokens path wanted = place_tokens (codes "path") (text_tokens path) wanted
+
+abbrev pub byte_tokens : ℕ → List ℕ → List Token
+byte_tokens byte wanted = place_tokens (codes "byte") (number_tokens byte) wanted
+
+-- the line of JSON for an input with an error: its diagnostic, and what `error` says
+abbrev pub answer_text : Diagnostic → List Token → List ℕ
+answer_text diagnostic error =
+    print (object (head_members InvalidInput (diagnostic ∷ []) ++ key (codes "error") ∷ error)) ++ 10 ∷ []
+
+-- what is wanted of a value, in words
+abbrev pub wanted_text : Wanted → List ℕ
+wanted_text (Value words) = words.now
+wanted_text (Integer least most) = codes "an integer from " ++ signed_decimal least ++ codes " to " ++ decimal most
+wanted_text (Field name) = codes "an object with the field `" ++ name.now ++ codes "`"
+
+-- what `error` says
+abbrev pub object_tokens : ReadError → List Token
+object_tokens OutOfMemory = []
+object_tokens TooLong = byte_tokens most_text_bytes (codes "the end of the text")
+object_tokens (NotJson byte) = byte_tokens byte (codes "JSON")
+object_tokens (TooDeep byte) = byte_tokens byte (codes "at most 128 arrays and objects in one another")
+object_tokens (NotModule path wanted found) = path_tokens (string_bytes path) (wanted_text wanted)
+
+-- the line of JSON for an error with this diagnostic; that memory was refused is none
+abbrev pub IsAnswerWith : Diagnostic → ReadError → List ℕ → Type 0
+IsAnswerWith diagnostic OutOfMemory text = ⊥
+IsAnswerWith diagnostic TooLong text = text ≡ answer_text diagnostic (object_tokens TooLong)
+IsAnswerWith diagnostic (NotJson byte) text = text ≡ answer_text diagnostic (object_tokens (NotJson byte))
+IsAnswerWith diagnostic (TooDeep byte) text = text ≡ answer_text diagnostic (object_tokens (TooDeep byte))
+IsAnswerWith diagnostic (NotModule path wanted found) text =
+    text ≡ answer_text diagnostic (object_tokens (NotModule path wanted found))
+
+-- the line of JSON for an error of the input
+pub record IsObjectText (input : List ℕ) (error : ReadError) (text : List ℕ) : Type 0 where
+  pub diagnostic : Diagnostic
+  pub of : IsOfError input error diagnostic
+  pub printed : IsAnswerWith diagnostic error text
+
+-- the diagnostic of blocks that nest too deep
+pub record IsOfNesting (diagnostic : Diagnostic) : Type 0 where
+  pub code : diagnostic.code ≡ Input NestsTooDeep
+  pub severity : diagnostic.severity ≡ Error
+  pub path : diagnostic.location.path ≡ Some []
+
+-- the line of JSON for blocks that nest too deep
+pub record IsNestingObject (text : List ℕ) : Type 0 where
+  pub diagnostic : Diagnostic
+  pub of : IsOfNesting diagnostic
+  pub printed : text ≡ answer_text diagnostic (path_tokens [] (codes "blocks that nest at most 4,000 deep"))
+
+-- how to get what is wanted stands in the second line
+abbrev pub not_json_text : Place → Form → List ℕ
+not_json_text place form =
+    place_text place ++ codes ": " ++ form_text form
+    ++ codes "\nwanted is a naga 30 module as JSON: serde_json::to_string(&module), where naga has the feature `serialize`\n"
+
+abbrev pub too_deep_text : Place → List ℕ
+too_deep_text place = place_text place ++ codes ": arrays and objects nest more than 128 deep\n"
+
+abbrev pub telling_text : Wanted → List ℕ → List ℕ
+telling_text wanted found = codes "wanted is " ++ wanted_text wanted ++ codes ", and found is " ++ found
+
+abbrev pub input_text : Wanted → List ℕ → List ℕ
+input_text wanted found = codes "the input: " ++ telling_text wanted found ++ codes "\n"
+
+abbrev pub value_text : List ℕ → Wanted → List ℕ → List ℕ
+value_text path wanted found = (codes "`" ++ path ++ codes "`: ") ++ (telling_text wanted found ++ codes "\n")
+
+-- the path of the input itself is empty
+abbrev pub not_module_text : List ℕ → Wanted → List ℕ → List ℕ
+not_module_text [] wanted found = input_text wanted found
+not_module_text (byte ∷ path) wanted found = value_text (byte ∷ path) wanted found
+
+-- the lines for people on an error of this input
+abbrev pub IsErrorText : List ℕ → ReadError → List ℕ → Type 0
+IsErrorText input OutOfMemory text = ⊥
+IsErrorText input TooLong text = text ≡ codes "the input has more than 268,435,456 bytes\n"
+IsErrorText input (NotJson byte) text = text ≡ not_json_text (place_in input byte) (form_in input byte)
+IsErrorText input (TooDeep byte) text = text ≡ too_deep_text (place_in input byte)
+IsErrorText input (NotModule path wanted found) text = text ≡ not_module_text (string_bytes path) wanted (string_bytes found)
+
+-- the line for people on blocks that nest too deep
+abbrev pub nesting_text : List ℕ
+nesting_text = codes "the input: wanted are blocks that nest at most 4,000 deep\n"

@@ -1,0 +1,73 @@
+-- What a text that is no JSON seems to be.
+use Rattle.std.specs.Prelude.{◌||◌, ℕ, Bool, true, false, List, [], ◌∷◌, codes, drop, eqb, length, min, if◌then◌else◌}
+use Rattle.std.specs.Char.{is_ascii_whitespace}
+use Rattle.std.specs.List.{prefix_len, starts_with}
+use Rattle.report_input.specs.declared.forms.Form.{Form}
+use Rattle.report_input.specs.declared.forms.Form.TheVariants.{Blank, ByteOrderMark, Utf16, SpirV, Glsl, Wgsl}
+use Rattle.report_input.specs.declared.forms.Form.TheVariants.{Ron, Comment, CutOff, Other}
+
+-- a byte order mark, or the bracket of an object, in either order
+abbrev pub is_utf16 : List ℕ → Bool
+is_utf16 text = starts_with eqb text (255 ∷ 254 ∷ []) || starts_with eqb text (254 ∷ 255 ∷ [])
+    || starts_with eqb text (123 ∷ 0 ∷ []) || starts_with eqb text (0 ∷ 123 ∷ [])
+
+-- the magic number, in either order
+abbrev pub is_spirv : List ℕ → Bool
+is_spirv text = starts_with eqb text (3 ∷ 2 ∷ 35 ∷ 7 ∷ []) || starts_with eqb text (7 ∷ 35 ∷ 2 ∷ 3 ∷ [])
+
+abbrev pub is_declaration : List ℕ → Bool
+is_declaration text = starts_with eqb text (codes "@") || starts_with eqb text (codes "fn ")
+    || starts_with eqb text (codes "struct ") || starts_with eqb text (codes "var")
+    || starts_with eqb text (codes "const") || starts_with eqb text (codes "let ")
+
+-- the first word of a module of WGSL
+abbrev pub is_wgsl : List ℕ → Bool
+is_wgsl text = is_declaration text || starts_with eqb text (codes "override ") || starts_with eqb text (codes "alias ")
+    || starts_with eqb text (codes "enable ") || starts_with eqb text (codes "requires ")
+    || starts_with eqb text (codes "diagnostic")
+
+-- what a text is by its start, or else the other form
+abbrev pub form_by_start : List ℕ → Form → Form
+form_by_start text other =
+    if starts_with eqb text (239 ∷ 187 ∷ 191 ∷ []) then ByteOrderMark
+    else (if is_utf16 text then Utf16
+    else (if is_spirv text then SpirV
+    else (if starts_with eqb text (codes "#version") then Glsl
+    else (if is_wgsl text then Wgsl
+    else (if starts_with eqb text (codes "(") then Ron
+    else other)))))
+
+abbrev form_if : Bool → Form
+form_if true = Comment
+form_if false = Other
+
+-- what goes on otherwise than JSON
+abbrev pub form_of_rest : List ℕ → Form
+form_of_rest [] = CutOff
+form_of_rest (byte ∷ rest) =
+    form_if (starts_with eqb (byte ∷ rest) (codes "//") || starts_with eqb (byte ∷ rest) (codes "/*"))
+
+-- by the start behind white space, or else by what goes on otherwise than JSON
+abbrev pub form_of : List ℕ → List ℕ → Form
+form_of [] rest = Blank
+form_of (byte ∷ start) rest = form_by_start (byte ∷ start) (form_of_rest rest)
+
+-- the text from the byte of this index on
+abbrev pub rest_of : List ℕ → ℕ → List ℕ
+rest_of text byte = drop (min byte (length text)) text
+
+-- what a text seems to be that is no JSON from the byte of this index on: by its start behind white space
+abbrev pub form_in : List ℕ → ℕ → Form
+form_in text byte = form_of (drop (prefix_len is_ascii_whitespace text) text) (rest_of text byte)
+
+abbrev pub form_text : Form → List ℕ
+form_text Blank = codes "the input is empty"
+form_text ByteOrderMark = codes "the input begins with a byte order mark, which JSON has not"
+form_text Utf16 = codes "the input is UTF-16, and JSON is UTF-8"
+form_text SpirV = codes "the input is SPIR-V"
+form_text Glsl = codes "the input is GLSL"
+form_text Wgsl = codes "the input is WGSL"
+form_text Ron = codes "the input is RON"
+form_text Comment = codes "a comment begins here, and JSON has none"
+form_text CutOff = codes "the input ends before the JSON does"
+form_text Other = codes "what begins here isn't JSON"

@@ -1,0 +1,279 @@
+//! Errors of the input: as an answer in JSON, or as text.
+ghost use Rattle.std.specs.Prelude.{◌≡◌, ◌∷◌, ◌++◌, [], IfOk, Some, codes, string_bytes};
+ghost use Rattle.json.specs.Print.{print};
+ghost use Rattle.report_input.specs.Errors.{IsAnswerWith, IsErrorText, IsNestingObject, IsObjectText, answer_text, byte_tokens};
+ghost use Rattle.report_input.specs.Errors.{input_text, nesting_text};
+ghost use Rattle.report_input.specs.Errors.{not_json_text, not_module_text, path_tokens, place_tokens, telling_text, too_deep_text};
+ghost use Rattle.report_input.specs.Errors.{value_text, wanted_text};
+ghost use Rattle.report_input.specs.Forms.{form_in};
+ghost use Rattle.report_input.specs.Places.{place_in, place_text};
+
+use crate::diagnostic::{diagnostic_of, nesting_diagnostic};
+use crate::forms::Form;
+use crate::places::Place;
+use json::Writer;
+use report_diagnostics::{Diagnostic, Verdict, Word, write_head};
+use report_json::{Member, WriteJson, WriteMembers, write_object};
+use shader_json_module::{MOST_BYTES, ReadError, Wanted};
+use std::alloc::{AllocError, Global};
+use std::fmt;
+use std::fmt::{Display, Formatter};
+
+/// Where an error of the input is, and what is wanted there, as JSON.
+#[derive(Clone, Copy)]
+struct ErrorAt<'a, T> {
+    /// The name of the member that tells where it is.
+    kind: &'a str,
+    location: &'a T,
+    wanted: &'a str,
+}
+
+impl<T: WriteJson> WriteJson for ErrorAt<'_, T> {
+    ghost tokens = { λ error. place_tokens error.kind.now (T.tokens error.location.now) error.wanted.now };
+
+    fn write_json(&self, alloc: Global, writer: &mut Writer) -> Result<(), AllocError> {
+        let wanted = Word(self.wanted);
+        let members = (Member(self.kind, self.location), Member("wanted", &wanted));
+        write_object(alloc, writer, &members)
+    }
+}
+
+/// Returns the answer as JSON to an input with an error: its diagnostic, where it is, and what is wanted there.
+fn answer<T: WriteJson>(
+    alloc: Global,
+    diagnostic: Diagnostic,
+    error: ErrorAt<'_, T>,
+) -> Result<Vec<u8>, AllocError>
+    ensures { IfOk result (λ text. text.items ≡ answer_text diagnostic
+        (place_tokens error.entry.kind.now (T.tokens error.entry.location.now) error.entry.wanted.now)) }
+{
+    let mut diagnostics = Vec::new(alloc);
+    diagnostics.push(diagnostic)?;
+    let mut writer = Writer::new(Vec::new(alloc));
+    writer.begin_object()?;
+    write_head(alloc, &mut writer, Verdict::InvalidInput, &diagnostics)?;
+    Member("error", &error).write_members(alloc, &mut writer)?;
+    writer.end_object()?;
+    let mut text = writer.into_inner();
+    text.push(b'\n')?;
+    Ok(text)
+}
+
+/// Returns the answer on the value at a path, which isn't that of a module.
+fn at_path(
+    alloc: Global,
+    diagnostic: Diagnostic,
+    path: &str,
+    wanted: &str,
+) -> Result<Vec<u8>, AllocError>
+    ensures { IfOk result (λ text. text.items ≡ answer_text diagnostic (path_tokens path.now wanted.now)) }
+{
+    let error = ErrorAt {
+        kind: "path",
+        location: &Word(path),
+        wanted,
+    };
+    answer(alloc, diagnostic, error)
+}
+
+/// Returns the answer on a byte that isn't allowed there.
+fn at_byte(
+    alloc: Global,
+    diagnostic: Diagnostic,
+    byte: usize,
+    wanted: &str,
+) -> Result<Vec<u8>, AllocError>
+    ensures { IfOk result (λ text. text.items ≡ answer_text diagnostic (byte_tokens byte wanted.now)) }
+{
+    let error = ErrorAt {
+        kind: "byte",
+        location: &byte,
+        wanted,
+    };
+    answer(alloc, diagnostic, error)
+}
+
+/// The kind of value that is wanted, in words.
+#[derive(Clone, Copy)]
+pub struct WantedText<'a>(pub &'a Wanted);
+
+impl Display for WantedText<'_> {
+    ghost output = { λ text. Some (wanted_text text.0.now) };
+
+    fn fmt<W: fmt::Write>(&self, f: &mut Formatter<W>) -> fmt::Result {
+        match self.0 {
+            Wanted::Value(words) => f.write_str(words),
+            Wanted::Integer(least, most) => write!(f, "an integer from {least} to {most}"),
+            Wanted::Field(name) => write!(f, "an object with the field `{name}`"),
+        }
+    }
+}
+
+/// Returns the answer as JSON to an input from which no module was read.
+///
+/// # Errors
+///
+/// `AllocError` if an allocation fails, or if that is the reason.
+pub fn error_object(alloc: Global, input: &[u8], error: &ReadError) -> Result<Vec<u8>, AllocError>
+    ensures { IfOk result (λ text. IsObjectText input.now error.now text.items) }
+{
+    let diagnostic = diagnostic_of(alloc, input, error)?;
+    answer_with(alloc, diagnostic, error)
+}
+
+/// Returns the answer with this diagnostic of an error.
+fn answer_with(
+    alloc: Global,
+    diagnostic: Diagnostic,
+    error: &ReadError,
+) -> Result<Vec<u8>, AllocError>
+    ensures { IfOk result (λ text. IsAnswerWith diagnostic error.now text.items) }
+{
+    match error {
+        ReadError::OutOfMemory => Err(AllocError),
+        ReadError::TooLong => at_byte(alloc, diagnostic, MOST_BYTES, "the end of the text"),
+        ReadError::NotJson { byte } => at_byte(alloc, diagnostic, *byte, "JSON"),
+        ReadError::TooDeep { byte } => {
+            let wanted = "at most 128 arrays and objects in one another";
+            at_byte(alloc, diagnostic, *byte, wanted)
+        }
+        ReadError::NotModule { path, wanted, .. } => {
+            let wanted = format!(in alloc; "{}", WantedText(wanted))?;
+            at_path(alloc, diagnostic, path.as_str(), wanted.as_str())
+        }
+    }
+}
+
+/// Returns the answer as JSON to a module whose blocks nest too deep to be checked.
+///
+/// # Errors
+///
+/// `AllocError` if an allocation fails.
+pub fn nesting_object(alloc: Global) -> Result<Vec<u8>, AllocError>
+    ensures { IfOk result (λ text. IsNestingObject text.items) }
+{
+    let diagnostic = nesting_diagnostic(alloc)?;
+    at_path(alloc, diagnostic, "", "blocks that nest at most 4,000 deep")
+}
+
+/// The text of the error on an input that isn't JSON.
+#[derive(Clone, Copy)]
+struct NotJsonText {
+    place: Place,
+    form: Form,
+}
+
+impl Display for NotJsonText {
+    ghost output = { λ text. Some (not_json_text text.place text.form) };
+
+    fn fmt<W: fmt::Write>(&self, f: &mut Formatter<W>) -> fmt::Result {
+        let NotJsonText { place, form } = *self;
+        write!(
+            f,
+            "{place}: {form}\nwanted is a naga 30 module as JSON: \
+            serde_json::to_string(&module), where naga has the feature `serialize`\n"
+        )
+    }
+}
+
+/// The kind of value that is wanted, and the value that is found.
+#[derive(Clone, Copy)]
+struct TellingText<'a> {
+    wanted: WantedText<'a>,
+    found: &'a str,
+}
+
+impl Display for TellingText<'_> {
+    ghost output = { λ text. Some (telling_text text.wanted.0.now text.found.now) };
+
+    fn fmt<W: fmt::Write>(&self, f: &mut Formatter<W>) -> fmt::Result {
+        write!(f, "wanted is {}, and found is {}", self.wanted, self.found)
+    }
+}
+
+/// Returns the text of the error on an input that isn't JSON from this byte on: the text position, the format that the input seems to have,
+/// and the wanted one.
+fn not_json_text(alloc: Global, input: &[u8], byte: usize) -> Result<String, AllocError>
+    ensures { IfOk result (λ text. string_bytes text ≡ not_json_text (place_in input.now byte) (form_in input.now byte)) }
+{
+    let place = Place::of(input, byte);
+    let form = Form::of(input, byte);
+    format!(in alloc; "{}", NotJsonText { place, form })
+}
+
+/// Returns the text of the error on an input that nests too deep.
+fn too_deep_text(alloc: Global, input: &[u8], byte: usize) -> Result<String, AllocError>
+    ensures { IfOk result (λ text. string_bytes text ≡ too_deep_text (place_in input.now byte)) }
+{
+    let place = Place::of(input, byte);
+    format!(in alloc; "{place}: arrays and objects nest more than 128 deep\n")
+}
+
+/// Returns the text of the error on an input that isn't an object with the fields of a module.
+fn input_text(alloc: Global, told: TellingText<'_>) -> Result<String, AllocError>
+    ensures { IfOk result (λ text. string_bytes text ≡ input_text told.entry.wanted.0.now told.entry.found.now) }
+{
+    format!(in alloc; "the input: {told}\n")
+}
+
+/// Returns the text of the error on the value at a path, which isn't that of a module.
+fn value_text(alloc: Global, path: &str, told: TellingText<'_>) -> Result<String, AllocError>
+    ensures { IfOk result (λ text. string_bytes text ≡ value_text path.now told.entry.wanted.0.now told.entry.found.now) }
+{
+    let mut text = format!(in alloc; "`{path}`: ")?;
+    let line = format!(in alloc; "{told}\n")?;
+    text.push_str(line.as_str())?;
+    Ok(text)
+}
+
+/// Returns the text of the error on a value that isn't that of a module.
+fn not_module_text(
+    alloc: Global,
+    path: &str,
+    wanted: &Wanted,
+    found: &str,
+) -> Result<String, AllocError>
+    ensures { IfOk result (λ text. string_bytes text ≡ not_module_text path.now wanted.now found.now) }
+{
+    let wanted = WantedText(wanted);
+    let told = TellingText { wanted, found };
+    if path.is_empty() {
+        input_text(alloc, told)
+    } else {
+        value_text(alloc, path, told)
+    }
+}
+
+/// Returns the text of the error on an input from which no module was read.
+///
+/// # Errors
+///
+/// `AllocError` if an allocation fails, or if that is the reason.
+pub fn error_text(alloc: Global, input: &[u8], error: &ReadError) -> Result<Vec<u8>, AllocError>
+    ensures { IfOk result (λ text. IsErrorText input.now error.now text.items) }
+{
+    let text = match error {
+        ReadError::OutOfMemory => return Err(AllocError),
+        ReadError::TooLong => "the input has more than 268,435,456 bytes\n".to_string(alloc)?,
+        ReadError::NotJson { byte } => not_json_text(alloc, input, *byte)?,
+        ReadError::TooDeep { byte } => too_deep_text(alloc, input, *byte)?,
+        ReadError::NotModule {
+            path,
+            wanted,
+            found,
+        } => not_module_text(alloc, path.as_str(), wanted, found.as_str())?,
+    };
+    Ok(text.into_bytes())
+}
+
+/// Returns the text of the error on a module whose blocks nest too deep to be checked.
+///
+/// # Errors
+///
+/// `AllocError` if an allocation fails.
+pub fn nesting_text(alloc: Global) -> Result<Vec<u8>, AllocError>
+    ensures { IfOk result (λ text. text.items ≡ nesting_text) }
+{
+    let text = "the input: wanted are blocks that nest at most 4,000 deep\n".to_string(alloc)?;
+    Ok(text.into_bytes())
+}
