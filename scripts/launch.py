@@ -214,8 +214,9 @@ def answer_files(name, arguments):
     """Answers all files, and returns the exit status."""
     arguments.files = arguments.files or ["-"]
     drawn = {"--json", "--drawing", "--no-drawing"}.intersection(arguments.flags)
-    if "--json" in drawn and len(drawn) > 1:
-        say(f"{name}: {max(drawn - {'--json'})} has no effect with --json")
+    if "--json" in drawn:
+        for flag in sorted({"--all-structs", "--drawing", "--no-drawing"}.intersection(arguments.flags)):
+            say(f"{name}: {flag} has no effect with --json")
     # The program doesn't see the terminal if its output is collected.
     if name == "report" and not drawn and sys.stdout is not None and sys.stdout.isatty():
         arguments.flags.append("--drawing")

@@ -18,11 +18,10 @@ GROUPS = [
     ],
     ["--bounds-checks"],
     ["--resources"],
+    ["--all-structs"],
     ["--drawing", "--no-drawing"],
 ]
 GROUP_OF = {flag: number for number, group in enumerate(GROUPS) for flag in group}
-# The default, which the program itself has no flag for.
-DEFAULT = "--uniformity=wgsl"
 HELP, VERSION = ("-h", "--help"), ("-V", "--version")
 VALUES = {
     "--uniformity": "wgsl, naga or off",
@@ -117,7 +116,7 @@ def parsed(words):
         if key in seen:
             raise WrongArgument(twice(seen[key], word))
         seen[key] = word
-        found.flags += [word] if word != DEFAULT else []
+        found.flags.append(word)
     check_files(found.files)
     return found
 

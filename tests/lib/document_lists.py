@@ -2,6 +2,8 @@
 import json
 import re
 
+from answer_heads import parted
+from answer_schema import SCHEMA, names_of, printed, schema
 from crates import TOP, listed
 from mutants import FUNCTION
 
@@ -22,10 +24,13 @@ UNFOLDABLE = re.compile(r"(?m)^ *unfoldable pub (\w+)")
 # A member or a name that a definition prints as JSON, in a text or as a token; the crates that print such; and what no answer has: types
 # that no typing rule gives by value, and errors of other callers.
 PRINTED = re.compile(r'\\"(\w+)\\"|(?:key|variant|fields|_member|_tokens) \(codes "(\w+)"\)')
-PRINTING = re.compile(r"report_(answers|json)|shader_(report_(bounds|json|resources)|uniformity_text)")
+PRINTING = re.compile(r"report_(answers|diagnostics|json)|shader_(report_(bounds|json|resources)|uniformity_text)")
 UNSEEN = set("""AccelerationStructure Array Atomic BindingArray Constant Depth External FunctionNotDefined Image InvalidArrayElementType
     InvalidStructMemberType OutOfMemory Pending RayQuery Sampled Sampler arrayed class comparison dim format multi vertex_return""".split())
 COSTS, FAILURES, JSON = "docs/maintaining/costs.md", "docs/maintaining/allocation-failures.md", "docs/JSON.md"
+# A code of a diagnostic or its name in a definition, and a row with both in their document.
+CODES, CODE = "docs/DIAGNOSTICS.md", re.compile(r'(?m)^\w+_(code|text|name)(?:_text)? (\S+) = codes "([A-Z]\d{3}|[a-z0-9-]+)"')
+CODE_ROW = re.compile(r"(?m)^\| ([A-Z]\d{3}) \| ([a-z0-9-]+) \|")
 
 
 def read(path):
@@ -95,7 +100,9 @@ def examples(text):
 
 
 def write_examples(paths):
-    """Writes the functions and definitions that documents show below their marks."""
+    """Writes the functions and definitions that documents show below their marks, and the schema of answers."""
+    (TOP / SCHEMA).write_text(printed(schema()) + "\n")
+
     def shown(found):
         fence = "antt" if found[1].endswith(".antt") else "rust"
         return f"<!-- example: {found[1]}:{found[2]} -->\n```{fence}\n{example(found[1], found[2]) or found[3]}```"
@@ -152,7 +159,25 @@ def of_json():
     for names, what in zip(unnamed(definitions, page), ("lacks", "has a row on")):
         yield JSON, f"{what} {', '.join(names)}" if names else ""
     shown = [json.loads(it) for it in re.findall(r"(?ms)^```json\n(.*?)^```$", page)]
-    yield JSON, "" if all(it in map(json.loads, answers) for it in shown) else "shows an answer that isn't among the samples"
+    yield JSON, "" if all(parted(it)[1] in map(json.loads, answers) for it in shown) else "shows an answer that isn't among the samples"
+
+
+def of_codes():
+    """Yields what is wrong with the page on diagnostics: rows with other codes and names than the definitions have."""
+    definitions = read("crates/report_diagnostics/specs/Codes.antt")
+    held = {}
+    for _, variant, word in CODE.findall(definitions):
+        held.setdefault(variant, []).append(word)
+    defined = {tuple(it) for it in held.values()}
+    rows = {*CODE_ROW.findall(read(CODES))}
+    yield CODES, "" if rows == defined else f"other codes or names than Codes.antt has: {sorted(rows ^ defined)}"
+
+
+def of_schema():
+    """Yields what is wrong with the schema of answers: it is another than its definition, or the page on JSON lacks one of its members."""
+    yield SCHEMA, "" if read(SCHEMA) == printed(schema()) + "\n" else "other than tests/lib/answer_schema.py has (scripts/lint --write)"
+    lacking = names_of(schema()) - ticked(read(JSON))
+    yield SCHEMA, f"has {', '.join(sorted(lacking))}, which {JSON} lacks" if lacking else ""
 
 
 def hidden(definitions, document):
@@ -169,15 +194,17 @@ def of_unfoldable():
 
 
 def of_version():
-    """Yields whether README.md and CHANGELOG.md have the version of the file VERSION."""
+    """Yields whether the program `report`, README.md and CHANGELOG.md have the version of the file VERSION."""
     version = read("VERSION").strip()
     newest = re.search(r"(?m)^## ([\d.]+)", read("CHANGELOG.md"))
     yield "VERSION", "" if newest and newest[1] == version else "another version than the newest of CHANGELOG.md"
+    has_program = f'"report {version}"' in read("crates/report/src/main.rt")
+    yield "crates/report/src/main.rt", "" if has_program else "another version than the file VERSION has"
     is_shown = re.search(rf"\b[Vv]ersion {re.escape(version)}\b", read("README.md"))
     yield "README.md", "" if is_shown else "another version than the file VERSION has"
 
 
 def of_documents():
     """Yields for each list and each claim of the documents that was compared what is wrong with it, empty if nothing is."""
-    for part in (of_costs, of_failures, of_reading_order, of_json, of_unfoldable, of_version):
+    for part in (of_costs, of_failures, of_reading_order, of_json, of_codes, of_schema, of_unfoldable, of_version):
         yield from part()

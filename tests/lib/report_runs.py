@@ -5,6 +5,7 @@ import resource
 import subprocess
 
 import run_unproved
+from answer_heads import parted, wrong_head
 from check import RUN_SECONDS
 from compare_info import difference
 from crates import TOP
@@ -15,6 +16,9 @@ MODULES, UNIFORMITY, RULES = DATA / "modules", DATA / "uniformity", DATA / "line
 REPORT = program_of("report")
 ACCEPTED, REFUSED, BAD_USAGE, READ_FAILED, WRITE_FAILED, OUT_OF_MEMORY, NOT_MODULE = range(7)
 MODULE = re.compile(rb'"module"\s*:\s*')
+# The first line of a text on a refused module, and the first two lines of a block, of which a text has at most so many.
+VERDICT, MOST_BLOCKS = re.compile(r"refused: ([1-9]\d*) errors?"), 20
+BLOCK = re.compile(r"(?m)^\nerror\[[A-Z]\d{3}\]: .+\n  --> .+$")
 INDEXING = {1: "textures", 2: "storage-textures", 3: "textures,storage-textures"}
 
 
@@ -80,9 +84,11 @@ def read(line):
 
 
 def answer_to(text, words=()):
-    """Asks the program for JSON, and returns its status and the value of the line that it writes."""
+    """Asks the program for JSON, and returns its status and the members behind the head of the line that it writes, or what is wrong."""
     status, line = ask(text, ("--json", *words))
-    return status, read(line)
+    answer = read(line)
+    wrong = wrong_head(status, answer, text)
+    return status, {"wrong": wrong} if wrong else parted(answer)[1]
 
 
 def is_accepted(answer):
@@ -110,7 +116,11 @@ class Asked:
             return "no answer"
         if said is not None and said.decode() != self.said:
             return f"standard error is {said.decode()!r}, wanted {self.said!r}"
-        return self.judge(status, read(output) if "--json" in self.words else output.decode(errors="replace"))
+        if "--json" not in self.words:
+            text = output.decode(errors="replace")
+            return (wrong_refusal(text) if status == REFUSED else None) or self.judge(status, text)
+        answer = read(output)
+        return wrong_head(status, answer, self.text) or self.judge(status, parted(answer)[1])
 
 
 def judge_answer(case, want, cause=None):
@@ -121,6 +131,15 @@ def judge_answer(case, want, cause=None):
         return wrong or difference(answer, want, case.module, cause)
 
     return judge
+
+
+def wrong_refusal(text):
+    """Returns what is wrong with the text on a refused module, or None: its first and last line, and the number of its blocks."""
+    lines = text.split("\n")
+    count = VERDICT.fullmatch(lines[0])
+    heads = len(BLOCK.findall(text))
+    good = count and lines[-2:] == [lines[0], ""] and heads == min(int(count[1]), MOST_BLOCKS)
+    return None if good else f"{heads} blocks between the lines {lines[0]!r} and {lines[-2:]!r}"
 
 
 def judge_text(want):

@@ -9,7 +9,8 @@
 //! let report = pethuvazh::report_json(module, pethuvazh::Options::default())?;
 //! assert!(report.is_accepted);
 //! let (verdict, rest) = report.text.split_once(",\"layouts\":").unwrap();
-//! assert_eq!(verdict, "{\"uniformity_verdict\":{\"accepted\":true}");
+//! let head = "{\"version\":\"1.0\",\"verdict\":\"accepted\",\"diagnostics\":[]";
+//! assert_eq!(verdict, format!("{head},\"uniformity_verdict\":{{\"accepted\":true}}"));
 //! assert_eq!(rest, "[],\"info\":{\"functions\":[],\"entry_points\":[],\"const_expression_types\":[]}}\n");
 //! # Ok::<(), pethuvazh::Error>(())
 //! ```

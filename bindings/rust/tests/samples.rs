@@ -105,7 +105,9 @@ fn inputs_that_are_no_module_are_reported() {
             panic!("{bytes:?} is a module");
         };
         assert!(
-            why.starts_with("{\"error\":{") && why.ends_with("}\n"),
+            why.starts_with("{\"version\":")
+                && why.contains(",\"error\":{")
+                && why.ends_with("}\n"),
             "{why}"
         );
         let Err(Error::NotModule(why)) = report_text(bytes, Options::default()) else {

@@ -142,7 +142,18 @@ module _ (options : Options) (before after : Option (List ℕ)) where
   -- the text on too many bytes is the same of each input
   of_length : (is_json : Bool) (input text : List ℕ) → IsRefusal (record options { is_json = is_json }) [] TooLong text →
       IsRefusal (record options { is_json = is_json }) input TooLong text
-  of_length true input text h = h
+  of_length true input text h = record {
+    diagnostic = h.diagnostic;
+    of = record {
+      kind = h.of.kind;
+      has = h.of.has;
+      code = h.of.code;
+      severity = h.of.severity;
+      path = h.of.path;
+      placed = record { byte = h.of.placed.byte; line = h.of.placed.line; column = h.of.placed.column };
+    };
+    printed = h.printed;
+  }
   of_length false input text h = h
 
   longer : (P : List ℕ → Type 0) (known left : Option (List ℕ)) (read : List ℕ) → Consumes known left read → most_text_bytes < length read →

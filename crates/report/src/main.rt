@@ -19,15 +19,22 @@ use std::{env, io};
 const USAGE: &str = "usage: report [FLAG..] < FILE
 
   how it answers:            --json
-  what it checks:            --uniformity=naga
+  what it checks:            --uniformity=wgsl
+                             --uniformity=naga
                              --uniformity=off
   what the device can do:    --non-uniform-indexing=textures
                              --non-uniform-indexing=storage-textures
                              --non-uniform-indexing=textures,storage-textures
   what else it tells:        --bounds-checks [KIND=POLICY,..]
                              --resources
+                             --all-structs
                              --drawing
-                             --no-drawing";
+                             --no-drawing
+  about itself:              -h, --help
+                             -V, --version";
+
+/// The name and the version, which the file VERSION has too.
+const VERSION: &str = "report 0.3.0";
 
 /// The policies that an argument may set.
 const POLICIES: &str =
@@ -56,6 +63,18 @@ fn say_unknown(rt: &impl Eprint, word: &str) -> io::Result<()> {
     } else {
         eprintln!(rt; "report: `{word}` is no flag; the module is read from standard input")
     }
+}
+
+/// Returns what arguments ask about the program itself, if they do: the usage or the version, as the first of them says.
+fn asked_of_itself(words: &[String]) -> Option<&'static str> {
+    for word in words {
+        match word.as_str() {
+            "-h" | "--help" => return Some(USAGE),
+            "-V" | "--version" => return Some(VERSION),
+            _ => {}
+        }
+    }
+    None
 }
 
 /// Returns the argument at an index.
@@ -96,8 +115,8 @@ fn main(rt: HostRuntime) -> ExitCode {
     let Ok(words) = words else {
         return ended(&rt, Status::OutOfMemory);
     };
-    if words.iter().any(|word| word.as_str() == "--help") {
-        let _ = println!(rt; "{USAGE}");
+    if let Some(text) = asked_of_itself(words.as_slice()) {
+        let _ = println!(rt; "{text}");
         return ExitCode::SUCCESS;
     }
     let options = match Options::from_words(words.as_slice()) {

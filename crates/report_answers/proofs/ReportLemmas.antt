@@ -1,13 +1,17 @@
 -- The report on a module, by what was found of it.
 use Rattle.std.proofs.Common.{refl, ◌≡◌, ◌∙◌, ◌++◌, ◌∷◌, [], ap, append_assoc, subst, sym, inr, rules}
 use Rattle.std.proofs.Common.{ℕ, Bool, true, false, List, Option, Some, None, Ok, Err, Result}
-use Rattle.std.proofs.Common.{IsSome}
+use Rattle.std.proofs.Common.{IsSome, String, string_bytes}
+use Rattle.std.proofs.lemmas.Str.{IsUtf8-string_bytes}
 use Rattle.std.specs.Prelude.{IfOk, MatchOption, is_some}
 use Rattle.std.specs.Str.{IsUtf8}
 use Rattle.json.specs.Json.{Json, document}
 use Rattle.json.specs.Print.{print}
 use Rattle.json.specs.Token.{Token, begin_object, end_object}
 use Rattle.json.specs.Written.{Written}
+use Rattle.report_diagnostics.specs.Heads.{head_members}
+use Rattle.report_diagnostics.specs.declared.diagnostic.Diagnostic.{Diagnostic}
+use Rattle.report_findings.specs.Collected.{AreDiagnostics}
 use Rattle.report_json.specs.Tokens.{Adds, object}
 use Rattle.report_model.specs.Analyzed.{IsAnalyzed, is_accepted, uniformity_of}
 use Rattle.report_model.specs.declared.analyzed.Analyzed.{Analyzed}
@@ -15,11 +19,11 @@ use Rattle.shader_analysis_spec.specs.Program.{Module}
 use Rattle.shader_json_module.specs.Modules.{IsModule, IsTextOf}
 use Rattle.shader_report_json.specs.Answers.{AreModuleMembers}
 use Rattle.shader_uniformity.specs.declared.divergence.Uniformity.{Uniformity}
-use Rattle.shader_uniformity_text.specs.Verdicts.{verdict_members}
+use Rattle.report_answers.specs.Verdicts.{verdict_members}
 use Rattle.report_answers.specs.Options.{checks_uniformity, settings}
 use Rattle.report_answers.specs.Reading.{IsRead}
 use Rattle.report_answers.specs.Reports.{verdict, IsDeep, IsDeepReport, IsJson, IsModuleReport, IsOutputOn, IsPeople, IsPrintedFor}
-use Rattle.report_answers.specs.Reports.{is_divergent}
+use Rattle.report_answers.specs.Reports.{IsTextFor, IsTextOnAccepted, IsTextOnRefused, word_of}
 use Rattle.report_answers.specs.Reports.{IsReport, IsReportOn}
 use Rattle.report_answers.specs.Sections.{AreSections, EndsWithLines, IsRootIf}
 use Rattle.report_answers.specs.declared.options.Options.{Options}
@@ -54,22 +58,44 @@ module _ (options : Options) (j : Json) (m : Module) where
       printed = ap (λ (more : List ℕ). before ++ more) ends.printed ∙ sym (append_assoc before ends.before ends.resources);
     }
 
+    -- the text on an accepted module
+    pub people_accepted : {Z : Type 0} (text : String Z) → is_accepted analyzed ≡ true →
+        IsTextOnAccepted options j m analyzed (string_bytes text) → IsPeople options j m analyzed (string_bytes text)
+    people_accepted text accepted printed = record {
+      utf8 = IsUtf8-string_bytes text;
+      printed = subst (λ (b : Bool). IsTextFor b options j m analyzed (string_bytes text)) (sym accepted) printed;
+    }
+
+    -- the text on a refused module
+    pub people_refused : {Z : Type 0} (text : String Z) → is_accepted analyzed ≡ false →
+        IsTextOnRefused options j m analyzed (string_bytes text) → IsPeople options j m analyzed (string_bytes text)
+    people_refused text refused printed = record {
+      utf8 = IsUtf8-string_bytes text;
+      printed = subst (λ (b : Bool). IsTextFor b options j m analyzed (string_bytes text)) (sym refused) printed;
+    }
+
     -- the bytes of an object that is written from nothing, with the end of the line
-    pub object_written : (start end : Written) (text line : List ℕ) (found sections : List Token) → start.before ≡ [] → start.tokens ≡ [] →
+    pub object_written : (start end : Written) (text line : List ℕ) (diagnostics : List Diagnostic) (found sections : List Token) →
+        start.before ≡ [] → start.tokens ≡ [] → AreDiagnostics m analyzed diagnostics →
         AreModuleMembers analyzed found → AreSections options j m analyzed sections →
-        Adds start end (begin_object ∷ (verdict_members (uniformity_of analyzed) ++ (found ++ (sections ++ end_object ∷ [])))) →
+        Adds start end (begin_object ∷ (head_members (word_of (is_accepted analyzed)) diagnostics
+        ++ (verdict_members (uniformity_of analyzed) ++ (found ++ (sections ++ end_object ∷ []))))) →
         text ≡ end.before ++ print end.tokens → line ≡ text ++ 10 ∷ [] → IsJson options j m analyzed line
-    object_written start end text line found sections before none are asked adds bytes ends =
-        let first = verdict_members (uniformity_of analyzed) in
-        let all = object (first ++ (found ++ sections)) in
-        let regrouped : begin_object ∷ (first ++ (found ++ (sections ++ end_object ∷ []))) ≡ all =
+    object_written start end text line diagnostics found sections before none diagnosed are asked adds bytes ends =
+        let head = head_members (word_of (is_accepted analyzed)) diagnostics in
+        let flow = verdict_members (uniformity_of analyzed) in
+        let all = object (head ++ (flow ++ (found ++ sections))) in
+        let regrouped : begin_object ∷ (head ++ (flow ++ (found ++ (sections ++ end_object ∷ [])))) ≡ all =
         ap (λ (ts : List Token). begin_object ∷ ts)
-        (ap (λ (ts : List Token). first ++ ts) (sym (append_assoc found sections (end_object ∷ [])))
-        ∙ sym (append_assoc first (found ++ sections) (end_object ∷ []))) in
+        (ap (λ (ts : List Token). head ++ ts) (ap (λ (ts : List Token). flow ++ ts) (sym (append_assoc found sections (end_object ∷ [])))
+        ∙ sym (append_assoc flow (found ++ sections) (end_object ∷ [])))
+        ∙ sym (append_assoc head (flow ++ (found ++ sections)) (end_object ∷ []))) in
         let tokens : end.tokens ≡ all =
-        adds.added ∙ ap (λ (ts : List Token). ts ++ (begin_object ∷ (first ++ (found ++ (sections ++ end_object ∷ []))))) none
+        adds.added ∙ ap (λ (ts : List Token). ts ++ (begin_object ∷ (head ++ (flow ++ (found ++ (sections ++ end_object ∷ [])))))) none
         ∙ regrouped in
         record {
+          diagnostics = diagnostics;
+          diagnostics_are = diagnosed;
           found = found;
           found_are = are;
           sections = sections;
@@ -122,23 +148,3 @@ pub read_told : (options : Options) (input : List ℕ) (m : Module) (outcome : O
 read_told options input m outcome text on read =
     module_told options read.0.j m input outcome text read.0.utf8 read.0.parses read.0.stands
     (on read.0.j (no_root options.has_resources read.0.j read.1))
-
-differ : true ≡ false → ⊥
-differ e = absurd (cc)
-
-some_unless : {A : Type 0} (found : Option A) → (found ≡ None → ⊥) → is_some found ≡ true
-some_unless None none = absurd (none refl)
-some_unless (Some x) none = refl
-
--- control flow that isn't accepted is refused
-pub is_refused : (found : Uniformity) (verdict : Option Uniformity) → Some found ≡ verdict → (found.fault ≡ None → ⊥) →
-    is_divergent verdict ≡ false → ⊥
-is_refused found verdict is fault accepted =
-    let refused : is_some found.fault ≡ true = some_unless found.fault fault in
-    let same : is_some found.fault ≡ false = ap is_divergent is ∙ accepted in
-    differ (sym refused ∙ same)
-
--- a property of each value is one of a result's
-pub if_ok : {X Y : Type 0} (r : Result X Y) (P : X → Type 0) → ((x : X) → P x) → IfOk r P
-if_ok (Ok x) P each = each x
-if_ok (Err y) P each = search rules

@@ -7,9 +7,9 @@ use Rattle.report_answers.specs.Options.{flag_of, is_set, on_ok, once, options_f
 use Rattle.report_answers.specs.WordLaws.{TwiceIsOfTwoWords, WordsChangePlaces, flags_in, sets_same}
 use Rattle.report_answers.specs.declared.options.BadWord.{BadWord}
 use Rattle.report_answers.specs.declared.options.Flag.{Flag}
-use Rattle.report_answers.specs.declared.options.Flag.TheVariants.{Json, NagaFlow, AnyFlow, NoFlow, IndexTextures, IndexStorageTextures}
-use Rattle.report_answers.specs.declared.options.Flag.TheVariants.{IndexBoth, IndexBothTurned, Bounds, Policies, Resources}
-use Rattle.report_answers.specs.declared.options.Flag.TheVariants.{Drawing, NoDrawing}
+use Rattle.report_answers.specs.declared.options.Flag.TheVariants.{Json, WgslFlow, NagaFlow, AnyFlow, NoFlow, IndexTextures}
+use Rattle.report_answers.specs.declared.options.Flag.TheVariants.{IndexStorageTextures, IndexBoth, IndexBothTurned, Bounds, Policies}
+use Rattle.report_answers.specs.declared.options.Flag.TheVariants.{Resources, AllStructs, Drawing, NoDrawing}
 use Rattle.report_answers.specs.declared.options.Options.{Options}
 
 set_twice : {A : Type 0} → true ≡ false → A
@@ -31,6 +31,13 @@ record MayChange (o : Options) (one other : Flag) : Type 0 where
 -- two flags that set different things, or the second would be refused
 change : (o : Options) (one other : Flag) → is_set o one ≡ false → is_set (with o one) other ≡ false → MayChange o one other
 change o Json Json unset twice = set_twice twice
+change o WgslFlow WgslFlow unset twice = set_twice twice
+change o WgslFlow NagaFlow unset twice = set_twice twice
+change o WgslFlow AnyFlow unset twice = set_twice twice
+change o WgslFlow NoFlow unset twice = set_twice twice
+change o NagaFlow WgslFlow unset twice = set_twice twice
+change o AnyFlow WgslFlow unset twice = set_twice twice
+change o NoFlow WgslFlow unset twice = set_twice twice
 change o NagaFlow NagaFlow unset twice = set_twice twice
 change o NagaFlow AnyFlow unset twice = set_twice twice
 change o NagaFlow NoFlow unset twice = set_twice twice
@@ -59,6 +66,7 @@ change o IndexBothTurned IndexBothTurned unset twice = set_twice twice
 change o Bounds Bounds unset twice = set_twice twice
 change o (Policies one) (Policies other) unset twice = set_twice twice
 change o Resources Resources unset twice = set_twice twice
+change o AllStructs AllStructs unset twice = set_twice twice
 change o Drawing Drawing unset twice = set_twice twice
 change o Drawing NoDrawing unset twice = set_twice twice
 change o NoDrawing Drawing unset twice = set_twice twice
@@ -112,6 +120,7 @@ module _ {A : Type 0} where
 
 is_set-with : (o : Options) (one other : Flag) → is_set (with o one) other ≡ (sets_same one other || is_set o other)
 is_set-with o Json Json = refl
+is_set-with o WgslFlow WgslFlow = refl
 is_set-with o NagaFlow NagaFlow = refl
 is_set-with o AnyFlow AnyFlow = refl
 is_set-with o NoFlow NoFlow = refl
@@ -125,6 +134,7 @@ is_set-with o IndexBothTurned IndexBothTurned = refl
 is_set-with o Bounds Bounds = refl
 is_set-with o (Policies one) (Policies other) = refl
 is_set-with o Resources Resources = refl
+is_set-with o AllStructs AllStructs = refl
 is_set-with o Drawing Drawing = refl
 is_set-with o NoDrawing NoDrawing = refl
 is_set-with o one other = refl

@@ -1,9 +1,8 @@
-pub mod Errors
-pub mod Forms
+pub mod Analyses
 pub mod Options
-pub mod Places
 pub mod Policies
 pub mod Reading
 pub mod Reports
 pub mod Sections
+pub mod Verdicts
 pub mod WordLaws

@@ -12,17 +12,18 @@ use Rattle.shader_bounds.specs.declared.policies.BoundsCheckPolicies.{BoundsChec
 use Rattle.shader_passes.specs.Causes.{settings_of}
 use Rattle.report_answers.specs.Policies.{policies_of}
 use Rattle.report_answers.specs.declared.options.Flag.{Flag}
-use Rattle.report_answers.specs.declared.options.Flag.TheVariants.{Json, NagaFlow, AnyFlow, NoFlow, IndexTextures, IndexStorageTextures}
-use Rattle.report_answers.specs.declared.options.Flag.TheVariants.{IndexBoth, IndexBothTurned, Bounds, Policies, Resources}
-use Rattle.report_answers.specs.declared.options.Flag.TheVariants.{Drawing, NoDrawing}
+use Rattle.report_answers.specs.declared.options.Flag.TheVariants.{Json, WgslFlow, NagaFlow, AnyFlow, NoFlow, IndexTextures}
+use Rattle.report_answers.specs.declared.options.Flag.TheVariants.{IndexStorageTextures, IndexBoth, IndexBothTurned, Bounds, Policies}
+use Rattle.report_answers.specs.declared.options.Flag.TheVariants.{Resources, AllStructs, Drawing, NoDrawing}
 use Rattle.report_answers.specs.declared.options.FlowCheck.{FlowCheck}
-use Rattle.report_answers.specs.declared.options.FlowCheck.TheVariants.{Defined, Naga, Off}
+use Rattle.report_answers.specs.declared.options.FlowCheck.TheVariants.{Wgsl, Naga, Off}
 use Rattle.report_answers.specs.declared.options.BadWord.{BadWord}
 use Rattle.report_answers.specs.declared.options.BadWord.TheVariants.{Unknown, Twice}
 use Rattle.report_answers.specs.declared.options.Options.{Options}
 
 abbrev pub flag_text : Flag → List ℕ
 flag_text Json = codes "--json"
+flag_text WgslFlow = codes "--uniformity=wgsl"
 flag_text NagaFlow = codes "--uniformity=naga"
 flag_text AnyFlow = codes "--uniformity=off"
 flag_text NoFlow = codes "--no-control-flow-uniformity"
@@ -33,13 +34,14 @@ flag_text IndexBothTurned = codes "--non-uniform-indexing=storage-textures,textu
 flag_text Bounds = codes "--bounds-checks"
 flag_text (Policies policies) = []
 flag_text Resources = codes "--resources"
+flag_text AllStructs = codes "--all-structs"
 flag_text Drawing = codes "--drawing"
 flag_text NoDrawing = codes "--no-drawing"
 
 abbrev pub all_flags : List Flag
 all_flags =
-    Json ∷ NagaFlow ∷ AnyFlow ∷ NoFlow ∷ IndexTextures ∷ IndexStorageTextures ∷ IndexBoth ∷ IndexBothTurned
-    ∷ Bounds ∷ Resources ∷ Drawing ∷ NoDrawing ∷ []
+    Json ∷ WgslFlow ∷ NagaFlow ∷ AnyFlow ∷ NoFlow ∷ IndexTextures ∷ IndexStorageTextures ∷ IndexBoth ∷ IndexBothTurned
+    ∷ Bounds ∷ Resources ∷ AllStructs ∷ Drawing ∷ NoDrawing ∷ []
 
 abbrev pub named_flag : List ℕ → Option Flag
 named_flag word = find (λ flag. bytes_eq (flag_text flag) word) all_flags
@@ -52,12 +54,13 @@ flag_of word = option_or (named_flag word) (option_map (λ policies. Policies po
 abbrev pub start : Options
 start = record {
   is_json = false;
-  flow = Defined;
+  flow = None;
   indexes_textures = false;
   indexes_storage_textures = false;
   has_bounds = false;
   policies = None;
   has_resources = false;
+  has_structs = false;
   drawing = None;
 }
 
@@ -67,9 +70,10 @@ indexing_both options = record options { indexes_textures = true; indexes_storag
 -- the options with one more flag
 abbrev pub with : Options → Flag → Options
 with options Json = record options { is_json = true }
-with options NagaFlow = record options { flow = Naga }
-with options AnyFlow = record options { flow = Off }
-with options NoFlow = record options { flow = Off }
+with options WgslFlow = record options { flow = Some Wgsl }
+with options NagaFlow = record options { flow = Some Naga }
+with options AnyFlow = record options { flow = Some Off }
+with options NoFlow = record options { flow = Some Off }
 with options IndexTextures = record options { indexes_textures = true }
 with options IndexStorageTextures = record options { indexes_storage_textures = true }
 with options IndexBoth = indexing_both options
@@ -77,6 +81,7 @@ with options IndexBothTurned = indexing_both options
 with options Bounds = record options { has_bounds = true }
 with options (Policies policies) = record options { policies = Some policies }
 with options Resources = record options { has_resources = true }
+with options AllStructs = record options { has_structs = true }
 with options Drawing = record options { drawing = Some true }
 with options NoDrawing = record options { drawing = Some false }
 
@@ -89,6 +94,14 @@ policies_or None false = None
 abbrev pub bounds_of : Options → Option BoundsCheckPolicies
 bounds_of options = policies_or options.policies options.has_bounds
 
+-- structs are drawn if a word or the caller says so
+abbrev pub draws_structs : Options → Bool
+draws_structs options = unwrap_or options.drawing false
+
+-- structs are declared where they are drawn, and if a word says so
+abbrev pub declares_structs : Options → Bool
+declares_structs options = options.has_structs || draws_structs options
+
 -- structs are drawn as a word says, and as the caller does where none says it
 abbrev pub drawing_if : Options → Bool → Options
 drawing_if options is_drawn = record options { drawing = Some (unwrap_or options.drawing is_drawn) }
@@ -96,17 +109,13 @@ drawing_if options is_drawn = record options { drawing = Some (unwrap_or options
 abbrev indexes : Options → Bool
 indexes options = options.indexes_textures || options.indexes_storage_textures
 
-abbrev decides : FlowCheck → Bool
-decides Defined = false
-decides Naga = true
-decides Off = true
-
 -- whether what the flag sets is set already
 abbrev pub is_set : Options → Flag → Bool
 is_set options Json = options.is_json
-is_set options NagaFlow = decides options.flow
-is_set options AnyFlow = decides options.flow
-is_set options NoFlow = decides options.flow
+is_set options WgslFlow = is_some options.flow
+is_set options NagaFlow = is_some options.flow
+is_set options AnyFlow = is_some options.flow
+is_set options NoFlow = is_some options.flow
 is_set options IndexTextures = indexes options
 is_set options IndexStorageTextures = indexes options
 is_set options IndexBoth = indexes options
@@ -114,6 +123,7 @@ is_set options IndexBothTurned = indexes options
 is_set options Bounds = options.has_bounds
 is_set options (Policies policies) = is_some options.policies
 is_set options Resources = options.has_resources
+is_set options AllStructs = options.has_structs
 is_set options Drawing = is_some options.drawing
 is_set options NoDrawing = is_some options.drawing
 
@@ -152,13 +162,18 @@ nearer word one other = if nat_lt (shared word (flag_text one)) (shared word (fl
 abbrev pub nearest : List ℕ → Flag
 nearest word =
     nearer word Json (nearer word
-    (nearer word (nearer word (nearer word (nearer word NagaFlow AnyFlow) NoFlow) (nearer word IndexTextures IndexStorageTextures))
+    (nearer word (nearer word (nearer word (nearer word WgslFlow NagaFlow) (nearer word AnyFlow NoFlow))
+    (nearer word IndexTextures IndexStorageTextures))
     (nearer word IndexBoth IndexBothTurned))
-    (nearer word (nearer word Bounds Resources) (nearer word Drawing NoDrawing)))
+    (nearer word (nearer word Bounds Resources) (nearer word AllStructs (nearer word Drawing NoDrawing))))
+
+-- uniform flow is checked by WGSL's rules unless a word says otherwise
+abbrev pub flow_check : Options → FlowCheck
+flow_check options = unwrap_or options.flow Wgsl
 
 abbrev flow_bits : FlowCheck → ℕ
 flow_bits Naga = 1
-flow_bits Defined = 0
+flow_bits Wgsl = 0
 flow_bits Off = 0
 
 abbrev index_bits : Bool → Bool → ℕ
@@ -168,7 +183,7 @@ index_bits false true = 2
 index_bits true true = 3
 
 abbrev pub flags_of : Options → ValidationFlags
-flags_of options = record { 0 = flow_bits options.flow }
+flags_of options = record { 0 = flow_bits (flow_check options) }
 
 abbrev pub capabilities_of : Options → Capabilities
 capabilities_of options = record { 0 = index_bits options.indexes_textures options.indexes_storage_textures }
@@ -177,10 +192,10 @@ abbrev pub settings : Options → Settings
 settings options = settings_of (flags_of options) (capabilities_of options)
 
 abbrev checks_by : FlowCheck → Bool
-checks_by Defined = true
+checks_by Wgsl = true
 checks_by Naga = false
 checks_by Off = false
 
 -- whether uniform flow is decided by its definition
 abbrev pub checks_uniformity : Options → Bool
-checks_uniformity options = checks_by options.flow
+checks_uniformity options = checks_by (flow_check options)

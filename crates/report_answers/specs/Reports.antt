@@ -1,44 +1,74 @@
 -- The report on the module that an input is.
-use Rattle.std.specs.Prelude.{◌≡◌, ◌⊎◌, ◌++◌, ◌∷◌, [], ℕ, Bool, true, false, List, IsSome, Option, Some, None, is_some}
+use Rattle.std.specs.Prelude.{◌≡◌, ◌⊎◌, ◌++◌, ◌∷◌, [], ℕ, Bool, true, false, List, IsSome, Option, Some, None}
 use Rattle.std.specs.Str.{IsUtf8}
 use Rattle.json.specs.Json.{Json, document}
 use Rattle.json.specs.Print.{print}
 use Rattle.json.specs.Token.{Token}
+use Rattle.report_blocks.specs.Refusals.{IsRefusalText}
+use Rattle.report_diagnostics.specs.Heads.{head_members}
+use Rattle.report_diagnostics.specs.declared.diagnostic.Diagnostic.{Diagnostic}
+use Rattle.report_diagnostics.specs.declared.head.Verdict.{Verdict}
+use Rattle.report_diagnostics.specs.declared.head.Verdict.TheVariants as heads
 use Rattle.report_json.specs.Tokens.{object}
-use Rattle.report_model.specs.Analyzed.{IsAnalyzed, is_accepted, uniformity_of}
+use Rattle.report_model.specs.Analyzed.{IsAnalyzed, info_of, is_accepted, uniformity_of}
 use Rattle.report_model.specs.declared.analyzed.Analyzed.{Analyzed}
+use Rattle.report_summary.specs.Summaries.{IsSummaryText}
 use Rattle.shader_analysis_spec.specs.Program.{Module}
+use Rattle.shader_interface.specs.declared.bound.ResourceBinding.{ResourceBinding}
 use Rattle.shader_json_module.specs.Modules.{IsTextOf}
 use Rattle.shader_json_reader.specs.Errors.{IsAccurate}
 use Rattle.shader_json_reader.specs.declared.error.ReadError.{ReadError}
 use Rattle.shader_report_json.specs.Answers.{AreModuleMembers}
 use Rattle.shader_resolve.specs.Nesting.{NestsWithin}
-use Rattle.shader_uniformity.specs.declared.divergence.Uniformity.{Uniformity}
-use Rattle.shader_uniformity_text.specs.Verdicts.{verdict_members}
-use Rattle.report_answers.specs.Errors.{IsErrorText, IsObjectText, nesting_object, nesting_text}
+use Rattle.report_answers.specs.Verdicts.{verdict_members}
+use Rattle.report_findings.specs.Collected.{AreDiagnostics}
+use Rattle.report_input.specs.Errors.{IsErrorText, IsNestingObject, IsObjectText, nesting_text}
 use Rattle.report_answers.specs.Options.{checks_uniformity, settings}
 use Rattle.report_answers.specs.Sections.{AreSections, EndsWithLines}
 use Rattle.report_answers.specs.declared.options.Options.{Options}
 use Rattle.report_answers.specs.declared.reports.Outcome.{Outcome}
 use Rattle.report_answers.specs.declared.reports.Outcome.TheVariants.{Accepted, Refused, NotModule}
 
--- as JSON the text is an object: the verdict on uniform flow, what was found of the module, and the sections that words ask for
+-- the verdict of an answer on a module
+abbrev pub word_of : Bool → Verdict
+word_of true = heads.Accepted
+word_of false = heads.Refused
+
+-- as JSON the text is an object: the verdict and a diagnostic for each fault, then the verdict on uniform flow, what was found of the
+-- module, and the sections that words ask for
 pub record IsJson (options : Options) (j : Json) (m : Module) (analyzed : Analyzed) (text : List ℕ) : Type 0 where
+  pub diagnostics : List Diagnostic
+  pub diagnostics_are : AreDiagnostics m analyzed diagnostics
   pub found : List Token
   pub found_are : AreModuleMembers analyzed found
   pub sections : List Token
   pub sections_are : AreSections options j m analyzed sections
-  pub printed : text ≡ print (object (verdict_members (uniformity_of analyzed) ++ (found ++ sections))) ++ 10 ∷ []
+  pub printed : text ≡ print (object (head_members (word_of (is_accepted analyzed)) diagnostics
+      ++ (verdict_members (uniformity_of analyzed) ++ (found ++ sections)))) ++ 10 ∷ []
 
--- whether control flow is refused
-abbrev pub is_divergent : Option Uniformity → Bool
-is_divergent (Some found) = is_some found.fault
-is_divergent None = false
+-- in text output on a refused module: the verdict, its diagnostics, and the resources that options ask for
+pub record IsTextOnRefused (options : Options) (j : Json) (m : Module) (analyzed : Analyzed) (text : List ℕ) : Type 0 where
+  pub diagnostics : List Diagnostic
+  pub diagnostics_are : AreDiagnostics m analyzed diagnostics
+  pub sections : List ℕ
+  pub lines : EndsWithLines options j m analyzed sections
+  pub is : IsRefusalText m diagnostics sections text
 
--- for people no clause says in which words it is; unless control flow is refused, it ends with the resources that words ask for
+-- on an accepted module: the verdict with counts, what each entry point uses, and the resources that options ask for
+pub record IsTextOnAccepted (options : Options) (j : Json) (m : Module) (analyzed : Analyzed) (text : List ℕ) : Type 0 where
+  pub sections : List ℕ
+  pub lines : EndsWithLines options j m analyzed sections
+  pub bindings : List (Option ResourceBinding)
+  pub is : IsSummaryText m (info_of analyzed) bindings sections text
+
+abbrev pub IsTextFor : Bool → Options → Json → Module → Analyzed → List ℕ → Type 0
+IsTextFor true options j m analyzed text = IsTextOnAccepted options j m analyzed text
+IsTextFor false options j m analyzed text = IsTextOnRefused options j m analyzed text
+
+-- for people it is UTF-8
 pub record IsPeople (options : Options) (j : Json) (m : Module) (analyzed : Analyzed) (text : List ℕ) : Type 0 where
   pub utf8 : IsUtf8 text
-  pub lines : is_divergent (uniformity_of analyzed) ≡ false → EndsWithLines options j m analyzed text
+  pub printed : IsTextFor (is_accepted analyzed) options j m analyzed text
 
 abbrev pub IsPrintedFor : Bool → Options → Json → Module → Analyzed → List ℕ → Type 0
 IsPrintedFor true options j m analyzed text = IsJson options j m analyzed text
@@ -63,7 +93,7 @@ verdict false = Refused
 
 -- the text of an error of the input, as JSON or for people
 abbrev IsErrorFor : Bool → List ℕ → ReadError → List ℕ → Type 0
-IsErrorFor true input error text = IsObjectText error text
+IsErrorFor true input error text = IsObjectText input error text
 IsErrorFor false input error text = IsErrorText input error text
 
 abbrev pub IsRefusal : Options → List ℕ → ReadError → List ℕ → Type 0
@@ -71,7 +101,7 @@ IsRefusal options input error text = IsErrorFor options.is_json input error text
 
 -- the text on blocks that nest too deep
 abbrev IsNestingFor : Bool → List ℕ → Type 0
-IsNestingFor true text = text ≡ nesting_object
+IsNestingFor true text = IsNestingObject text
 IsNestingFor false text = text ≡ nesting_text
 
 abbrev pub IsNesting : Options → List ℕ → Type 0

@@ -2,16 +2,14 @@
 //! it, so both print the same bytes.
 #![tactic(auto)]
 
-mod errors;
-mod forms;
 pub mod laws;
 mod options;
-mod places;
 mod policies;
 mod progress;
 mod reading;
 mod reports;
 mod sections;
+mod verdict;
 
 pub use options::{BadWord, Flag, FlowCheck, Options};
 pub use progress::{Progress, Silent, Stage};

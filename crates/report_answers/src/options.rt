@@ -1,8 +1,8 @@
 //! The options of the command line.
 ghost use Rattle.std.specs.Prelude.{◌≡◌, Some};
-ghost use Rattle.report_answers.specs.Options.{bounds_of, capabilities_of, checks_uniformity, drawing_if, flag_of, flag_text, flags_of};
-ghost use Rattle.report_answers.specs.Options.{indexing_both, is_set};
-ghost use Rattle.report_answers.specs.Options.{named_flag, nearer, nearest, options_from, shared, start, with, with_word};
+ghost use Rattle.report_answers.specs.Options.{bounds_of, capabilities_of, checks_uniformity, declares_structs, drawing_if};
+ghost use Rattle.report_answers.specs.Options.{draws_structs, flag_of, flag_text, flags_of, flow_check, indexing_both, is_set, named_flag};
+ghost use Rattle.report_answers.specs.Options.{nearer, nearest, options_from, shared, start, with, with_word};
 
 use crate::policies::policies_of;
 use bitflags::Flags;
@@ -22,6 +22,8 @@ const UNCHECKED: BoundsCheckPolicies = BoundsCheckPolicies {
 pub enum Flag {
     /// Reports as JSON.
     Json,
+    /// Checks uniform flow by WGSL's rules, as without a flag.
+    WgslFlow,
     /// Checks uniform flow as naga specifies it.
     NagaFlow,
     /// Doesn't check uniform flow.
@@ -42,6 +44,8 @@ pub enum Flag {
     Policies(BoundsCheckPolicies),
     /// Reports resources.
     Resources,
+    /// Declares all structs.
+    AllStructs,
     /// Draws structs.
     Drawing,
     /// Doesn't draw structs.
@@ -59,8 +63,9 @@ pub enum BadWord {
 
 impl Flag {
     /// The flags with a fixed argument each: all except policies.
-    pub const ALL: [Flag; 12] = [
+    pub const ALL: [Flag; 14] = [
         Flag::Json,
+        Flag::WgslFlow,
         Flag::NagaFlow,
         Flag::AnyFlow,
         Flag::NoFlow,
@@ -70,6 +75,7 @@ impl Flag {
         Flag::IndexBothTurned,
         Flag::Bounds,
         Flag::Resources,
+        Flag::AllStructs,
         Flag::Drawing,
         Flag::NoDrawing,
     ];
@@ -80,6 +86,7 @@ impl Flag {
     {
         match self {
             Flag::Json => "--json",
+            Flag::WgslFlow => "--uniformity=wgsl",
             Flag::NagaFlow => "--uniformity=naga",
             Flag::AnyFlow => "--uniformity=off",
             Flag::NoFlow => "--no-control-flow-uniformity",
@@ -90,6 +97,7 @@ impl Flag {
             Flag::Bounds => "--bounds-checks",
             Flag::Policies(_) => "",
             Flag::Resources => "--resources",
+            Flag::AllStructs => "--all-structs",
             Flag::Drawing => "--drawing",
             Flag::NoDrawing => "--no-drawing",
         }
@@ -101,15 +109,19 @@ impl Flag {
     {
         let of_flow = nearer(
             word,
-            nearer(word, Flag::NagaFlow, Flag::AnyFlow),
-            Flag::NoFlow,
+            nearer(word, Flag::WgslFlow, Flag::NagaFlow),
+            nearer(word, Flag::AnyFlow, Flag::NoFlow),
         );
         let of_one = nearer(word, Flag::IndexTextures, Flag::IndexStorageTextures);
         let of_both = nearer(word, Flag::IndexBoth, Flag::IndexBothTurned);
         let of_parts = nearer(
             word,
             nearer(word, Flag::Bounds, Flag::Resources),
-            nearer(word, Flag::Drawing, Flag::NoDrawing),
+            nearer(
+                word,
+                Flag::AllStructs,
+                nearer(word, Flag::Drawing, Flag::NoDrawing),
+            ),
         );
         let of_checks = nearer(word, nearer(word, of_flow, of_one), of_both);
         nearer(word, Flag::Json, nearer(word, of_checks, of_parts))
@@ -170,7 +182,7 @@ fn nearer(word: &[u8], one: Flag, other: Flag) -> Flag
 #[derive(Clone, Copy, Debug, PartialEq, Eq)]
 pub enum FlowCheck {
     /// That of `shader_uniformity`, which follows WGSL, if the module has no other fault.
-    Defined,
+    Wgsl,
     /// That of the analysis, as naga specifies it.
     Naga,
     /// None.
@@ -182,8 +194,8 @@ pub enum FlowCheck {
 pub struct Options {
     /// True for JSON, false for text output.
     pub is_json: bool,
-    /// The check of uniform flow.
-    pub flow: FlowCheck,
+    /// The check of uniform flow, if an argument says it. Otherwise it is that of WGSL.
+    pub flow: Option<FlowCheck>,
     /// True if arrays of sampled images and of samplers may be indexed by values that differ among invocations.
     pub indexes_textures: bool,
     /// True if arrays of storage images may be indexed by values that differ among invocations.
@@ -194,6 +206,8 @@ pub struct Options {
     pub policies: Option<BoundsCheckPolicies>,
     /// True if resources are reported.
     pub has_resources: bool,
+    /// True if the text output declares all structs. Drawings are below declarations, so they ask for these too.
+    pub has_structs: bool,
     /// Whether the text output has drawings of structs, if an argument says so.
     pub drawing: Option<bool>,
 }
@@ -202,12 +216,13 @@ impl Options {
     /// The options without any argument.
     pub const START: Options = Options {
         is_json: false,
-        flow: FlowCheck::Defined,
+        flow: None,
         indexes_textures: false,
         indexes_storage_textures: false,
         has_bounds: false,
         policies: None,
         has_resources: false,
+        has_structs: false,
         drawing: None,
     };
 
@@ -224,9 +239,19 @@ impl Options {
 
     /// Returns the options with this check of uniform flow.
     fn with_flow(self, flow: FlowCheck) -> Options
-        ensures { result ≡ record self { flow = flow } }
+        ensures { result ≡ record self { flow = Some flow } }
     {
-        Options { flow, ..self }
+        Options {
+            flow: Some(flow),
+            ..self
+        }
+    }
+
+    /// Returns the check of uniform flow.
+    fn flow_check(self) -> FlowCheck
+        ensures { result ≡ flow_check self }
+    {
+        self.flow.unwrap_or(FlowCheck::Wgsl)
     }
 
     /// Returns the options with or without drawings of structs.
@@ -248,6 +273,7 @@ impl Options {
                 is_json: true,
                 ..self
             },
+            Flag::WgslFlow => self.with_flow(FlowCheck::Wgsl),
             Flag::NagaFlow => self.with_flow(FlowCheck::Naga),
             Flag::AnyFlow => self.with_flow(FlowCheck::Off),
             Flag::NoFlow => self.with_flow(FlowCheck::Off),
@@ -273,6 +299,10 @@ impl Options {
                 has_resources: true,
                 ..self
             },
+            Flag::AllStructs => Options {
+                has_structs: true,
+                ..self
+            },
             Flag::Drawing => self.with_drawing(true),
             Flag::NoDrawing => self.with_drawing(false),
         }
@@ -283,9 +313,10 @@ impl Options {
         ensures { result ≡ is_set self flag }
     {
         let indexes = self.indexes_textures || self.indexes_storage_textures;
-        let decides = self.flow != FlowCheck::Defined;
+        let decides = self.flow.is_some();
         match flag {
             Flag::Json => self.is_json,
+            Flag::WgslFlow => decides,
             Flag::NagaFlow => decides,
             Flag::AnyFlow => decides,
             Flag::NoFlow => decides,
@@ -296,6 +327,7 @@ impl Options {
             Flag::Bounds => self.has_bounds,
             Flag::Policies(_) => self.policies.is_some(),
             Flag::Resources => self.has_resources,
+            Flag::AllStructs => self.has_structs,
             Flag::Drawing => self.drawing.is_some(),
             Flag::NoDrawing => self.drawing.is_some(),
         }
@@ -310,6 +342,20 @@ impl Options {
             (None, true) => Some(UNCHECKED),
             (None, false) => None,
         }
+    }
+
+    /// Returns whether structs are drawn.
+    pub fn draws_structs(self) -> bool
+        ensures { result ≡ draws_structs self }
+    {
+        self.drawing.unwrap_or(false)
+    }
+
+    /// Returns whether the text output declares structs, which drawings are below.
+    pub fn declares_structs(self) -> bool
+        ensures { result ≡ declares_structs self }
+    {
+        self.has_structs || self.draws_structs()
     }
 
     /// Returns the options, with this default for drawings if no argument sets it.
@@ -357,8 +403,8 @@ impl Options {
     pub fn checks_uniformity(self) -> bool
         ensures { result ≡ checks_uniformity self }
     {
-        match self.flow {
-            FlowCheck::Defined => true,
+        match self.flow_check() {
+            FlowCheck::Wgsl => true,
             FlowCheck::Naga => false,
             FlowCheck::Off => false,
         }
@@ -368,9 +414,9 @@ impl Options {
     pub fn flags(self) -> ValidationFlags
         ensures { result ≡ flags_of self }
     {
-        match self.flow {
+        match self.flow_check() {
             FlowCheck::Naga => ValidationFlags::CONTROL_FLOW_UNIFORMITY,
-            FlowCheck::Defined => ValidationFlags::empty(),
+            FlowCheck::Wgsl => ValidationFlags::empty(),
             FlowCheck::Off => ValidationFlags::empty(),
         }
     }

@@ -1,19 +1,22 @@
 //! The report on an input.
 
-use crate::errors::{error_object, error_text, nesting_object, nesting_text};
-use crate::options::Options;
+use crate::options::{FlowCheck, Options};
 use crate::progress::{Progress, Stage};
 use crate::reading::Reading;
-use crate::sections::{asked_lines, write_sections};
+use crate::sections::{section_lines, write_sections};
+use crate::verdict::write_verdict;
 use json::{Value, Writer};
+use report_blocks::refusal_text;
+use report_diagnostics::{Verdict, write_head};
+use report_findings::diagnostics_of;
+use report_input::{error_object, error_text, nesting_object, nesting_text};
 use report_model::{Analyzed, analyze};
+use report_summary::{FlowRules, summary_text};
 use shader_interface::ResourceBinding;
 use shader_ir::Module;
 use shader_json_module::ReadError;
 use shader_report_json::write_module;
-use shader_report_text::summarize;
 use shader_resolve::{MOST_LEVELS, nests_within};
-use shader_uniformity_text::{refusal_text, write_verdict};
 use std::alloc::{AllocError, Global};
 
 /// The verdict on an input.
@@ -25,6 +28,15 @@ pub enum Outcome {
     Refused,
     /// No module, or one whose blocks nest too deep.
     NotModule,
+}
+
+/// Returns the rules by which a report checks uniform control flow.
+fn flow_rules(options: Options) -> FlowRules {
+    match options.flow {
+        Some(FlowCheck::Wgsl) | None => FlowRules::Wgsl,
+        Some(FlowCheck::Naga) => FlowRules::Naga,
+        Some(FlowCheck::Off) => FlowRules::Unchecked,
+    }
 }
 
 /// The report on an input.
@@ -39,12 +51,11 @@ pub struct Report {
 impl Report {
     ghost use Rattle.std.specs.Prelude.{◌≡◌, ℕ, IfOk, List, string_bytes};
     ghost use Rattle.json.specs.Json.{Json};
-    ghost use Rattle.report_model.specs.Analyzed.{IsAnalyzed};
-    ghost use Rattle.report_model.specs.Fitting.{Fits};
-    ghost use Rattle.report_answers.specs.Options.{checks_uniformity, settings};
+    ghost use Rattle.report_answers.specs.Analyses.{IsAnalysisOf};
     ghost use Rattle.report_answers.specs.Reading.{IsReading};
-    ghost use Rattle.report_answers.specs.Reports.{IsJson, IsNesting, IsPeople, IsRefusal, IsReport, IsReportOn, verdict};
-    ghost use Rattle.report_answers.specs.Sections.{EndsWithLines, IsRootIf};
+    ghost use Rattle.report_answers.specs.Reports.{IsJson, IsNesting, IsPeople, IsRefusal, IsReport, IsReportOn};
+    ghost use Rattle.report_answers.specs.Reports.{IsTextOnAccepted, IsTextOnRefused, verdict, word_of};
+    ghost use Rattle.report_answers.specs.Sections.{IsRootIf};
     ghost use Rattle.shader_interface.specs.Interface.{seen};
 
     /// Returns the report with this text and verdict on a module.
@@ -76,6 +87,17 @@ impl Report {
         }
     }
 
+    /// Returns the verdict of an answer on a module.
+    fn verdict_of(is_accepted: bool) -> Verdict
+        ensures { result ≡ word_of is_accepted }
+    {
+        if is_accepted {
+            Verdict::Accepted
+        } else {
+            Verdict::Refused
+        }
+    }
+
     /// Returns the report on an input from which no module can be read.
     ///
     /// # Errors
@@ -91,7 +113,7 @@ impl Report {
         ensures text { IfOk result (λ report. IsRefusal options input.now error.now report.text.items) }
     {
         let text = if options.is_json {
-            error_object(alloc, error)?
+            error_object(alloc, input, error)?
         } else {
             error_text(alloc, input, error)?
         };
@@ -119,13 +141,15 @@ impl Report {
         analyzed: &Analyzed,
         root: Option<&Value<'_>>,
     ) -> Result<Vec<u8>, AllocError>
-        requires are { IsAnalyzed «module».now (settings options) (checks_uniformity options) analyzed.now }
-        requires fits { Fits «module».now analyzed.now }
+        requires { IsAnalysisOf options «module».now analyzed.now }
         ensures { IfOk result (λ text. (j : Json) → IsRootIf options.has_resources j (seen root.entry) →
             IsJson options j «module».now analyzed.now text.items) }
     {
+        let diagnostics = diagnostics_of(alloc, module, analyzed)?;
+        let verdict = Report::verdict_of(analyzed.is_accepted());
         let mut writer = Writer::new(Vec::new(alloc));
         writer.begin_object()?;
+        write_head(alloc, &mut writer, verdict, &diagnostics)?;
         write_verdict(alloc, &mut writer, analyzed.uniformity())?;
         write_module(alloc, &mut writer, module, analyzed)?;
         write_sections(alloc, &mut writer, options, root, module, analyzed)?;
@@ -135,7 +159,7 @@ impl Report {
         Ok(text)
     }
 
-    /// Returns the text report on a module of which control flow isn't refused.
+    /// Returns the text report on an accepted module.
     fn lines_on(
         alloc: Global,
         options: Options,
@@ -144,16 +168,30 @@ impl Report {
         bindings: &[Option<ResourceBinding>],
         root: Option<&Value<'_>>,
     ) -> Result<String, AllocError>
-        requires are { IsAnalyzed «module».now (settings options) (checks_uniformity options) analyzed.now }
-        requires fits { Fits «module».now analyzed.now }
+        requires { IsAnalysisOf options «module».now analyzed.now }
         ensures { IfOk result (λ text. (j : Json) → IsRootIf options.has_resources j (seen root.entry) →
-            EndsWithLines options j «module».now analyzed.now (string_bytes text)) }
+            IsTextOnAccepted options j «module».now analyzed.now (string_bytes text)) }
     {
-        let is_drawn = options.drawing == Some(true);
-        let mut text = summarize(alloc, module, analyzed, bindings, is_drawn)?;
-        let lines = asked_lines(alloc, options, root, module, analyzed)?;
-        text.push_str(lines.as_str())?;
-        Ok(text)
+        let sections = section_lines(alloc, options, root, module, analyzed)?;
+        let rules = flow_rules(options);
+        summary_text(alloc, module, analyzed, bindings, rules, sections.as_str())
+    }
+
+    /// Returns the text report on a refused module.
+    fn refusal_on(
+        alloc: Global,
+        options: Options,
+        module: &Module,
+        analyzed: &Analyzed,
+        root: Option<&Value<'_>>,
+    ) -> Result<String, AllocError>
+        requires { IsAnalysisOf options «module».now analyzed.now }
+        ensures { IfOk result (λ text. (j : Json) → IsRootIf options.has_resources j (seen root.entry) →
+            IsTextOnRefused options j «module».now analyzed.now (string_bytes text)) }
+    {
+        let diagnostics = diagnostics_of(alloc, module, analyzed)?;
+        let sections = section_lines(alloc, options, root, module, analyzed)?;
+        refusal_text(alloc, module, &diagnostics, sections.as_str())
     }
 
     /// Returns the text report on a module.
@@ -165,14 +203,14 @@ impl Report {
         bindings: &[Option<ResourceBinding>],
         root: Option<&Value<'_>>,
     ) -> Result<String, AllocError>
-        requires are { IsAnalyzed «module».now (settings options) (checks_uniformity options) analyzed.now }
-        requires fits { Fits «module».now analyzed.now }
+        requires { IsAnalysisOf options «module».now analyzed.now }
         ensures { IfOk result (λ text. (j : Json) → IsRootIf options.has_resources j (seen root.entry) →
             IsPeople options j «module».now analyzed.now (string_bytes text)) }
     {
-        match analyzed.uniformity() {
-            Some(found) if !found.is_accepted() => refusal_text(alloc, module, found),
-            _ => Report::lines_on(alloc, options, module, analyzed, bindings, root),
+        if analyzed.is_accepted() {
+            Report::lines_on(alloc, options, module, analyzed, bindings, root)
+        } else {
+            Report::refusal_on(alloc, options, module, analyzed, root)
         }
     }
 
@@ -186,8 +224,7 @@ impl Report {
         bindings: &[Option<ResourceBinding>],
         root: Option<&Value<'_>>,
     ) -> Result<Report, AllocError>
-        requires are { IsAnalyzed «module».now (settings options) (checks_uniformity options) analyzed.now }
-        requires fits { Fits «module».now analyzed.now }
+        requires { IsAnalysisOf options «module».now analyzed.now }
         ensures { IfOk result (λ report. (j : Json) → IsRootIf options.has_resources j (seen root.entry) →
             IsReportOn options j «module».now report.outcome report.text.items) }
     {

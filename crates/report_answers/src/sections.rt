@@ -1,12 +1,11 @@
-//! The optional sections of a report: bounds checks and resources.
+//! The optional sections of a report: structs, bounds checks and resources.
 ghost use Rattle.std.specs.Prelude.{◌≡◌, ◌∷◌, List, Option, IfOk, OnOk, codes, length, string_bytes};
 ghost use Rattle.json.specs.Json.{Json};
 ghost use Rattle.json.specs.Token.{Token, key};
 ghost use Rattle.json.specs.Value.{value_view};
 ghost use Rattle.report_json.specs.Tokens.{Adds};
-ghost use Rattle.report_model.specs.Analyzed.{IsAnalyzed};
 ghost use Rattle.report_model.specs.Fitting.{Fits, HasInfos};
-ghost use Rattle.report_answers.specs.Options.{checks_uniformity, settings};
+ghost use Rattle.report_answers.specs.Analyses.{IsAnalysisOf};
 ghost use Rattle.report_answers.specs.Sections.{AreBindings, AreBoundsAsked, AreLinesAsked, AreResourcesAsked, AreSections, EndsWithLines};
 ghost use Rattle.report_answers.specs.Sections.{IsRootIf, bounds_members};
 ghost use Rattle.shader_interface.specs.Interface.{seen};
@@ -15,6 +14,7 @@ ghost use Rattle.shader_report_resources.specs.Resources.{AreResources};
 use crate::options::Options;
 use json::{Value, Writer};
 use report_json::{Member, WriteMembers};
+use report_layouts::structs_text;
 use report_model::{Analyzed, Sound};
 use shader_interface::{Interface, ResourceBinding};
 use shader_ir::Module;
@@ -29,8 +29,7 @@ fn asked_bounds(
     module: &Module,
     analyzed: &Analyzed,
 ) -> Result<Option<ModuleBounds>, AllocError>
-    requires are { IsAnalyzed «module».now (settings options) (checks_uniformity options) analyzed.now }
-    requires fits { Fits «module».now analyzed.now }
+    requires { IsAnalysisOf options «module».now analyzed.now }
     ensures { IfOk result (AreBoundsAsked options «module».now analyzed.now) }
 {
     match (options.bounds(), analyzed.info()) {
@@ -50,8 +49,7 @@ fn write_bounds(
     module: &Module,
     analyzed: &Analyzed,
 ) -> Result<(), AllocError>
-    requires are { IsAnalyzed «module».now (settings options) (checks_uniformity options) analyzed.now }
-    requires fits { Fits «module».now analyzed.now }
+    requires { IsAnalysisOf options «module».now analyzed.now }
     ensures { OnOk result ((found : Option ModuleBounds) × AreBoundsAsked options «module».now analyzed.now found
         × Adds writer.old writer.new (bounds_members found)) }
 {
@@ -111,8 +109,7 @@ pub fn write_sections(
     module: &Module,
     analyzed: &Analyzed,
 ) -> Result<(), AllocError>
-    requires are { IsAnalyzed «module».now (settings options) (checks_uniformity options) analyzed.now }
-    requires fits { Fits «module».now analyzed.now }
+    requires { IsAnalysisOf options «module».now analyzed.now }
     ensures { OnOk result ((tokens : List Token) × ((j : Json) → IsRootIf options.has_resources j (seen root.entry) →
         AreSections options j «module».now analyzed.now tokens) × Adds writer.old writer.new tokens) }
 {
@@ -127,8 +124,7 @@ fn bounds_lines(
     module: &Module,
     analyzed: &Analyzed,
 ) -> Result<String, AllocError>
-    requires are { IsAnalyzed «module».now (settings options) (checks_uniformity options) analyzed.now }
-    requires fits { Fits «module».now analyzed.now }
+    requires { IsAnalysisOf options «module».now analyzed.now }
 {
     match asked_bounds(alloc, options, module, analyzed)? {
         Some(bounds) => {
@@ -166,21 +162,60 @@ fn asked_resources(
     }
 }
 
-/// Returns the lines at the end of a text report that the options ask for: those on bounds checks, then those on resources.
-pub fn asked_lines(
+/// Returns the structs of a module, each behind an empty line, if the options ask for them and all types have a layout.
+fn asked_structs(
+    alloc: Global,
+    options: Options,
+    module: &Module,
+    analyzed: &Analyzed,
+) -> Result<String, AllocError> {
+    if !options.declares_structs() {
+        return Ok(String::new(alloc));
+    }
+    let Analyzed::WellFormed(analysis) = analyzed else {
+        return Ok(String::new(alloc));
+    };
+    if analysis.layout_error.is_some() {
+        return Ok(String::new(alloc));
+    }
+    structs_text(alloc, module, &analysis.layouts, options.draws_structs())
+}
+
+/// Returns the lines on bounds checks, then those on resources, that the options ask for.
+fn asked_tables(
     alloc: Global,
     options: Options,
     root: Option<&Value<'_>>,
     module: &Module,
     analyzed: &Analyzed,
 ) -> Result<String, AllocError>
-    requires are { IsAnalyzed «module».now (settings options) (checks_uniformity options) analyzed.now }
-    requires fits { Fits «module».now analyzed.now }
+    requires { IsAnalysisOf options «module».now analyzed.now }
     ensures { IfOk result (λ text. (j : Json) → IsRootIf options.has_resources j (seen root.entry) →
         EndsWithLines options j «module».now analyzed.now (string_bytes text)) }
 {
     let mut text = bounds_lines(alloc, options, module, analyzed)?;
     let lines = asked_resources(alloc, options, root, module, analyzed)?;
+    text.push_str(lines.as_str())?;
+    Ok(text)
+}
+
+/// Returns what the options ask for beside the verdict: the structs, each behind an empty line; then the lines on bounds checks and on
+/// resources, behind an empty line too.
+pub fn section_lines(
+    alloc: Global,
+    options: Options,
+    root: Option<&Value<'_>>,
+    module: &Module,
+    analyzed: &Analyzed,
+) -> Result<String, AllocError>
+    requires { IsAnalysisOf options «module».now analyzed.now }
+    ensures { IfOk result (λ text. (j : Json) → IsRootIf options.has_resources j (seen root.entry) →
+        EndsWithLines options j «module».now analyzed.now (string_bytes text)) }
+{
+    let structs = asked_structs(alloc, options, module, analyzed)?;
+    let lines = asked_tables(alloc, options, root, module, analyzed)?;
+    let gap = if lines.is_empty() { "" } else { "\n" };
+    let mut text = format!(in alloc; "{structs}{gap}")?;
     text.push_str(lines.as_str())?;
     Ok(text)
 }

@@ -1,3 +1,1 @@
-pub mod Differing
 pub mod Names
-pub mod Sizes

@@ -71,38 +71,6 @@ pub fn type_name(module: &Module, handle: Handle<mark::Type>) -> NameText<'_> {
     }
 }
 
-/// Returns the name of the global variable with this number.
-pub fn numbered_global(module: &Module, position: usize) -> NameText<'_> {
-    match u32::try_from(position) {
-        Ok(index) => global_name(module, Handle::from_index(index)),
-        Err(_) => NameText { name: "", position },
-    }
-}
-
-/// Returns the name of a global variable.
-pub fn global_name(module: &Module, handle: Handle<mark::GlobalVariable>) -> NameText<'_> {
-    let name = match module.global_variables.try_get(handle) {
-        Some(variable) => given(&variable.name),
-        None => "",
-    };
-    NameText {
-        name,
-        position: handle.index(),
-    }
-}
-
-/// Returns the name of a constant.
-pub fn constant_name(module: &Module, handle: Handle<mark::Constant>) -> NameText<'_> {
-    let name = match module.constants.try_get(handle) {
-        Some(constant) => given(&constant.name),
-        None => "",
-    };
-    NameText {
-        name,
-        position: handle.index(),
-    }
-}
-
 /// Returns the name of an override.
 pub fn override_name(module: &Module, handle: Handle<mark::Override>) -> NameText<'_> {
     let name = match module.overrides.try_get(handle) {
@@ -124,30 +92,6 @@ pub fn function_name(module: &Module, handle: Handle<mark::Function>) -> NameTex
     NameText {
         name,
         position: handle.index(),
-    }
-}
-
-/// Returns the name of a local variable.
-pub fn local_name(function: &Function, handle: Handle<mark::LocalVariable>) -> NameText<'_> {
-    let name = match function.local_variables.try_get(handle) {
-        Some(variable) => given(&variable.name),
-        None => "",
-    };
-    NameText {
-        name,
-        position: handle.index(),
-    }
-}
-
-/// Returns the name of an argument.
-pub fn argument_name(function: &Function, index: u32) -> NameText<'_> {
-    let name = match function.arguments.as_slice().get(index as usize) {
-        Some(argument) => given(&argument.name),
-        None => "",
-    };
-    NameText {
-        name,
-        position: index as usize,
     }
 }
 

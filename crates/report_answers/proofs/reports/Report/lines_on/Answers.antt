@@ -1,13 +1,17 @@
-use Rattle.std.proofs.Common.{ℕ, List, subst, sym}
-use Rattle.report_answers.specs.Sections.{EndsWithLines}
-use Rattle.report_answers.proofs.ReportLemmas.{still_ends}
+use Rattle.std.proofs.Common.{ℕ, List, string_bytes, subst}
+use Rattle.std.proofs.lemmas.Result.{IfOk-weaker}
+use Rattle.report_model.specs.Analyzed.{info_of}
+use Rattle.report_summary.specs.Summaries.{IsSummaryText}
 use Rattle.report_answers.proofs.reports.Report.lines_on.Goals as goal
 
 pub returns : goal.returns
-returns c = λ j root.
-    let options = c.args.options in
+returns c =
     let m = c.args.module.now in
-    let analyzed = c.args.analyzed.now in
-    let ends = subst (λ (text : List ℕ). EndsWithLines options j m analyzed text) (sym c.as_str.ensures.value) (c.in_ok-lines.ensures j root) in
-    subst (λ (text : List ℕ). EndsWithLines options j m analyzed text) (sym c.in_ok-push_str.ensures.bytes)
-    (still_ends options j m analyzed _ _ ends)
+    let found = info_of c.args.analyzed.now in
+    let bindings = c.args.bindings.now in
+    IfOk-weaker c.summary_text.result _ _ (λ text is. λ j root. record {
+      sections = string_bytes c.in_ok-sections.sections;
+      lines = c.in_ok-sections.ensures j root;
+      bindings = bindings;
+      is = subst (λ (lines : List ℕ). IsSummaryText m found bindings lines (string_bytes text)) c.as_str.ensures.value is;
+    }) c.summary_text.ensures

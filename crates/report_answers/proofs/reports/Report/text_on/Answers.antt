@@ -1,19 +1,18 @@
-use Rattle.std.proofs.Common.{◌∙◌, ap, option_map, rules, sym}
+use Rattle.std.proofs.Common.{◌∙◌, sym}
 use Rattle.std.proofs.lemmas.Result.{IfOk-weaker}
-use Rattle.std.proofs.lemmas.Str.{IsUtf8-string_bytes}
-use Rattle.report_model.specs.Analyzed.{uniformity_of}
-use Rattle.report_answers.proofs.ReportLemmas.{if_ok, is_refused}
+use Rattle.report_answers.proofs.ReportLemmas.{people_accepted, people_refused}
 use Rattle.report_answers.proofs.reports.Report.text_on.Goals as goal
 
-pub returns-in-Some : goal.returns-in-Some
-returns-in-Some c =
-    let same = sym (ap (λ found. option_map (λ found. found.now) found) c.in-Some.is) ∙ c.uniformity.ensures in
-    if_ok c.refusal_text.result _ (λ text j root. record {
-      utf8 = IsUtf8-string_bytes text;
-      lines = λ accepted. absurd (is_refused c.in-Some.found.now (uniformity_of c.args.analyzed.now) same (search rules) accepted);
-    })
-
-pub returns-in_default : goal.returns-in_default
-returns-in_default c =
+pub returns-then-is_accepted : goal.returns-then-is_accepted
+returns-then-is_accepted c =
+    let is = sym c.is_accepted.ensures ∙ c.if-is_accepted.true in
     IfOk-weaker c.lines_on.result _ _
-    (λ text ends. λ j root. record { utf8 = IsUtf8-string_bytes text; lines = λ accepted. ends j root }) c.lines_on.ensures
+    (λ text printed. λ j root. people_accepted c.args.options j c.args.module.now c.args.analyzed.now text is (printed j root))
+    c.lines_on.ensures
+
+pub returns-else-is_accepted : goal.returns-else-is_accepted
+returns-else-is_accepted c =
+    let is = sym c.is_accepted.ensures ∙ c.if-is_accepted.false in
+    IfOk-weaker c.refusal_on.result _ _
+    (λ text printed. λ j root. people_refused c.args.options j c.args.module.now c.args.analyzed.now text is (printed j root))
+    c.refusal_on.ensures

@@ -1,0 +1,18 @@
+use Rattle.std.proofs.Common.{◌≡◌, ℕ, List, rules, string_bytes, subst}
+use Rattle.std.proofs.lemmas.Result.{IfOk-weaker}
+use Rattle.report_blocks.specs.Refusals.{IsRefusalText}
+use Rattle.report_diagnostics.specs.declared.diagnostic.Diagnostic.{Diagnostic}
+use Rattle.report_answers.proofs.reports.Report.refusal_on.Goals as goal
+
+pub returns : goal.returns
+returns c =
+    let same : c.deref.result.now ≡ c.in_ok-diagnostics.diagnostics.items = search rules in
+    let sections = string_bytes c.in_ok-sections.sections in
+    IfOk-weaker c.refusal_text.result _ _ (λ text is. λ j root. record {
+      diagnostics = c.in_ok-diagnostics.diagnostics.items;
+      diagnostics_are = c.in_ok-diagnostics.ensures.diagnostics;
+      sections = sections;
+      lines = c.in_ok-sections.ensures j root;
+      is = subst (λ (found : List Diagnostic). IsRefusalText c.args.module.now found sections (string_bytes text)) same
+          (subst (λ (lines : List ℕ). IsRefusalText c.args.module.now c.deref.result.now lines (string_bytes text)) c.as_str.ensures.value is);
+    }) c.refusal_text.ensures
