@@ -1,2 +1,3 @@
 mod AcceptedLemmas
 mod CollectLemmas
+mod SteadyLemmas

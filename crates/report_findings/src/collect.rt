@@ -13,7 +13,7 @@ use crate::help::need_help;
 use crate::module_faults::fault_diagnostic;
 use crate::refusals::{layout_diagnostic, refusal_diagnostic};
 use crate::related::causes_of_need;
-use report_diagnostics::Diagnostic;
+use report_diagnostics::{Diagnostic, Text};
 use report_model::{Analysis, Analyzed};
 use shader_info::AnalysisError;
 use shader_ir::proc::LayoutError;
@@ -23,6 +23,9 @@ use shader_uniformity::{Rule, Uniformity};
 use shader_uniformity_causes::{PassedBy, find_callers};
 use shader_uniformity_needs::{Violation, find_violations};
 use std::alloc::{AllocError, Global};
+
+/// The most diagnostics with causes. The causes of one cost time in the size of a function.
+const MOST_EXPLAINED: usize = 100;
 
 /// Adds the diagnostic of a module that isn't well formed.
 fn add_fault(
@@ -92,7 +95,42 @@ fn explained(
     })
 }
 
-/// Adds the diagnostics of violated needs, each with its causes. `callers` are those of the functions, which are known by these rules.
+/// Returns the diagnostic of a violated need whose causes aren't looked for.
+fn unexplained(
+    alloc: Global,
+    module: &Module,
+    violation: &Violation,
+) -> Result<Diagnostic, AllocError>
+    ensures { IfOk result (IsFlowDiagnostic «module».now violation.now) }
+{
+    let diagnostic = flow_diagnostic(alloc, module, violation)?;
+    let note = format!(in alloc; "causes are told of the first {MOST_EXPLAINED} errors")?;
+    let mut notes = Vec::new(alloc);
+    notes.push(Text::from(note))?;
+    Ok(advised(diagnostic, Vec::new(alloc), notes, Vec::new(alloc)))
+}
+
+/// Returns the diagnostic of a violated need, with its causes if they are looked for.
+fn diagnostic_of(
+    alloc: Global,
+    module: &Module,
+    known: &[Items<Rule>],
+    callers: &[Vec<PassedBy>],
+    violation: &Violation,
+    is_explained: bool,
+) -> Result<Diagnostic, AllocError>
+    requires { AreCallers «module».now known.now callers.now }
+    ensures { IfOk result (IsFlowDiagnostic «module».now violation.now) }
+{
+    if is_explained {
+        explained(alloc, module, known, callers, violation)
+    } else {
+        unexplained(alloc, module, violation)
+    }
+}
+
+/// Adds the diagnostics of violated needs, each with its causes, or without them if there are many. `callers` are those of the functions,
+/// which are known by these rules.
 fn add_each(
     alloc: Global,
     module: &Module,
@@ -105,7 +143,8 @@ fn add_each(
     ensures { OnOk result (AddsEach (IsFlowDiagnostic «module».now) violations.now diagnostics.old.items diagnostics.new.items) }
 {
     for violation in violations {
-        let diagnostic = explained(alloc, module, known, callers, violation)?;
+        let is_explained = diagnostics.len() < MOST_EXPLAINED;
+        let diagnostic = diagnostic_of(alloc, module, known, callers, violation, is_explained)?;
         diagnostics.push(diagnostic)?;
     }
     Ok(())

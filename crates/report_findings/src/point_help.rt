@@ -1,4 +1,7 @@
 //! What to do about a violated need of an entry point, by what would follow after a change of it.
+ghost use Rattle.std.specs.Prelude.{IfOk};
+ghost use Rattle.report_findings.specs.Changes.{Follows, remaining};
+ghost use Rattle.report_findings.specs.Help.{IfBehind, IfMoved, IfNoJump, IfOneValue};
 
 use crate::changes::{Change, follows, follows_after};
 use crate::owners::positions_of;
@@ -76,7 +79,9 @@ impl PointNeed<'_> {
     }
 
     /// Returns whether the need would still be violated after a change.
-    fn is_violated_after(&self, alloc: Global, change: Change) -> Result<bool, AllocError> {
+    fn is_violated_after(&self, alloc: Global, change: Change) -> Result<bool, AllocError>
+        ensures { IfOk result (Follows (remaining change self.now.rules.items) self.now.need.violated_by) }
+    {
         follows_after(
             alloc,
             self.rules.as_slice(),
@@ -86,12 +91,16 @@ impl PointNeed<'_> {
     }
 
     /// Returns whether control flow diverges at a position.
-    fn diverges_at(&self, alloc: Global, position: u32) -> Result<bool, AllocError> {
+    fn diverges_at(&self, alloc: Global, position: u32) -> Result<bool, AllocError>
+        ensures { IfOk result (Follows self.now.rules.items (Fact.Apart position)) }
+    {
         follows(alloc, self.rules.as_slice(), &Fact::Apart(position))
     }
 
     /// Returns the help for an expression that may as well be computed at the start, where all invocations are.
-    pub fn start_help(&self, alloc: Global) -> Result<Option<String>, AllocError> {
+    pub fn start_help(&self, alloc: Global) -> Result<Option<String>, AllocError>
+        ensures { IfOk result (IfMoved self.now) }
+    {
         let Some(expression) = self.need.expression else {
             return Ok(None);
         };
@@ -109,7 +118,9 @@ impl PointNeed<'_> {
     }
 
     /// Returns the help for a barrier in an `if` of the entry point's own statements, at which and after which all invocations are.
-    pub fn move_help(&self, alloc: Global, way: &[PathStep]) -> Result<Option<String>, AllocError> {
+    pub fn move_help(&self, alloc: Global, way: &[PathStep]) -> Result<Option<String>, AllocError>
+        ensures { IfOk result (IfBehind self.now) }
+    {
         let index = match (self.need.kind, way) {
             (
                 NeedKind::Barrier | NeedKind::MemoryBarrier,
@@ -135,7 +146,9 @@ impl PointNeed<'_> {
     }
 
     /// Returns the help for a need that isn't violated without a statement that exits blocks.
-    pub fn jump_help(&self, alloc: Global, chain: &[Cause]) -> Result<Option<String>, AllocError> {
+    pub fn jump_help(&self, alloc: Global, chain: &[Cause]) -> Result<Option<String>, AllocError>
+        ensures { IfOk result (IfNoJump self.now) }
+    {
         let Some((position, jump)) = first_jump(chain) else {
             return Ok(None);
         };
@@ -152,7 +165,9 @@ impl PointNeed<'_> {
     }
 
     /// Returns the help for a need that isn't violated if all invocations read the same value of a variable of the workgroup.
-    pub fn load_help(&self, alloc: Global, chain: &[Cause]) -> Result<Option<String>, AllocError> {
+    pub fn load_help(&self, alloc: Global, chain: &[Cause]) -> Result<Option<String>, AllocError>
+        ensures { IfOk result (IfOneValue self.now) }
+    {
         let Some(load) = first_load(chain) else {
             return Ok(None);
         };
