@@ -6,10 +6,10 @@ import re
 import struct
 
 # Each literal of a float with the format of its bits.
-FLOATS = {"F16": "F16", "F32": "F32", "F64": "F64", "AbstractFloat": "F64"}
+FLOATS = {"F32": "F32", "F64": "F64", "AbstractFloat": "F64"}
 # The formats, each with struct's codes of a float and of its bits, the bits after the exponent, and the least number that is infinite.
-FORMATS = {"F16": ("<e", "<H", 10, 2**16), "F32": ("<f", "<I", 23, 2**128), "F64": ("<d", "<Q", 52, 2**1024)}
-# The bounds of integers. An integer is the bits of an f16.
+FORMATS = {"F32": ("<f", "<I", 23, 2**128), "F64": ("<d", "<Q", 52, 2**1024)}
+# The bounds of integers. An f16 is the integer of its bits.
 INTEGERS = {f"U{bits}": (0, 2**bits - 1) for bits in (16, 32, 64)}
 INTEGERS |= {f"I{bits}": (-(2 ** (bits - 1)), 2 ** (bits - 1) - 1) for bits in (16, 32, 64)}
 INTEGERS |= {"AbstractInt": INTEGERS["I64"], "F16": INTEGERS["U16"]}
@@ -44,8 +44,8 @@ def floats(rows):
     for row in rows:
         for name, kind in FLOATS.items():
             yield name, row["text"], row[kind]
-            # An integer is a number too, except for an f16, of which it is the bits.
-            if name != "F16" and re.fullmatch(r"-?\d+\.0", row["text"]):
+            # An integer is a number too.
+            if re.fullmatch(r"-?\d+\.0", row["text"]):
                 yield name, row["text"].removesuffix(".0"), row[kind]
     with decimal.localcontext(EXACT):
         near = {kind: list(middles(kind)) for kind in FORMATS}
@@ -62,8 +62,7 @@ def integers():
     for name, (least, greatest) in INTEGERS.items():
         yield from ((name, str(value), value) for value in (least, greatest))
         yield from ((name, str(value), None) for value in (least - 1, greatest + 1))
-        if name not in FLOATS:
-            yield from ((name, text, None) for text in ("1.0", "1e0", "-0"))
+        yield from ((name, text, None) for text in ("1.0", "1e0", "-0"))
 
 
 def literals(rows):

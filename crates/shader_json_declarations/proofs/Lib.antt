@@ -1,3 +1,4 @@
+pub mod DistinctLemmas
 pub mod EntryLemmas
 pub mod FieldLemmas
 pub mod KeyLemmas

@@ -1,8 +1,7 @@
 -- A row of a table whose rows begin with the names of their items.
-use Rattle.std.proofs.Common.{◌≡◌, ℕ, zero, suc, List, [], ◌∷◌, Option, Some, None, Bool, true, false, ◌&&◌, refl, sym, ◌∙◌, ap, subst}
-use Rattle.std.proofs.Common.{IsTrue, get_or, length, ◌<◌, arith}
+use Rattle.std.proofs.Common.{◌≡◌, ℕ, zero, suc, List, [], ◌∷◌, Bool, true, false, ◌&&◌, refl, sym, subst}
+use Rattle.std.proofs.Common.{get_or, length, ◌<◌, arith}
 use Rattle.std.specs.Borrow.{Bor}
-use Rattle.std.specs.Str.{bytes_eq}
 use Rattle.std.proofs.lemmas.Slice.Eq.{bytes_eq-Decides}
 use Rattle.shader_json_declarations.specs.Rows.{are_spelled}
 

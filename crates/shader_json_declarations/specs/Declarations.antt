@@ -1,5 +1,5 @@
 -- Constants, overrides, variables, arguments and results in the JSON of modules.
-use Rattle.std.specs.Prelude.{◌≡◌, ℕ, List, Option, codes}
+use Rattle.std.specs.Prelude.{◌≡◌, codes}
 use Rattle.json.specs.Json.{Json, string}
 use Rattle.shader_ir.specs.declared.function.FunctionArgument.{FunctionArgument}
 use Rattle.shader_ir.specs.declared.function.FunctionResult.{FunctionResult}
@@ -8,38 +8,38 @@ use Rattle.shader_ir.specs.declared.function.ShaderStage.{ShaderStage}
 use Rattle.shader_ir.specs.declared.module.Constant.{Constant}
 use Rattle.shader_ir.specs.declared.module.GlobalVariable.{GlobalVariable}
 use Rattle.shader_ir.specs.declared.module.Override.{Override}
-use Rattle.shader_json_reader.specs.Numbers.{IsUnsigned, IsText}
+use Rattle.shader_json_reader.specs.Numbers.{IsHandle, IsText}
 use Rattle.shader_json_reader.specs.Shapes.{IsObject, HasField, MayHaveField}
 use Rattle.shader_json_declarations.specs.Names.{stage_name}
 use Rattle.shader_json_declarations.specs.Types.{IsBinding, IsSpace}
 
 abbrev pub IsConstant : Json → Constant → Type 0
 IsConstant j c =
-    IsObject j (λ ms. MayHaveField IsText (codes "name") ms c.name × HasField IsUnsigned (codes "ty") ms c.ty
-    × HasField IsUnsigned (codes "init") ms c.init)
+    IsObject j (λ ms. MayHaveField IsText (codes "name") ms c.name × HasField IsHandle (codes "ty") ms c.ty
+    × HasField IsHandle (codes "init") ms c.init)
 
 abbrev pub IsOverride : Json → Override → Type 0
 IsOverride j o =
-    IsObject j (λ ms. MayHaveField IsText (codes "name") ms o.name × HasField IsUnsigned (codes "ty") ms o.ty
-    × MayHaveField IsUnsigned (codes "init") ms o.init)
+    IsObject j (λ ms. MayHaveField IsText (codes "name") ms o.name × HasField IsHandle (codes "ty") ms o.ty
+    × MayHaveField IsHandle (codes "init") ms o.init)
 
 abbrev pub IsGlobal : Json → GlobalVariable → Type 0
 IsGlobal j v =
     IsObject j (λ ms. MayHaveField IsText (codes "name") ms v.name × HasField IsSpace (codes "space") ms v.space
-    × HasField IsUnsigned (codes "ty") ms v.ty × MayHaveField IsUnsigned (codes "init") ms v.init)
+    × HasField IsHandle (codes "ty") ms v.ty × MayHaveField IsHandle (codes "init") ms v.init)
 
 abbrev pub IsArgument : Json → FunctionArgument → Type 0
 IsArgument j a =
-    IsObject j (λ ms. MayHaveField IsText (codes "name") ms a.name × HasField IsUnsigned (codes "ty") ms a.ty
+    IsObject j (λ ms. MayHaveField IsText (codes "name") ms a.name × HasField IsHandle (codes "ty") ms a.ty
     × MayHaveField IsBinding (codes "binding") ms a.binding)
 
 abbrev pub IsResult : Json → FunctionResult → Type 0
-IsResult j r = IsObject j (λ ms. HasField IsUnsigned (codes "ty") ms r.ty × MayHaveField IsBinding (codes "binding") ms r.binding)
+IsResult j r = IsObject j (λ ms. HasField IsHandle (codes "ty") ms r.ty × MayHaveField IsBinding (codes "binding") ms r.binding)
 
 abbrev pub IsLocal : Json → LocalVariable → Type 0
 IsLocal j v =
-    IsObject j (λ ms. MayHaveField IsText (codes "name") ms v.name × HasField IsUnsigned (codes "ty") ms v.ty
-    × MayHaveField IsUnsigned (codes "init") ms v.init)
+    IsObject j (λ ms. MayHaveField IsText (codes "name") ms v.name × HasField IsHandle (codes "ty") ms v.ty
+    × MayHaveField IsHandle (codes "init") ms v.init)
 
 abbrev pub IsStage : Json → ShaderStage → Type 0
 IsStage j stage = j ≡ string (stage_name stage)

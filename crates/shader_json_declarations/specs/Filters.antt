@@ -1,12 +1,13 @@
 -- Diagnostic filters in the JSON of modules.
-use Rattle.std.specs.Prelude.{◌≡◌, ◌⊎◌, ℕ, List, Option, codes, ⊤}
+use Rattle.std.specs.Prelude.{◌≡◌, ◌⊎◌, ℕ, List, Option, IsSome, codes}
+use Rattle.json.specs.Find.{as_str}
 use Rattle.json.specs.Json.{Json, string}
 use Rattle.shader_ir.specs.declared.module.DiagnosticFilterNode.{DiagnosticFilterNode}
 use Rattle.shader_ir.specs.declared.module.DiagnosticRule.{DiagnosticRule}
 use Rattle.shader_ir.specs.declared.module.DiagnosticRule.TheVariants as diagnostics
 use Rattle.shader_ir.specs.declared.module.Severity.{Severity}
-use Rattle.shader_json_reader.specs.Numbers.{IsUnsigned}
-use Rattle.shader_json_reader.specs.Shapes.{IsObject, IsVariant, IsNewtype, IsOnly, HasField, MayHaveField, values_of}
+use Rattle.shader_json_reader.specs.Numbers.{IsHandle}
+use Rattle.shader_json_reader.specs.Shapes.{IsArray, IsObject, IsPair, IsVariant, IsNewtype, IsOnly, HasField, MayHaveField, values_of}
 use Rattle.shader_json_declarations.specs.Names.{severity_name}
 
 abbrev pub IsSeverity : Json → Severity → Type 0
@@ -17,11 +18,20 @@ abbrev pub IsStandardRule : Json → DiagnosticRule → Type 0
 IsStandardRule j diagnostics.DerivativeUniformity = j ≡ string (codes "DerivativeUniformity")
 IsStandardRule j diagnostics.Other = ⊥
 
+-- any text
+abbrev pub IsAnyText : Json → Type 0
+IsAnyText j = IsSome (as_str j)
+
+-- a rule of users has two names
+abbrev pub IsUserRule : Json → Type 0
+IsUserRule j = IsArray j (IsPair (λ first second. IsAnyText first × IsAnyText second))
+
 -- Rules that the language doesn't define, of users or unknown ones, are one here.
 abbrev pub IsRuleOf : List ℕ → Option Json → DiagnosticRule → Type 0
 IsRuleOf name payload diagnostics.DerivativeUniformity =
     IsNewtype (codes "Standard") name payload (λ j. IsStandardRule j diagnostics.DerivativeUniformity)
-IsRuleOf name payload diagnostics.Other = (name ≡ codes "Unknown") ⊎ (name ≡ codes "User")
+IsRuleOf name payload diagnostics.Other =
+    IsNewtype (codes "Unknown") name payload IsAnyText ⊎ IsNewtype (codes "User") name payload IsUserRule
 
 abbrev pub IsRule : Json → DiagnosticRule → Type 0
 IsRule j rule = IsVariant j (λ name payload. IsRuleOf name payload rule)
@@ -34,4 +44,4 @@ IsFilter j severity rule =
 abbrev pub IsFilterNode : Json → DiagnosticFilterNode → Type 0
 IsFilterNode j node =
     IsObject j (λ ms. IsOnly (λ inner. IsFilter inner node.severity node.rule) (values_of (codes "inner") ms)
-    × MayHaveField IsUnsigned (codes "parent") ms node.parent)
+    × MayHaveField IsHandle (codes "parent") ms node.parent)

@@ -1,3 +1,4 @@
+pub mod BuiltIns
 pub mod Declarations
 pub mod Filters
 pub mod Keys

@@ -1,8 +1,7 @@
 -- Scalars, sizes, images and stages in the JSON of modules.
-use Rattle.std.specs.Prelude.{◌≡◌, ℕ, List, [], ◌∷◌, Option, MatchOption, codes}
+use Rattle.std.specs.Prelude.{◌≡◌, ℕ, List, [], ◌∷◌, Option, codes}
 use Rattle.json.specs.Json.{Json, string}
 use Rattle.shader_ir.specs.declared.flags.StorageAccess.{StorageAccess}
-use Rattle.shader_ir.specs.declared.function.ShaderStage.{ShaderStage}
 use Rattle.shader_ir.specs.declared.image.ImageClass.{ImageClass}
 use Rattle.shader_ir.specs.declared.image.ImageClass.TheVariants as classes
 use Rattle.shader_ir.specs.declared.image.ImageDimension.{ImageDimension}
@@ -12,8 +11,8 @@ use Rattle.shader_ir.specs.declared.scalar.CooperativeSize.{CooperativeSize}
 use Rattle.shader_ir.specs.declared.scalar.Scalar.{Scalar}
 use Rattle.shader_ir.specs.declared.scalar.ScalarKind.{ScalarKind}
 use Rattle.shader_ir.specs.declared.scalar.VectorSize.{VectorSize}
-use Rattle.shader_json_reader.specs.Numbers.{IsUnsigned, IsTruth, AreFlags}
-use Rattle.shader_json_reader.specs.Shapes.{IsObject, IsVariant, IsUnit, IsStruct, HasField}
+use Rattle.shader_json_reader.specs.Numbers.{AreFlags, IsTruth, IsU32, IsU8}
+use Rattle.shader_json_reader.specs.Shapes.{IsObject, IsVariant, IsUnit, IsStruct, HasField, HasOnly}
 use Rattle.shader_json_declarations.specs.Names.{kind_name, size_name, cooperative_name, role_name, dimension_name, format_name}
 
 abbrev pub IsKind : Json → ScalarKind → Type 0
@@ -36,7 +35,7 @@ IsFormat j format = j ≡ string (format_name format)
 
 abbrev pub IsScalar : Json → Scalar → Type 0
 IsScalar j scalar =
-    IsObject j (λ ms. HasField IsKind (codes "kind") ms scalar.kind × HasField IsUnsigned (codes "width") ms scalar.width)
+    IsObject j (λ ms. HasField IsKind (codes "kind") ms scalar.kind × HasField IsU8 (codes "width") ms scalar.width)
 
 -- the flags of an access with their bits
 abbrev pub access_rows : List (List ℕ × ℕ)
@@ -56,6 +55,8 @@ IsClassOf name payload classes.External = IsUnit (codes "External") name payload
 abbrev pub IsClass : Json → ImageClass → Type 0
 IsClass j class = IsVariant j (λ name payload. IsClassOf name payload class)
 
--- a range of handles
+-- a range of handles, as an object without other fields
 abbrev pub IsRange : Json → (ℕ × ℕ) → Type 0
-IsRange j range = IsObject j (λ ms. HasField IsUnsigned (codes "start") ms range.0 × HasField IsUnsigned (codes "end") ms range.1)
+IsRange j range =
+    IsObject j (λ ms. HasField IsU32 (codes "start") ms range.0 × HasField IsU32 (codes "end") ms range.1
+    × HasOnly (codes "start") (codes "end") ms)

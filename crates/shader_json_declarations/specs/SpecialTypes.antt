@@ -1,5 +1,6 @@
 -- The special types of a module in its JSON.
-use Rattle.std.specs.Prelude.{◌≡◌, ℕ, List, [], ◌++◌, Bool, true, false, Option, codes}
+use Rattle.std.specs.Prelude.{◌≡◌, ℕ, List, [], ◌++◌, Bool, true, false, not, Option, codes}
+use Rattle.std.specs.Map.{keys_of}
 use Rattle.std.specs.Option.{option_map_or}
 use Rattle.std.specs.Str.{bytes_eq}
 use Rattle.json.specs.Json.{Json, null, boolean, number, string, array, object, Items, no_items, item, Members, no_members, member}
@@ -8,8 +9,9 @@ use Rattle.shader_ir.specs.declared.module.PredeclaredType.TheVariants.{FrexpRes
 use Rattle.shader_ir.specs.declared.module.SpecialTypes.{SpecialTypes}
 use Rattle.shader_ir.specs.declared.scalar.Scalar.{Scalar}
 use Rattle.shader_ir.specs.declared.scalar.VectorSize.{VectorSize}
-use Rattle.shader_json_reader.specs.Numbers.{IsUnsigned}
-use Rattle.shader_json_reader.specs.Shapes.{Each, HasField, IsArray, IsObject, IsStruct, IsVariant, MayHaveField, variant_of}
+use Rattle.shader_json_reader.specs.Numbers.{IsHandle}
+use Rattle.shader_json_reader.specs.Shapes.{AreDistinct, Each, HasField, IsArray, IsNewtype, IsObject, IsPair, IsStruct, IsVariant}
+use Rattle.shader_json_reader.specs.Shapes.{MayHaveField, variant_of}
 use Rattle.shader_json_declarations.specs.Scalars.{IsScalar, IsSize}
 
 -- a scalar, or a vector of that size
@@ -23,18 +25,20 @@ IsPredeclaredOf name payload (ModfResult size scalar) = IsStruct (codes "ModfRes
 abbrev pub IsPredeclared : Json → PredeclaredType → Type 0
 IsPredeclared j ty = IsVariant j (λ name payload. IsPredeclaredOf name payload ty)
 
--- there are two items, and they are such
-abbrev pub IsPair : (Json → Json → Type 0) → Items → Type 0
-IsPair P no_items = ⊥
-IsPair P (item first no_items) = ⊥
-IsPair P (item first (item second no_items)) = P first second
-IsPair P (item first (item second (item third js))) = ⊥
-
 -- a predeclared type with the handle of its type
 abbrev pub IsEntry : Json → (PredeclaredType × ℕ) → Type 0
-IsEntry j entry = IsArray j (IsPair (λ key ty. IsPredeclared key entry.0 × IsUnsigned ty entry.1))
+IsEntry j entry = IsArray j (IsPair (λ key ty. IsPredeclared key entry.0 × IsHandle ty entry.1))
 
--- The result of a weak compare-exchange of atomics is a predeclared type that a module doesn't record.
+-- the result of a weak compare-exchange of such a scalar
+abbrev pub IsExchangeResult : Json → Scalar → Type 0
+IsExchangeResult j scalar =
+    IsVariant j (λ name payload. IsNewtype (codes "AtomicCompareExchangeWeakResult") name payload (λ k. IsScalar k scalar))
+
+-- Such a predeclared type with the handle of its type is no entry of a module.
+abbrev pub IsDroppedEntry : Json → Scalar → Type 0
+IsDroppedEntry j scalar = IsArray j (IsPair (λ key ty. IsExchangeResult key scalar × ((handle : ℕ) × IsHandle ty handle)))
+
+-- a predeclared type is one of these if it has their name
 abbrev pub is_unrecorded : Json → Bool
 is_unrecorded key = option_map_or (λ v. bytes_eq v.0 (codes "AtomicCompareExchangeWeakResult")) (variant_of key) false
 
@@ -52,18 +56,31 @@ abbrev pub item_unless : Bool → Json → Items → Items
 item_unless true j js = js
 item_unless false j js = item j js
 
--- the pairs of which a module has entries, in order
-abbrev pub recorded : Items → Items
-recorded no_items = no_items
-recorded (item j js) = item_unless (is_dropped j) j (recorded js)
+-- the items for which the test doesn't hold, in order
+abbrev pub items_unless : (Json → Bool) → Items → Items
+items_unless test no_items = no_items
+items_unless test (item j js) = item_unless (test j) j (items_unless test js)
 
--- The predeclared types are an array of pairs, each of which is an entry or dropped. An object stands for none if it is empty.
+-- the pairs of which a module has entries
+abbrev pub recorded : Items → Items
+recorded js = items_unless is_dropped js
+
+-- the pairs of which a module has none
+abbrev pub unrecorded : Items → Items
+unrecorded js = items_unless (λ j. not (is_dropped j)) js
+
+-- the pairs without an entry are of scalars that differ
+abbrev pub AreDropped : Items → Type 0
+AreDropped js = (scalars : List Scalar) × Each IsDroppedEntry (unrecorded js) scalars × AreDistinct scalars
+
+-- The predeclared types are an array of pairs, each of which is an entry or dropped. No key stands twice. An object stands for none if it
+-- is empty.
 abbrev pub ArePredeclared : Json → List (PredeclaredType × ℕ) → Type 0
 ArePredeclared null entries = ⊥
 ArePredeclared (boolean b) entries = ⊥
 ArePredeclared (number s) entries = ⊥
 ArePredeclared (string s) entries = ⊥
-ArePredeclared (array js) entries = Each IsEntry (recorded js) entries
+ArePredeclared (array js) entries = Each IsEntry (recorded js) entries × AreDistinct (keys_of entries) × AreDropped js
 ArePredeclared (object no_members) entries = entries ≡ []
 ArePredeclared (object (member k j ms)) entries = ⊥
 
@@ -72,8 +89,13 @@ abbrev pub IsAdded : Json → List (PredeclaredType × ℕ) → List (Predeclare
 IsAdded pair old new =
     (entries : List (PredeclaredType × ℕ)) × Each IsEntry (recorded (item pair no_items)) entries × (new ≡ old ++ entries)
 
+-- the scalars of dropped pairs with what a pair adds to them
+abbrev pub IsDropAdded : Json → List Scalar → List Scalar → Type 0
+IsDropAdded pair old new =
+    (scalars : List Scalar) × Each IsDroppedEntry (unrecorded (item pair no_items)) scalars × (new ≡ old ++ scalars)
+
 abbrev pub AreSpecialTypes : Json → SpecialTypes → Type 0
 AreSpecialTypes j special =
-    IsObject j (λ ms. MayHaveField IsUnsigned (codes "ray_intersection") ms special.ray_intersection
-    × MayHaveField IsUnsigned (codes "ray_vertex_return") ms special.ray_vertex_return
+    IsObject j (λ ms. MayHaveField IsHandle (codes "ray_intersection") ms special.ray_intersection
+    × MayHaveField IsHandle (codes "ray_vertex_return") ms special.ray_vertex_return
     × HasField ArePredeclared (codes "predeclared_types") ms special.predeclared_types)

@@ -1,10 +1,9 @@
 -- Types, and the bindings of arguments, results and members, in the JSON of modules.
-use Rattle.std.specs.Prelude.{◌≡◌, ℕ, List, Option, codes}
+use Rattle.std.specs.Prelude.{ℕ, List, Option, codes}
 use Rattle.json.specs.Json.{Json}
 use Rattle.shader_ir.specs.declared.binding.Binding.{Binding}
 use Rattle.shader_ir.specs.declared.binding.Binding.TheVariants as bindings
 use Rattle.shader_ir.specs.declared.binding.BuiltIn.{BuiltIn}
-use Rattle.shader_ir.specs.declared.binding.BuiltIn.TheVariants as builtins
 use Rattle.shader_ir.specs.declared.types.AddressSpace.{AddressSpace}
 use Rattle.shader_ir.specs.declared.types.AddressSpace.TheVariants as spaces
 use Rattle.shader_ir.specs.declared.types.ArraySize.{ArraySize}
@@ -13,8 +12,9 @@ use Rattle.shader_ir.specs.declared.types.StructMember.{StructMember}
 use Rattle.shader_ir.specs.declared.types.Type.{«Type»}
 use Rattle.shader_ir.specs.declared.types.TypeInner.{TypeInner}
 use Rattle.shader_ir.specs.declared.types.TypeInner.TheVariants as t
-use Rattle.shader_json_reader.specs.Numbers.{IsUnsigned, IsText, IsTruth}
-use Rattle.shader_json_reader.specs.Shapes.{IsObject, IsVariant, IsUnit, IsNewtype, IsStruct, IsList, HasField, MayHaveField}
+use Rattle.shader_json_reader.specs.Numbers.{IsCount, IsHandle, IsText, IsTruth, IsU32}
+use Rattle.shader_json_reader.specs.Shapes.{AreDistinct, IsObject, IsVariant, IsUnit, IsNewtype, IsStruct, IsList, HasField, MayHaveField}
+use Rattle.shader_json_declarations.specs.BuiltIns.{IsKnownOrFurther, known_built_in}
 use Rattle.shader_json_declarations.specs.Scalars.{IsScalar, IsSize, IsCooperativeSize, IsRole, IsDimension, IsClass, IsAccess}
 
 abbrev pub IsSpaceOf : List ℕ → Option Json → AddressSpace → Type 0
@@ -34,22 +34,17 @@ abbrev pub IsSpace : Json → AddressSpace → Type 0
 IsSpace j space = IsVariant j (λ name payload. IsSpaceOf name payload space)
 
 abbrev pub IsLengthOf : List ℕ → Option Json → ArraySize → Type 0
-IsLengthOf name payload (lengths.Constant count) = IsNewtype (codes "Constant") name payload (λ j. IsUnsigned j count)
-IsLengthOf name payload (lengths.Pending handle) = IsNewtype (codes "Pending") name payload (λ j. IsUnsigned j handle)
+IsLengthOf name payload (lengths.Constant count) = IsNewtype (codes "Constant") name payload (λ j. IsCount j count)
+IsLengthOf name payload (lengths.Pending handle) = IsNewtype (codes "Pending") name payload (λ j. IsHandle j handle)
 IsLengthOf name payload lengths.Dynamic = IsUnit (codes "Dynamic") name payload
 
 -- the size of an array
 abbrev pub IsLength : Json → ArraySize → Type 0
 IsLength j size = IsVariant j (λ name payload. IsLengthOf name payload size)
 
--- Of the built-in values without a variant here it says nothing but that they are none of those with one.
+-- The value that naga has with that name and payload. Of others it leaves the number open.
 abbrev pub IsBuiltInOf : List ℕ → Option Json → BuiltIn → Type 0
-IsBuiltInOf name payload builtins.WorkGroupId = IsUnit (codes "WorkGroupId") name payload
-IsBuiltInOf name payload builtins.WorkGroupSize = IsUnit (codes "WorkGroupSize") name payload
-IsBuiltInOf name payload builtins.NumWorkGroups = IsUnit (codes "NumWorkGroups") name payload
-IsBuiltInOf name payload (builtins.Other number) =
-    (IsUnit (codes "WorkGroupId") name payload → ⊥) × (IsUnit (codes "WorkGroupSize") name payload → ⊥)
-    × (IsUnit (codes "NumWorkGroups") name payload → ⊥)
+IsBuiltInOf name payload builtin = IsKnownOrFurther (known_built_in name payload) builtin
 
 abbrev pub IsBuiltIn : Json → BuiltIn → Type 0
 IsBuiltIn j builtin = IsVariant j (λ name payload. IsBuiltInOf name payload builtin)
@@ -57,15 +52,15 @@ IsBuiltIn j builtin = IsVariant j (λ name payload. IsBuiltInOf name payload bui
 abbrev pub IsBindingOf : List ℕ → Option Json → Binding → Type 0
 IsBindingOf name payload (bindings.BuiltIn builtin) = IsNewtype (codes "BuiltIn") name payload (λ j. IsBuiltIn j builtin)
 IsBindingOf name payload (bindings.Location location) =
-    IsStruct (codes "Location") name payload (λ ms. HasField IsUnsigned (codes "location") ms location)
+    IsStruct (codes "Location") name payload (λ ms. HasField IsU32 (codes "location") ms location)
 
 abbrev pub IsBinding : Json → Binding → Type 0
 IsBinding j binding = IsVariant j (λ name payload. IsBindingOf name payload binding)
 
 abbrev pub IsMember : Json → StructMember → Type 0
 IsMember j m =
-    IsObject j (λ ms. MayHaveField IsText (codes "name") ms m.name × HasField IsUnsigned (codes "ty") ms m.ty
-    × MayHaveField IsBinding (codes "binding") ms m.binding × HasField IsUnsigned (codes "offset") ms m.offset)
+    IsObject j (λ ms. MayHaveField IsText (codes "name") ms m.name × HasField IsHandle (codes "ty") ms m.ty
+    × MayHaveField IsBinding (codes "binding") ms m.binding × HasField IsU32 (codes "offset") ms m.offset)
 
 abbrev pub IsInnerOf : List ℕ → Option Json → TypeInner → Type 0
 IsInnerOf name payload (t.Scalar scalar) = IsNewtype (codes "Scalar") name payload (λ j. IsScalar j scalar)
@@ -79,15 +74,15 @@ IsInnerOf name payload (t.CooperativeMatrix columns rows scalar role) = IsStruct
     × HasField IsScalar (codes "scalar") ms scalar × HasField IsRole (codes "role") ms role)
 IsInnerOf name payload (t.Atomic scalar) = IsNewtype (codes "Atomic") name payload (λ j. IsScalar j scalar)
 IsInnerOf name payload (t.Pointer base space) = IsStruct (codes "Pointer") name payload
-    (λ ms. HasField IsUnsigned (codes "base") ms base × HasField IsSpace (codes "space") ms space)
+    (λ ms. HasField IsHandle (codes "base") ms base × HasField IsSpace (codes "space") ms space)
 IsInnerOf name payload (t.ValuePointer size scalar space) = IsStruct (codes "ValuePointer") name payload
     (λ ms. MayHaveField IsSize (codes "size") ms size × HasField IsScalar (codes "scalar") ms scalar
     × HasField IsSpace (codes "space") ms space)
 IsInnerOf name payload (t.Array base size stride) = IsStruct (codes "Array") name payload
-    (λ ms. HasField IsUnsigned (codes "base") ms base × HasField IsLength (codes "size") ms size
-    × HasField IsUnsigned (codes "stride") ms stride)
+    (λ ms. HasField IsHandle (codes "base") ms base × HasField IsLength (codes "size") ms size
+    × HasField IsU32 (codes "stride") ms stride)
 IsInnerOf name payload (t.Struct span members) = IsStruct (codes "Struct") name payload
-    (λ ms. HasField (IsList IsMember) (codes "members") ms members × HasField IsUnsigned (codes "span") ms span)
+    (λ ms. HasField (IsList IsMember) (codes "members") ms members × HasField IsU32 (codes "span") ms span)
 IsInnerOf name payload (t.Image dim arrayed class) = IsStruct (codes "Image") name payload
     (λ ms. HasField IsDimension (codes "dim") ms dim × HasField IsTruth (codes "arrayed") ms arrayed
     × HasField IsClass (codes "class") ms class)
@@ -98,10 +93,14 @@ IsInnerOf name payload (t.AccelerationStructure vertex_return) = IsStruct (codes
 IsInnerOf name payload (t.RayQuery vertex_return) = IsStruct (codes "RayQuery") name payload
     (λ ms. HasField IsTruth (codes "vertex_return") ms vertex_return)
 IsInnerOf name payload (t.BindingArray base size) = IsStruct (codes "BindingArray") name payload
-    (λ ms. HasField IsUnsigned (codes "base") ms base × HasField IsLength (codes "size") ms size)
+    (λ ms. HasField IsHandle (codes "base") ms base × HasField IsLength (codes "size") ms size)
 
 abbrev pub IsInner : Json → TypeInner → Type 0
 IsInner j inner = IsVariant j (λ name payload. IsInnerOf name payload inner)
 
 abbrev pub IsType : Json → «Type» → Type 0
 IsType j ty = IsObject j (λ ms. MayHaveField IsText (codes "name") ms ty.name × HasField IsInner (codes "inner") ms ty.inner)
+
+-- the types of a module, which differ
+abbrev pub AreTypes : Json → List «Type» → Type 0
+AreTypes j types = IsList IsType j types × AreDistinct types

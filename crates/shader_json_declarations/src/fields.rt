@@ -1,8 +1,8 @@
 //! Objects that are read as structs, and values that are read as enums.
-ghost use Rattle.std.specs.Prelude.{◌≡◌, ◌∷◌, [], IfOk, Ok, Some, option_map};
+ghost use Rattle.std.specs.Prelude.{◌≡◌, ◌∷◌, [], IfOk, Ok, OnOk, Some, option_map};
 ghost use Rattle.json.specs.Json.{object};
 ghost use Rattle.json.specs.Value.{members_view, value_view};
-ghost use Rattle.shader_json_reader.specs.Shapes.{HasField, IsObject, IsOnlyOrNull, MayHaveField, kept, values_of, variant_of};
+ghost use Rattle.shader_json_reader.specs.Shapes.{HasField, HasOnly, IsObject, IsOnlyOrNull, MayHaveField, kept, values_of, variant_of};
 
 use crate::values::Read;
 use json::Value;
@@ -130,6 +130,28 @@ impl<'v, 'a> Fields<'v, 'a> {
             Some(member) => Ok(member),
             None => Err(Failure::refused(context.alloc, Wanted::Field(name))),
         }
+    }
+
+    /// Rejects a field that has neither of two names.
+    ///
+    /// # Errors
+    ///
+    /// Such a field, of which `wanted` is said.
+    pub fn only(
+        self,
+        context: &Context,
+        first: &str,
+        second: &str,
+        wanted: &'static str,
+    ) -> Result<(), Failure>
+        ensures { OnOk result (HasOnly first.now second.now (members_view self.entry.members.now)) }
+    {
+        for (index, member) in self.members.iter().enumerate() {
+            if member.0 != first && member.0 != second {
+                return Err(context.refused(wanted).within(index));
+            }
+        }
+        Ok(())
     }
 
     /// Returns the result of reading a field. The path of a failure, which begins at the object so far, then begins at the value that is

@@ -1,7 +1,6 @@
 //! Reads diagnostic filters.
-ghost use Rattle.shader_json_declarations.specs.Filters.{IsFilter, IsFilterNode, IsRule, IsSeverity, IsStandardRule};
+ghost use Rattle.shader_json_declarations.specs.Filters.{IsFilter, IsFilterNode, IsRule, IsSeverity, IsStandardRule, IsUserRule};
 ghost use Rattle.shader_json_declarations.specs.Names.{severity_name};
-ghost use Rattle.std.specs.Prelude.{⊤};
 
 use crate::fields::{Fields, Variant};
 use crate::names::{Spelled, named};
@@ -49,7 +48,7 @@ impl Read for StandardRule {
 struct UserRule;
 
 impl Read for UserRule {
-    ghost reads = { λ _ _. ⊤ };
+    ghost reads = { λ j _. IsUserRule j };
 
     fn read(context: &mut Context, value: &Value<'_>) -> Result<UserRule, Failure> {
         let wanted = "an array of 2 strings";

@@ -1,10 +1,8 @@
 //! Reads the contents of functions except expressions and statements.
 ghost use Rattle.std.specs.Prelude.{IfSome};
-ghost use Rattle.json.specs.Json.{number};
 ghost use Rattle.shader_json_declarations.specs.Declarations.{IsArgument, IsLocal, IsResult, IsStage};
-ghost use Rattle.shader_json_declarations.specs.NamedExpressions.{AreNamedExpressions};
+ghost use Rattle.shader_json_declarations.specs.NamedExpressions.{AreNamedExpressions, IsHandleKey};
 ghost use Rattle.shader_json_declarations.specs.Names.{stage_name};
-ghost use Rattle.shader_json_reader.specs.Numbers.{IsUnsigned};
 
 use crate::fields::Fields;
 use crate::maps::add_entry;
@@ -76,7 +74,7 @@ impl Read for NamedExpressions {
 
 /// Returns the handle that a key spells, in decimal without sign or leading zeros.
 fn handle_of(key: &str) -> Option<Handle<mark::Expression>>
-    ensures { IfSome result (λ handle. IsUnsigned (number key.now) handle) }
+    ensures { IfSome result (λ handle. IsHandleKey key.now handle) }
 {
     match key.as_bytes() {
         [b'0'] => Some(Handle::from_index(0)),

@@ -1,13 +1,14 @@
 //! Reads the types that built-in functions and ray queries return.
 ghost use Rattle.std.specs.Prelude.{◌≡◌, IfOk, IsTrue, OnOk};
+ghost use Rattle.std.specs.Map.{keys_of};
 ghost use Rattle.json.specs.Json.{no_members, object};
 ghost use Rattle.json.specs.Value.{value_view};
 ghost use Rattle.shader_json_declarations.specs.Keys.{IsKey, IsKeyed};
-ghost use Rattle.shader_json_declarations.specs.SpecialTypes.{ArePredeclared, AreSpecialTypes, HasShape, IsAdded};
-ghost use Rattle.shader_json_reader.specs.Shapes.{IsObject};
+ghost use Rattle.shader_json_declarations.specs.SpecialTypes.{ArePredeclared, AreSpecialTypes, HasShape, IsAdded, IsDropAdded};
+ghost use Rattle.shader_json_reader.specs.Shapes.{AreDistinct, IsObject};
 
 use crate::fields::{Fields, Variant};
-use crate::maps::add_entry;
+use crate::maps::{add_entry, add_key};
 use crate::values::Read;
 use indexmap::IndexSet;
 use json::Value;
@@ -73,17 +74,14 @@ struct Predeclared {
 impl Predeclared {
     /// Adds a key with its type.
     fn add(&mut self, context: &mut Context, pair: &Value<'_>) -> Result<(), Failure>
-        ensures { OnOk result (IsAdded (value_view pair.now) self.old.stored self.new.stored) }
+        ensures stored { OnOk result (IsAdded (value_view pair.now) self.old.stored self.new.stored) }
+        ensures dropped { OnOk result (IsDropAdded (value_view pair.now) self.old.dropped.keys self.new.dropped.keys) }
+        ensures keys { OnOk result (AreDistinct (keys_of self.old.stored) → AreDistinct (keys_of self.new.stored)) }
+        ensures scalars { OnOk result (AreDistinct self.old.dropped.keys → AreDistinct self.new.dropped.keys) }
     {
         match read_pair(context, pair)? {
             (Key::Supported(key), ty) => within(0, add_entry(context, &mut self.stored, key, ty)),
-            (Key::Dropped(scalar), _) => {
-                if self.dropped.insert(scalar)? {
-                    Ok(())
-                } else {
-                    Err(context.refused("a key that stands once").within(0))
-                }
-            }
+            (Key::Dropped(scalar), _) => within(0, add_key(context, &mut self.dropped, scalar)),
         }
     }
 }

@@ -1,10 +1,12 @@
 //! Reads types, and the bindings of arguments, results and members.
 ghost use Rattle.json.specs.Value.{value_view};
-ghost use Rattle.shader_json_declarations.specs.Types.{IsBinding, IsBuiltIn, IsInner, IsInnerOf, IsLength, IsMember, IsSpace, IsType};
-ghost use Rattle.shader_json_reader.specs.Shapes.{IsList};
-ghost use Rattle.std.specs.Prelude.{◌≡◌, ◌++◌, ◌∷◌, [], IfOk, OnOk, Some, length};
+ghost use Rattle.shader_json_declarations.specs.Types.{AreTypes, IsBinding, IsBuiltIn, IsInner, IsInnerOf, IsLength};
+ghost use Rattle.shader_json_declarations.specs.Types.{IsMember, IsSpace, IsType};
+ghost use Rattle.std.specs.Prelude.{IfOk, Some};
 
+use crate::built_ins::known_built_in;
 use crate::fields::{Data, Fields, Variant};
+use crate::maps::add_item;
 use crate::values::{Read, read_item};
 use json::Value;
 use shader_arena::UniqueArena;
@@ -51,21 +53,13 @@ impl Read for ArraySize {
 impl Read for BuiltIn {
     ghost reads = { λ j builtin. IsBuiltIn j builtin };
 
-    /// Reads a built-in value. Those without a variant here are distinguished by their JSON.
+    /// Reads a built-in value. Those that naga lacks are distinguished by their JSON.
     fn read(context: &mut Context, value: &Value<'_>) -> Result<BuiltIn, Failure> {
         let Variant { name, payload } = Variant::of(context, value)?;
-        if payload.is_none() {
-            if name == "WorkGroupId" {
-                return Ok(BuiltIn::WorkGroupId);
-            }
-            if name == "WorkGroupSize" {
-                return Ok(BuiltIn::WorkGroupSize);
-            }
-            if name == "NumWorkGroups" {
-                return Ok(BuiltIn::NumWorkGroups);
-            }
+        match known_built_in(name, payload) {
+            Some(known) => Ok(known),
+            None => Ok(BuiltIn::Other(context.number_of(value)?)),
         }
-        Ok(BuiltIn::Other(context.number_of(value)?))
     }
 }
 
@@ -221,7 +215,7 @@ impl Read for Type {
 }
 
 impl Read for UniqueArena<Type, mark::Type> {
-    ghost reads = { λ j types. IsList IsType j types };
+    ghost reads = { λ j types. AreTypes j types };
 
     fn read(
         context: &mut Context,
@@ -233,28 +227,8 @@ impl Read for UniqueArena<Type, mark::Type> {
         let mut types = UniqueArena::new(context.alloc);
         for (index, item) in items.iter().enumerate() {
             let ty: Type = read_item(context, index, item)?;
-            add_type(context, &mut types, index, ty)?;
+            add_item(context, &mut types, index, ty)?;
         }
         Ok(types)
     }
-}
-
-/// Adds the type of this index.
-fn add_type(
-    context: &Context,
-    types: &mut UniqueArena<Type, mark::Type>,
-    index: usize,
-    ty: Type,
-) -> Result<(), Failure>
-    requires { length types.old ≡ index }
-    ensures { OnOk result (types.new ≡ types.old ++ ty ∷ []) }
-{
-    if types.is_full() {
-        return Err(context.refused("an array of at most 4294967295 types"));
-    }
-    types.insert(ty)?;
-    if types.len() == index {
-        return Err(context.refused("a type that stands once").within(index));
-    }
-    Ok(())
 }

@@ -1,9 +1,11 @@
 //! Reads numbers, texts, options and lists.
-ghost use Rattle.std.specs.Prelude.{◌<◌, ◌≤◌, IfOk};
+ghost use Rattle.std.specs.Prelude.{◌<◌, IfOk};
 ghost use Rattle.json.specs.Json.{Json};
 ghost use Rattle.json.specs.Value.{value_view};
 ghost use Rattle.shader_json_declarations.specs.Scalars.{IsRange};
-ghost use Rattle.shader_json_reader.specs.Numbers.{IsSigned, IsText, IsTruth, IsUnsigned};
+ghost use Rattle.shader_json_reader.specs.Numbers.{IsCount, IsHandle, IsI16, IsI32, IsI64, IsSigned, IsText, IsTruth};
+ghost use Rattle.shader_json_reader.specs.Numbers.{IsU16, IsU32, IsU64, IsU8, IsUnsigned};
+ghost use Rattle.shader_json_reader.specs.Answers.{Answers};
 ghost use Rattle.shader_json_reader.specs.Shapes.{IsList, IsNullable};
 
 use crate::fields::Fields;
@@ -43,8 +45,8 @@ pub fn read_item<T: Read>(
 
 /// Reads an integer from 0 to `most`.
 fn integer(context: &Context, value: &Value<'_>, most: u64) -> Result<u64, Failure>
-    ensures value { IfOk result (λ number. IsUnsigned (value_view value.now) number) }
-    ensures bound { IfOk result (λ number. number ≤ most) }
+    ensures reads { IfOk result (λ number. IsUnsigned most (value_view value.now) number) }
+    ensures answers { Answers (IsUnsigned most) (value_view value.now) result }
 {
     match unsigned(value, most) {
         Some(number) => Ok(number),
@@ -53,82 +55,105 @@ fn integer(context: &Context, value: &Value<'_>, most: u64) -> Result<u64, Failu
 }
 
 impl Read for u8 {
-    ghost reads = { λ j number. IsUnsigned j number };
+    ghost reads = { λ j number. IsU8 j number };
 
-    fn read(context: &mut Context, value: &Value<'_>) -> Result<u8, Failure> {
+    fn read(context: &mut Context, value: &Value<'_>) -> Result<u8, Failure>
+        ensures reads { IfOk result (λ number. IsU8 (value_view value.now) number) }
+        ensures answers { Answers IsU8 (value_view value.now) result }
+    {
         Ok(integer(context, value, 255)? as u8)
     }
 }
 
 impl Read for u16 {
-    ghost reads = { λ j number. IsUnsigned j number };
+    ghost reads = { λ j number. IsU16 j number };
 
-    fn read(context: &mut Context, value: &Value<'_>) -> Result<u16, Failure> {
+    fn read(context: &mut Context, value: &Value<'_>) -> Result<u16, Failure>
+        ensures reads { IfOk result (λ number. IsU16 (value_view value.now) number) }
+        ensures answers { Answers IsU16 (value_view value.now) result }
+    {
         Ok(integer(context, value, 65_535)? as u16)
     }
 }
 
 impl Read for u32 {
-    ghost reads = { λ j number. IsUnsigned j number };
+    ghost reads = { λ j number. IsU32 j number };
 
-    fn read(context: &mut Context, value: &Value<'_>) -> Result<u32, Failure> {
+    fn read(context: &mut Context, value: &Value<'_>) -> Result<u32, Failure>
+        ensures reads { IfOk result (λ number. IsU32 (value_view value.now) number) }
+        ensures answers { Answers IsU32 (value_view value.now) result }
+    {
         Ok(integer(context, value, 4_294_967_295)? as u32)
     }
 }
 
 impl Read for u64 {
-    ghost reads = { λ j number. IsUnsigned j number };
+    ghost reads = { λ j number. IsU64 j number };
 
-    fn read(context: &mut Context, value: &Value<'_>) -> Result<u64, Failure> {
+    fn read(context: &mut Context, value: &Value<'_>) -> Result<u64, Failure>
+        ensures reads { IfOk result (λ number. IsU64 (value_view value.now) number) }
+        ensures answers { Answers IsU64 (value_view value.now) result }
+    {
         integer(context, value, u64::MAX)
     }
 }
 
-impl Read for i16 {
-    ghost reads = { λ j number. IsSigned j number };
+/// Reads an integer from `least` to `most`, which isn't negative.
+fn signed_integer(
+    context: &Context,
+    value: &Value<'_>,
+    least: i64,
+    most: i64,
+) -> Result<i64, Failure>
+    ensures reads { IfOk result (λ number. IsSigned least most (value_view value.now) number) }
+    ensures answers { Answers (IsSigned least most) (value_view value.now) result }
+{
+    match signed(value, least, most) {
+        Some(number) => Ok(number),
+        None => Err(Failure::refused(context.alloc, Wanted::Integer(least, most.unsigned_abs()))),
+    }
+}
 
-    fn read(context: &mut Context, value: &Value<'_>) -> Result<i16, Failure> {
-        match signed(value) {
-            Some(number) if -32_768 <= number && number <= 32_767 => Ok(number as i16),
-            _ => Err(Failure::refused(context.alloc, Wanted::Integer(-32_768, 32_767))),
-        }
+impl Read for i16 {
+    ghost reads = { λ j number. IsI16 j number };
+
+    fn read(context: &mut Context, value: &Value<'_>) -> Result<i16, Failure>
+        ensures reads { IfOk result (λ number. IsI16 (value_view value.now) number) }
+        ensures answers { Answers IsI16 (value_view value.now) result }
+    {
+        Ok(signed_integer(context, value, -32_768, 32_767)? as i16)
     }
 }
 
 impl Read for i32 {
-    ghost reads = { λ j number. IsSigned j number };
+    ghost reads = { λ j number. IsI32 j number };
 
-    fn read(context: &mut Context, value: &Value<'_>) -> Result<i32, Failure> {
-        match signed(value) {
-            Some(number) if -2_147_483_648 <= number && number <= 2_147_483_647 => {
-                Ok(number as i32)
-            }
-            _ => Err(Failure::refused(
-                context.alloc,
-                Wanted::Integer(-2_147_483_648, 2_147_483_647),
-            )),
-        }
+    fn read(context: &mut Context, value: &Value<'_>) -> Result<i32, Failure>
+        ensures reads { IfOk result (λ number. IsI32 (value_view value.now) number) }
+        ensures answers { Answers IsI32 (value_view value.now) result }
+    {
+        Ok(signed_integer(context, value, -2_147_483_648, 2_147_483_647)? as i32)
     }
 }
 
 impl Read for i64 {
-    ghost reads = { λ j number. IsSigned j number };
+    ghost reads = { λ j number. IsI64 j number };
 
-    fn read(context: &mut Context, value: &Value<'_>) -> Result<i64, Failure> {
-        match signed(value) {
-            Some(number) => Ok(number),
-            None => Err(Failure::refused(
-                context.alloc,
-                Wanted::Integer(i64::MIN, 9_223_372_036_854_775_807),
-            )),
-        }
+    fn read(context: &mut Context, value: &Value<'_>) -> Result<i64, Failure>
+        ensures reads { IfOk result (λ number. IsI64 (value_view value.now) number) }
+        ensures answers { Answers IsI64 (value_view value.now) result }
+    {
+        signed_integer(context, value, i64::MIN, i64::MAX)
     }
 }
 
 impl Read for bool {
     ghost reads = { λ j truth. IsTruth j truth };
 
-    fn read(context: &mut Context, value: &Value<'_>) -> Result<bool, Failure> {
+    fn read(context: &mut Context, value: &Value<'_>) -> Result<bool, Failure>
+        ensures reads { IfOk result (λ truth. IsTruth (value_view value.now) truth) }
+        ensures answers { Answers IsTruth (value_view value.now) result }
+    {
         match value.as_bool() {
             Some(read) => Ok(read),
             None => Err(context.refused("true or false")),
@@ -139,7 +164,10 @@ impl Read for bool {
 impl Read for Name {
     ghost reads = { λ j name. IsText j name };
 
-    fn read(context: &mut Context, value: &Value<'_>) -> Result<Name, Failure> {
+    fn read(context: &mut Context, value: &Value<'_>) -> Result<Name, Failure>
+        ensures reads { IfOk result (λ name. IsText (value_view value.now) name) }
+        ensures answers { Answers IsText (value_view value.now) result }
+    {
         match value.as_str() {
             Some(text) => Ok(Name::from(text.to_string(context.alloc)?)),
             None => Err(context.refused("a string")),
@@ -148,9 +176,12 @@ impl Read for Name {
 }
 
 impl Read for Count {
-    ghost reads = { λ j count. IsUnsigned j count };
+    ghost reads = { λ j count. IsCount j count };
 
-    fn read(context: &mut Context, value: &Value<'_>) -> Result<Count, Failure> {
+    fn read(context: &mut Context, value: &Value<'_>) -> Result<Count, Failure>
+        ensures reads { IfOk result (λ count. IsCount (value_view value.now) count) }
+        ensures answers { Answers IsCount (value_view value.now) result }
+    {
         let count = match unsigned(value, 4_294_967_295) {
             Some(number) => Count::new(number as u32),
             None => None,
@@ -166,11 +197,12 @@ impl Read for Count {
 const LAST_POSITION: u64 = 4_294_967_294;
 
 impl<M> Read for Handle<M> {
-    ghost reads = { λ j handle. IsUnsigned j handle };
+    ghost reads = { λ j handle. IsHandle j handle };
 
     fn read(context: &mut Context, value: &Value<'_>) -> Result<Handle<M>, Failure>
-        ensures reads { IfOk result (λ handle. IsUnsigned (value_view value.now) handle) }
+        ensures reads { IfOk result (λ handle. IsHandle (value_view value.now) handle) }
         ensures bound { IfOk result (λ handle. handle < 4294967295) }
+        ensures answers { Answers IsHandle (value_view value.now) result }
     {
         let position = integer(context, value, LAST_POSITION)?;
         Ok(Handle::from_index(position as u32))
@@ -181,7 +213,9 @@ impl<M> Read for Range<M> {
     ghost reads = { λ j range. IsRange j range };
 
     fn read(context: &mut Context, value: &Value<'_>) -> Result<Range<M>, Failure> {
-        let (start, end) = Fields::of(context, value)?.pair(context, "start", "end")?;
+        let fields = Fields::of(context, value)?;
+        let (start, end) = fields.pair(context, "start", "end")?;
+        fields.only(context, "start", "end", "no field but start and end")?;
         Ok(Range::new(Handle::from_index(start), Handle::from_index(end)))
     }
 }

@@ -13,7 +13,7 @@ use Rattle.shader_ir.specs.declared.operators.MathFunction.{MathFunction}
 use Rattle.shader_ir.specs.declared.operators.RelationalFunction.{RelationalFunction}
 use Rattle.shader_ir.specs.declared.operators.SwizzleComponent.{SwizzleComponent}
 use Rattle.shader_ir.specs.declared.operators.UnaryOperator.{UnaryOperator}
-use Rattle.shader_json_reader.specs.Numbers.{IsUnsigned, IsTruth}
+use Rattle.shader_json_reader.specs.Numbers.{IsHandle, IsTruth}
 use Rattle.shader_json_reader.specs.Shapes.{IsObject, IsVariant, IsUnit, IsNewtype, IsStruct, HasField, MayHaveField}
 use Rattle.shader_json_expressions.specs.Names.{unary_name, binary_name, axis_name, control_name, relational_name, component_name}
 use Rattle.shader_json_expressions.specs.Names.{function_name}
@@ -42,16 +42,16 @@ IsBuiltinFunction j fun = j ≡ string (function_name fun)
 abbrev pub IsLevelOf : List ℕ → Option Json → SampleLevel → Type 0
 IsLevelOf name payload levels.Auto = IsUnit (codes "Auto") name payload
 IsLevelOf name payload levels.Zero = IsUnit (codes "Zero") name payload
-IsLevelOf name payload (levels.Exact level) = IsNewtype (codes "Exact") name payload (λ j. IsUnsigned j level)
-IsLevelOf name payload (levels.Bias bias) = IsNewtype (codes "Bias") name payload (λ j. IsUnsigned j bias)
+IsLevelOf name payload (levels.Exact level) = IsNewtype (codes "Exact") name payload (λ j. IsHandle j level)
+IsLevelOf name payload (levels.Bias bias) = IsNewtype (codes "Bias") name payload (λ j. IsHandle j bias)
 IsLevelOf name payload (levels.Gradient x y) = IsStruct (codes "Gradient") name payload
-    (λ ms. HasField IsUnsigned (codes "x") ms x × HasField IsUnsigned (codes "y") ms y)
+    (λ ms. HasField IsHandle (codes "x") ms x × HasField IsHandle (codes "y") ms y)
 
 abbrev pub IsLevel : Json → SampleLevel → Type 0
 IsLevel j level = IsVariant j (λ name payload. IsLevelOf name payload level)
 
 abbrev pub IsQueryOf : List ℕ → Option Json → ImageQuery → Type 0
-IsQueryOf name payload (queries.Size level) = IsStruct (codes "Size") name payload (λ ms. MayHaveField IsUnsigned (codes "level") ms level)
+IsQueryOf name payload (queries.Size level) = IsStruct (codes "Size") name payload (λ ms. MayHaveField IsHandle (codes "level") ms level)
 IsQueryOf name payload queries.NumLevels = IsUnit (codes "NumLevels") name payload
 IsQueryOf name payload queries.NumLayers = IsUnit (codes "NumLayers") name payload
 IsQueryOf name payload queries.NumSamples = IsUnit (codes "NumSamples") name payload
@@ -62,5 +62,5 @@ IsQuery j query = IsVariant j (λ name payload. IsQueryOf name payload query)
 -- the location of a cooperative matrix in memory
 abbrev pub IsTile : Json → CooperativeData → Type 0
 IsTile j tile =
-    IsObject j (λ ms. HasField IsUnsigned (codes "pointer") ms tile.pointer × HasField IsUnsigned (codes "stride") ms tile.stride
+    IsObject j (λ ms. HasField IsHandle (codes "pointer") ms tile.pointer × HasField IsHandle (codes "stride") ms tile.stride
     × HasField IsTruth (codes "row_major") ms tile.row_major)

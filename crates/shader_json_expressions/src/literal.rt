@@ -2,7 +2,7 @@
 ghost use Rattle.shader_json_expressions.specs.Literals.{IsLiteral};
 
 use crate::code::Code;
-use crate::floats::{Double, Half, Single};
+use crate::floats::{Double, Single};
 use json::Value;
 use shader_ir::Literal;
 use shader_json_declarations::{Read, Variant};
@@ -19,7 +19,7 @@ impl Read for Code<Literal> {
         let found = match name {
             "F64" => Literal::F64(payload.read::<Double>(context)?.0),
             "F32" => Literal::F32(payload.read::<Single>(context)?.0),
-            "F16" => Literal::F16(payload.read::<Half>(context)?.0),
+            "F16" => Literal::F16(payload.read(context)?),
             "AbstractFloat" => Literal::AbstractFloat(payload.read::<Double>(context)?.0),
             "U16" => Literal::U16(payload.read(context)?),
             "I16" => Literal::I16(payload.read(context)?),

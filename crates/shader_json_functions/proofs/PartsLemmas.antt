@@ -11,7 +11,7 @@ use Rattle.shader_ir.specs.declared.function.Function.{Function}
 use Rattle.shader_json_declarations.specs.Declarations.{IsArgument, IsLocal, IsResult, IsStage}
 use Rattle.shader_json_declarations.specs.NamedExpressions.{AreNamedExpressions}
 use Rattle.shader_json_expressions.specs.Expressions.{IsExpression}
-use Rattle.shader_json_reader.specs.Numbers.{IsText, IsUnsigned}
+use Rattle.shader_json_reader.specs.Numbers.{IsHandle, IsText}
 use Rattle.shader_json_reader.specs.Shapes.{HasField, IsList, IsOnly, IsOnlyOrNull, IsNullable, MayHaveField, Reading, cons_if, values_of}
 use Rattle.shader_json_functions.specs.Functions.{HasSignature, IsEntryPoint, IsFunction}
 use Rattle.shader_json_functions.specs.Next.{AreParts, IsNext, member_unless, without}
@@ -73,7 +73,7 @@ next_function depth tokens rest left ms f parts is has =
         still_has (codes "expressions") (codes "body") (IsList IsArgument) (codes "arguments") parts.ms f.arguments refl all.1,
         still_may_have (codes "expressions") (codes "body") IsResult (codes "result") parts.ms f.result refl all.2,
         still_has (codes "expressions") (codes "body") (IsList IsLocal) (codes "local_variables") parts.ms f.local_variables refl all.3,
-        still_may_have (codes "expressions") (codes "body") IsUnsigned (codes "diagnostic_filter_leaf") parts.ms f.diagnostic_filter_leaf
+        still_may_have (codes "expressions") (codes "body") IsHandle (codes "diagnostic_filter_leaf") parts.ms f.diagnostic_filter_leaf
             refl all.4,
         still_has (codes "expressions") (codes "body") AreNamedExpressions (codes "named_expressions") parts.ms f.named_expressions
             refl all.5,

@@ -3,7 +3,7 @@ use Rattle.std.specs.Prelude.{codes}
 use Rattle.json.specs.Json.{Json, Members}
 use Rattle.shader_ir.specs.declared.function.EntryPoint.{EntryPoint}
 use Rattle.shader_ir.specs.declared.function.Function.{Function}
-use Rattle.shader_json_reader.specs.Numbers.{IsText, IsUnsigned}
+use Rattle.shader_json_reader.specs.Numbers.{IsHandle, IsText}
 use Rattle.shader_json_reader.specs.Shapes.{IsObject, IsList, HasField, MayHaveField}
 use Rattle.shader_json_declarations.specs.Declarations.{IsArgument, IsLocal, IsResult, IsStage}
 use Rattle.shader_json_declarations.specs.NamedExpressions.{AreNamedExpressions}
@@ -15,7 +15,7 @@ abbrev pub HasSignature : Members → Function → Type 0
 HasSignature ms f =
     MayHaveField IsText (codes "name") ms f.name × HasField (IsList IsArgument) (codes "arguments") ms f.arguments
     × MayHaveField IsResult (codes "result") ms f.result × HasField (IsList IsLocal) (codes "local_variables") ms f.local_variables
-    × MayHaveField IsUnsigned (codes "diagnostic_filter_leaf") ms f.diagnostic_filter_leaf
+    × MayHaveField IsHandle (codes "diagnostic_filter_leaf") ms f.diagnostic_filter_leaf
     × HasField AreNamedExpressions (codes "named_expressions") ms f.named_expressions
 
 abbrev pub HasFunction : Members → Function → Type 0
@@ -23,7 +23,7 @@ HasFunction ms f =
     HasField (IsList IsExpression) (codes "expressions") ms f.expressions × HasField IsBlock (codes "body") ms f.body
     × MayHaveField IsText (codes "name") ms f.name × HasField (IsList IsArgument) (codes "arguments") ms f.arguments
     × MayHaveField IsResult (codes "result") ms f.result × HasField (IsList IsLocal) (codes "local_variables") ms f.local_variables
-    × MayHaveField IsUnsigned (codes "diagnostic_filter_leaf") ms f.diagnostic_filter_leaf
+    × MayHaveField IsHandle (codes "diagnostic_filter_leaf") ms f.diagnostic_filter_leaf
     × HasField AreNamedExpressions (codes "named_expressions") ms f.named_expressions
 
 abbrev pub IsFunction : Json → Function → Type 0

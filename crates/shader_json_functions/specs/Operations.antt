@@ -18,7 +18,7 @@ use Rattle.shader_ir.specs.declared.statement.SubgroupOperation.{SubgroupOperati
 use Rattle.shader_ir.specs.declared.statement.SubgroupOperation.TheVariants as operations
 use Rattle.shader_ir.specs.declared.statement.SwitchValue.{SwitchValue}
 use Rattle.shader_ir.specs.declared.statement.SwitchValue.TheVariants as values
-use Rattle.shader_json_reader.specs.Numbers.{AreFlags, IsSigned, IsUnsigned}
+use Rattle.shader_json_reader.specs.Numbers.{AreFlags, IsHandle, IsI32, IsU32}
 use Rattle.shader_json_reader.specs.Shapes.{IsVariant, IsUnit, IsNewtype, IsStruct, HasField, MayHaveField}
 
 -- the flags of a barrier with their bits
@@ -59,8 +59,8 @@ abbrev pub IsCollective : Json → CollectiveOperation → Type 0
 IsCollective j op = j ≡ string (collective_name op)
 
 abbrev pub IsSwitchValueOf : List ℕ → Option Json → SwitchValue → Type 0
-IsSwitchValueOf name payload (values.I32 number) = IsNewtype (codes "I32") name payload (λ j. IsSigned j number)
-IsSwitchValueOf name payload (values.U32 number) = IsNewtype (codes "U32") name payload (λ j. IsUnsigned j number)
+IsSwitchValueOf name payload (values.I32 number) = IsNewtype (codes "I32") name payload (λ j. IsI32 j number)
+IsSwitchValueOf name payload (values.U32 number) = IsNewtype (codes "U32") name payload (λ j. IsU32 j number)
 IsSwitchValueOf name payload values.Default = IsUnit (codes "Default") name payload
 
 abbrev pub IsSwitchValue : Json → SwitchValue → Type 0
@@ -75,19 +75,19 @@ IsAtomicOf name payload atomic.InclusiveOr = IsUnit (codes "InclusiveOr") name p
 IsAtomicOf name payload atomic.Min = IsUnit (codes "Min") name payload
 IsAtomicOf name payload atomic.Max = IsUnit (codes "Max") name payload
 IsAtomicOf name payload (atomic.Exchange compare) = IsStruct (codes "Exchange") name payload
-    (λ ms. MayHaveField IsUnsigned (codes "compare") ms compare)
+    (λ ms. MayHaveField IsHandle (codes "compare") ms compare)
 
 abbrev pub IsAtomic : Json → AtomicFunction → Type 0
 IsAtomic j fun = IsVariant j (λ name payload. IsAtomicOf name payload fun)
 
 abbrev pub IsModeOf : List ℕ → Option Json → GatherMode → Type 0
 IsModeOf name payload modes.BroadcastFirst = IsUnit (codes "BroadcastFirst") name payload
-IsModeOf name payload (modes.Broadcast lane) = IsNewtype (codes "Broadcast") name payload (λ j. IsUnsigned j lane)
-IsModeOf name payload (modes.Shuffle lane) = IsNewtype (codes "Shuffle") name payload (λ j. IsUnsigned j lane)
-IsModeOf name payload (modes.ShuffleDown lane) = IsNewtype (codes "ShuffleDown") name payload (λ j. IsUnsigned j lane)
-IsModeOf name payload (modes.ShuffleUp lane) = IsNewtype (codes "ShuffleUp") name payload (λ j. IsUnsigned j lane)
-IsModeOf name payload (modes.ShuffleXor lane) = IsNewtype (codes "ShuffleXor") name payload (λ j. IsUnsigned j lane)
-IsModeOf name payload (modes.QuadBroadcast lane) = IsNewtype (codes "QuadBroadcast") name payload (λ j. IsUnsigned j lane)
+IsModeOf name payload (modes.Broadcast lane) = IsNewtype (codes "Broadcast") name payload (λ j. IsHandle j lane)
+IsModeOf name payload (modes.Shuffle lane) = IsNewtype (codes "Shuffle") name payload (λ j. IsHandle j lane)
+IsModeOf name payload (modes.ShuffleDown lane) = IsNewtype (codes "ShuffleDown") name payload (λ j. IsHandle j lane)
+IsModeOf name payload (modes.ShuffleUp lane) = IsNewtype (codes "ShuffleUp") name payload (λ j. IsHandle j lane)
+IsModeOf name payload (modes.ShuffleXor lane) = IsNewtype (codes "ShuffleXor") name payload (λ j. IsHandle j lane)
+IsModeOf name payload (modes.QuadBroadcast lane) = IsNewtype (codes "QuadBroadcast") name payload (λ j. IsHandle j lane)
 IsModeOf name payload (modes.QuadSwap direction) = IsNewtype (codes "QuadSwap") name payload (λ j. IsDirection j direction)
 
 abbrev pub IsMode : Json → GatherMode → Type 0
@@ -95,12 +95,12 @@ IsMode j mode = IsVariant j (λ name payload. IsModeOf name payload mode)
 
 abbrev pub IsQueryFunctionOf : List ℕ → Option Json → RayQueryFunction → Type 0
 IsQueryFunctionOf name payload (queries.Initialize acceleration_structure descriptor) = IsStruct (codes "Initialize") name payload
-    (λ ms. HasField IsUnsigned (codes "acceleration_structure") ms acceleration_structure
-    × HasField IsUnsigned (codes "descriptor") ms descriptor)
+    (λ ms. HasField IsHandle (codes "acceleration_structure") ms acceleration_structure
+    × HasField IsHandle (codes "descriptor") ms descriptor)
 IsQueryFunctionOf name payload (queries.Proceed result) = IsStruct (codes "Proceed") name payload
-    (λ ms. HasField IsUnsigned (codes "result") ms result)
+    (λ ms. HasField IsHandle (codes "result") ms result)
 IsQueryFunctionOf name payload (queries.GenerateIntersection hit_t) = IsStruct (codes "GenerateIntersection") name payload
-    (λ ms. HasField IsUnsigned (codes "hit_t") ms hit_t)
+    (λ ms. HasField IsHandle (codes "hit_t") ms hit_t)
 IsQueryFunctionOf name payload queries.ConfirmIntersection = IsUnit (codes "ConfirmIntersection") name payload
 IsQueryFunctionOf name payload queries.Terminate = IsUnit (codes "Terminate") name payload
 
@@ -109,8 +109,8 @@ IsQueryFunction j fun = IsVariant j (λ name payload. IsQueryFunctionOf name pay
 
 abbrev pub IsPipelineFunctionOf : List ℕ → Option Json → RayPipelineFunction → Type 0
 IsPipelineFunctionOf name payload (pipeline.TraceRay acceleration_structure descriptor ray) = IsStruct (codes "TraceRay") name payload
-    (λ ms. HasField IsUnsigned (codes "acceleration_structure") ms acceleration_structure
-    × HasField IsUnsigned (codes "descriptor") ms descriptor × HasField IsUnsigned (codes "payload") ms ray)
+    (λ ms. HasField IsHandle (codes "acceleration_structure") ms acceleration_structure
+    × HasField IsHandle (codes "descriptor") ms descriptor × HasField IsHandle (codes "payload") ms ray)
 
 abbrev pub IsPipelineFunction : Json → RayPipelineFunction → Type 0
 IsPipelineFunction j fun = IsVariant j (λ name payload. IsPipelineFunctionOf name payload fun)

@@ -4,7 +4,7 @@ use Rattle.json.specs.Json.{Json, Items, no_items, item}
 use Rattle.shader_ir.specs.Body.{Body, End, Then, Step, Leaf, Nested, Cases, NoCase, Case, Simple}
 use Rattle.shader_ir.specs.Body as s
 use Rattle.shader_ir.specs.declared.statement.SwitchValue.{SwitchValue}
-use Rattle.shader_json_reader.specs.Numbers.{IsTruth, IsUnsigned}
+use Rattle.shader_json_reader.specs.Numbers.{IsHandle, IsTruth}
 use Rattle.shader_json_reader.specs.Shapes.{IsArray, IsObject, IsOnly, IsVariant, IsUnit, IsNewtype, IsStruct, IsList, HasField}
 use Rattle.shader_json_reader.specs.Shapes.{MayHaveField, values_of}
 use Rattle.shader_json_declarations.specs.Scalars.{IsRange}
@@ -18,41 +18,41 @@ IsSimpleOf name payload (s.Emit start end) = IsNewtype (codes "Emit") name paylo
 IsSimpleOf name payload s.Break = IsUnit (codes "Break") name payload
 IsSimpleOf name payload s.Continue = IsUnit (codes "Continue") name payload
 IsSimpleOf name payload (s.Return value) = IsStruct (codes "Return") name payload
-    (λ ms. MayHaveField IsUnsigned (codes "value") ms value)
+    (λ ms. MayHaveField IsHandle (codes "value") ms value)
 IsSimpleOf name payload s.Kill = IsUnit (codes "Kill") name payload
 IsSimpleOf name payload (s.ControlBarrier barrier) = IsNewtype (codes "ControlBarrier") name payload (λ j. IsBarrier j barrier)
 IsSimpleOf name payload (s.MemoryBarrier barrier) = IsNewtype (codes "MemoryBarrier") name payload (λ j. IsBarrier j barrier)
 IsSimpleOf name payload (s.Store pointer value) = IsStruct (codes "Store") name payload
-    (λ ms. HasField IsUnsigned (codes "pointer") ms pointer × HasField IsUnsigned (codes "value") ms value)
+    (λ ms. HasField IsHandle (codes "pointer") ms pointer × HasField IsHandle (codes "value") ms value)
 IsSimpleOf name payload (s.ImageStore image coordinate array_index value) = IsStruct (codes "ImageStore") name payload
-    (λ ms. HasField IsUnsigned (codes "image") ms image × HasField IsUnsigned (codes "coordinate") ms coordinate
-    × MayHaveField IsUnsigned (codes "array_index") ms array_index × HasField IsUnsigned (codes "value") ms value)
+    (λ ms. HasField IsHandle (codes "image") ms image × HasField IsHandle (codes "coordinate") ms coordinate
+    × MayHaveField IsHandle (codes "array_index") ms array_index × HasField IsHandle (codes "value") ms value)
 IsSimpleOf name payload (s.Atomic pointer fun value result) = IsStruct (codes "Atomic") name payload
-    (λ ms. HasField IsUnsigned (codes "pointer") ms pointer × HasField IsAtomic (codes "fun") ms fun
-    × HasField IsUnsigned (codes "value") ms value × HasField IsUnsigned (codes "result") ms result)
+    (λ ms. HasField IsHandle (codes "pointer") ms pointer × HasField IsAtomic (codes "fun") ms fun
+    × HasField IsHandle (codes "value") ms value × HasField IsHandle (codes "result") ms result)
 IsSimpleOf name payload (s.ImageAtomic image coordinate array_index fun value) = IsStruct (codes "ImageAtomic") name payload
-    (λ ms. HasField IsUnsigned (codes "image") ms image × HasField IsUnsigned (codes "coordinate") ms coordinate
-    × MayHaveField IsUnsigned (codes "array_index") ms array_index × HasField IsAtomic (codes "fun") ms fun
-    × HasField IsUnsigned (codes "value") ms value)
+    (λ ms. HasField IsHandle (codes "image") ms image × HasField IsHandle (codes "coordinate") ms coordinate
+    × MayHaveField IsHandle (codes "array_index") ms array_index × HasField IsAtomic (codes "fun") ms fun
+    × HasField IsHandle (codes "value") ms value)
 IsSimpleOf name payload (s.WorkGroupUniformLoad pointer result) = IsStruct (codes "WorkGroupUniformLoad") name payload
-    (λ ms. HasField IsUnsigned (codes "pointer") ms pointer × HasField IsUnsigned (codes "result") ms result)
+    (λ ms. HasField IsHandle (codes "pointer") ms pointer × HasField IsHandle (codes "result") ms result)
 IsSimpleOf name payload (s.Call function arguments result) = IsStruct (codes "Call") name payload
-    (λ ms. HasField IsUnsigned (codes "function") ms function × HasField (IsList IsUnsigned) (codes "arguments") ms arguments
-    × MayHaveField IsUnsigned (codes "result") ms result)
+    (λ ms. HasField IsHandle (codes "function") ms function × HasField (IsList IsHandle) (codes "arguments") ms arguments
+    × MayHaveField IsHandle (codes "result") ms result)
 IsSimpleOf name payload (s.RayQuery query fun) = IsStruct (codes "RayQuery") name payload
-    (λ ms. HasField IsUnsigned (codes "query") ms query × HasField IsQueryFunction (codes "fun") ms fun)
+    (λ ms. HasField IsHandle (codes "query") ms query × HasField IsQueryFunction (codes "fun") ms fun)
 IsSimpleOf name payload (s.RayPipeline fun) = IsNewtype (codes "RayPipelineFunction") name payload (λ j. IsPipelineFunction j fun)
 IsSimpleOf name payload (s.SubgroupBallot result predicate) = IsStruct (codes "SubgroupBallot") name payload
-    (λ ms. HasField IsUnsigned (codes "result") ms result × MayHaveField IsUnsigned (codes "predicate") ms predicate)
+    (λ ms. HasField IsHandle (codes "result") ms result × MayHaveField IsHandle (codes "predicate") ms predicate)
 IsSimpleOf name payload (s.SubgroupGather mode argument result) = IsStruct (codes "SubgroupGather") name payload
-    (λ ms. HasField IsMode (codes "mode") ms mode × HasField IsUnsigned (codes "argument") ms argument
-    × HasField IsUnsigned (codes "result") ms result)
+    (λ ms. HasField IsMode (codes "mode") ms mode × HasField IsHandle (codes "argument") ms argument
+    × HasField IsHandle (codes "result") ms result)
 IsSimpleOf name payload (s.SubgroupCollectiveOperation op collective_op argument result) =
     IsStruct (codes "SubgroupCollectiveOperation") name payload
     (λ ms. HasField IsOperation (codes "op") ms op × HasField IsCollective (codes "collective_op") ms collective_op
-    × HasField IsUnsigned (codes "argument") ms argument × HasField IsUnsigned (codes "result") ms result)
+    × HasField IsHandle (codes "argument") ms argument × HasField IsHandle (codes "result") ms result)
 IsSimpleOf name payload (s.CooperativeStore target tile) = IsStruct (codes "CooperativeStore") name payload
-    (λ ms. HasField IsUnsigned (codes "target") ms target × HasField IsTile (codes "data") ms tile)
+    (λ ms. HasField IsHandle (codes "target") ms target × HasField IsTile (codes "data") ms tile)
 
 abbrev mutual
   -- the items stand for a list of statements
@@ -66,16 +66,16 @@ abbrev mutual
   IsStepOf (Leaf simple) name payload = IsSimpleOf name payload simple
   IsStepOf (Nested body) name payload = IsNewtype (codes "Block") name payload (λ j. IsArray j (λ js. AreStatements body js))
   IsStepOf (s.If condition accept reject) name payload = IsStruct (codes "If") name payload
-      (λ ms. HasField IsUnsigned (codes "condition") ms condition
+      (λ ms. HasField IsHandle (codes "condition") ms condition
       × IsOnly (λ j. IsArray j (λ js. AreStatements accept js)) (values_of (codes "accept") ms)
       × IsOnly (λ j. IsArray j (λ js. AreStatements reject js)) (values_of (codes "reject") ms))
   IsStepOf (s.Switch selector cases) name payload = IsStruct (codes "Switch") name payload
-      (λ ms. HasField IsUnsigned (codes "selector") ms selector
+      (λ ms. HasField IsHandle (codes "selector") ms selector
       × IsOnly (λ j. IsArray j (λ js. AreCases cases js)) (values_of (codes "cases") ms))
   IsStepOf (s.Loop body continuing break_if) name payload = IsStruct (codes "Loop") name payload
       (λ ms. IsOnly (λ j. IsArray j (λ js. AreStatements body js)) (values_of (codes "body") ms)
       × IsOnly (λ j. IsArray j (λ js. AreStatements continuing js)) (values_of (codes "continuing") ms)
-      × MayHaveField IsUnsigned (codes "break_if") ms break_if)
+      × MayHaveField IsHandle (codes "break_if") ms break_if)
 
   -- the items stand for the cases of a switch
   pub AreCases : Cases → Items → Type 0

@@ -4,7 +4,7 @@ ghost use Rattle.json.specs.Json.{object};
 ghost use Rattle.json.specs.Value.{members_view, value_view};
 ghost use Rattle.shader_ir.specs.BodyOf.{cases_of, step_of};
 ghost use Rattle.shader_json_functions.specs.Statements.{AreCases, IsBlock, IsCase, IsStatement, IsStepOf};
-ghost use Rattle.shader_json_reader.specs.Numbers.{IsUnsigned};
+ghost use Rattle.shader_json_reader.specs.Numbers.{IsHandle};
 ghost use Rattle.shader_json_reader.specs.Shapes.{IsArray, IsOnly, values_of};
 
 use crate::code::Code;
@@ -60,7 +60,7 @@ impl ReadNext for Body {
 struct OldValue(Handle<mark::Expression>);
 
 impl Read for OldValue {
-    ghost reads = { λ j old. IsUnsigned j old.0 };
+    ghost reads = { λ j old. IsHandle j old.0 };
 
     fn read(context: &mut Context, value: &Value<'_>) -> Result<OldValue, Failure> {
         if value.is_null() {

@@ -2,10 +2,10 @@
 use Rattle.std.proofs.Common.{◌≡◌, ◌∙◌, sym, refl, inl, inr, ℕ, List, [], ◌∷◌, Option, Some}
 use Rattle.std.proofs.Common.{codes}
 use Rattle.json.specs.Json.{Json, null, boolean, number, string, array, object, Items, no_items, item, Members, no_members, member}
-use Rattle.shader_json_reader.specs.Numbers.{IsUnsigned, IsText}
-use Rattle.shader_json_reader.specs.Shapes.{values_of}
+use Rattle.shader_json_reader.specs.Numbers.{IsHandle, IsText}
+use Rattle.shader_json_reader.specs.Shapes.{IsPair, values_of}
 use Rattle.shader_json_module.specs.Fixed.{Determines, DeterminesOf}
-use Rattle.shader_json_module.proofs.Numbers.{unsigned_same, text_same}
+use Rattle.shader_json_module.proofs.Numbers.{handle_same, text_same}
 use Rattle.shader_json_module.proofs.Shapes.{apart, optional_of, field, list, optional}
 use Rattle.shader_json_module.proofs.Shapes.{only_of, same_array, same_object, same_struct, same_variant, named, name_determines}
 use Rattle.shader_ir.specs.declared.function.ShaderStage.{ShaderStage}
@@ -22,7 +22,7 @@ use Rattle.shader_json_declarations.specs.Declarations.{IsConstant, IsOverride, 
 use Rattle.shader_json_declarations.specs.Filters.{IsFilter, IsFilterNode, IsRule, IsRuleOf, IsSeverity}
 use Rattle.shader_json_declarations.specs.NamedExpressions.{AreNamedExpressions, AreNames}
 use Rattle.shader_json_declarations.specs.Scalars.{IsScalar, IsSize}
-use Rattle.shader_json_declarations.specs.SpecialTypes.{ArePredeclared, AreSpecialTypes, IsEntry, IsPair, IsPredeclared, IsPredeclaredOf}
+use Rattle.shader_json_declarations.specs.SpecialTypes.{ArePredeclared, AreSpecialTypes, IsEntry, IsPredeclared, IsPredeclaredOf}
 use Rattle.shader_json_declarations.specs.SpecialTypes.{recorded}
 use Rattle.shader_json_module.specs.Fixed.{fixed_argument, fixed_binding, fixed_result}
 use Rattle.shader_json_module.proofs.Scalars.{scalar_same, size_same}
@@ -52,18 +52,18 @@ pub constant_same : Determines IsConstant
 constant_same j x y u v = same_object _ _ _ _ (λ ms p q i. record {
   name = optional IsText text_same
       (codes "name") ms x.name y.name p.0 q.0 i;
-  ty = field IsUnsigned unsigned_same (codes "ty") ms x.ty y.ty p.1 q.1 i;
+  ty = field IsHandle handle_same (codes "ty") ms x.ty y.ty p.1 q.1 i;
   init =
-      field IsUnsigned unsigned_same (codes "init") ms x.init y.init p.2 q.2 i;
+      field IsHandle handle_same (codes "init") ms x.init y.init p.2 q.2 i;
 }) j u v
 
 pub override_same : Determines IsOverride
 override_same j x y u v = same_object _ _ _ _ (λ ms p q i. record {
   name = optional IsText text_same
       (codes "name") ms x.name y.name p.0 q.0 i;
-  ty = field IsUnsigned unsigned_same (codes "ty") ms x.ty y.ty p.1 q.1 i;
+  ty = field IsHandle handle_same (codes "ty") ms x.ty y.ty p.1 q.1 i;
   init =
-      optional IsUnsigned unsigned_same (codes "init") ms x.init y.init p.2 q.2 i;
+      optional IsHandle handle_same (codes "init") ms x.init y.init p.2 q.2 i;
 }) j u v
 
 pub global_same : Determines IsGlobal
@@ -72,8 +72,8 @@ global_same j x y u v = same_object _ _ _ _ (λ ms p q i. record {
       (codes "name") ms x.name y.name p.0 q.0 i;
   space = field IsSpace space_same (codes "space") ms x.space y.space p.1 q.1 i;
   ty =
-      field IsUnsigned unsigned_same (codes "ty") ms x.ty y.ty p.2 q.2 i;
-  init = optional IsUnsigned unsigned_same
+      field IsHandle handle_same (codes "ty") ms x.ty y.ty p.2 q.2 i;
+  init = optional IsHandle handle_same
       (codes "init") ms x.init y.init p.3 q.3 i;
 }) j u v
 
@@ -81,23 +81,23 @@ pub local_same : Determines IsLocal
 local_same j x y u v = same_object _ _ _ _ (λ ms p q i. record {
   name = optional IsText text_same
       (codes "name") ms x.name y.name p.0 q.0 i;
-  ty = field IsUnsigned unsigned_same (codes "ty") ms x.ty y.ty p.1 q.1 i;
+  ty = field IsHandle handle_same (codes "ty") ms x.ty y.ty p.1 q.1 i;
   init =
-      optional IsUnsigned unsigned_same (codes "init") ms x.init y.init p.2 q.2 i;
+      optional IsHandle handle_same (codes "init") ms x.init y.init p.2 q.2 i;
 }) j u v
 
 pub argument_same : DeterminesOf fixed_argument IsArgument
 argument_same j x y u v = same_object _ _ _ _ (λ ms p q i. record {
   name = optional IsText text_same
       (codes "name") ms x.name y.name p.0 q.0 i;
-  ty = field IsUnsigned unsigned_same (codes "ty") ms x.ty y.ty p.1 q.1 i;
+  ty = field IsHandle handle_same (codes "ty") ms x.ty y.ty p.1 q.1 i;
   binding =
       optional_of IsBinding fixed_binding binding_same (codes "binding") ms x.binding y.binding p.2 q.2 i;
 }) j u v
 
 pub result_same : DeterminesOf fixed_result IsResult
 result_same j x y u v = same_object _ _ _ _ (λ ms p q i. record {
-  ty = field IsUnsigned unsigned_same (codes "ty") ms x.ty y.ty p.0 q.0 i;
+  ty = field IsHandle handle_same (codes "ty") ms x.ty y.ty p.0 q.0 i;
   binding = optional_of IsBinding fixed_binding binding_same (codes "binding") ms x.binding y.binding p.1 q.1 i;
 }) j u v
 
@@ -124,11 +124,11 @@ predeclared_of name payload x y u v = apart (label_predeclared x) (label_predecl
 predeclared_same : Determines IsPredeclared
 predeclared_same j x y u v = same_variant _ _ _ _ (λ name payload p q. predeclared_of name payload x y p q) j u v
 
-pair_of : (js : Items) (x y : PredeclaredType × ℕ) → IsPair (λ key ty. IsPredeclared key x.0 × IsUnsigned ty x.1) js
-    → IsPair (λ key ty. IsPredeclared key y.0 × IsUnsigned ty y.1) js → x ≡ y
+pair_of : (js : Items) (x y : PredeclaredType × ℕ) → IsPair (λ key ty. IsPredeclared key x.0 × IsHandle ty x.1) js
+    → IsPair (λ key ty. IsPredeclared key y.0 × IsHandle ty y.1) js → x ≡ y
 pair_of no_items x y u v = absurd u
 pair_of (item key no_items) x y u v = absurd u
-pair_of (item key (item ty no_items)) x y u v = λ i. (predeclared_same key x.0 y.0 u.0 v.0 i, unsigned_same ty x.1 y.1 u.1 v.1 i)
+pair_of (item key (item ty no_items)) x y u v = λ i. (predeclared_same key x.0 y.0 u.0 v.0 i, handle_same ty x.1 y.1 u.1 v.1 i)
 pair_of (item key (item ty (item j js))) x y u v = absurd u
 
 entry_same : Determines IsEntry
@@ -139,15 +139,15 @@ entries_same null x y u v = absurd u
 entries_same (boolean b) x y u v = absurd u
 entries_same (number s) x y u v = absurd u
 entries_same (string s) x y u v = absurd u
-entries_same (array js) x y u v = list IsEntry entry_same (array (recorded js)) x y u v
+entries_same (array js) x y u v = list IsEntry entry_same (array (recorded js)) x y u.0 v.0
 entries_same (object no_members) x y u v = u ∙ sym v
 entries_same (object (member k j ms)) x y u v = absurd u
 
 pub special_types_same : Determines AreSpecialTypes
 special_types_same j x y u v = same_object _ _ _ _ (λ ms p q i. record {
-  ray_intersection = optional IsUnsigned unsigned_same
+  ray_intersection = optional IsHandle handle_same
       (codes "ray_intersection") ms x.ray_intersection y.ray_intersection p.0 q.0 i;
-  ray_vertex_return = optional IsUnsigned unsigned_same
+  ray_vertex_return = optional IsHandle handle_same
       (codes "ray_vertex_return") ms x.ray_vertex_return y.ray_vertex_return p.1 q.1 i;
   predeclared_types = field ArePredeclared entries_same
       (codes "predeclared_types") ms x.predeclared_types y.predeclared_types p.2 q.2 i;
@@ -160,21 +160,21 @@ names_of no_members (x ∷ xs) ys u v = absurd u
 names_of (member k j ms) [] ys u v = absurd u
 names_of (member k j ms) (x ∷ xs) [] u v = absurd v
 names_of (member k j ms) (x ∷ xs) (y ∷ ys) u v =
-    λ i. (unsigned_same (number k) x.0 y.0 u.0 v.0 i, text_same j x.1 y.1 u.1 v.1 i) ∷ names_of ms xs ys u.2 v.2 i
+    λ i. (handle_same (number k) x.0 y.0 u.0.1 v.0.1 i, text_same j x.1 y.1 u.1 v.1 i) ∷ names_of ms xs ys u.2 v.2 i
 
 pub named_expressions_same : Determines AreNamedExpressions
-named_expressions_same j x y u v = same_object _ _ _ _ (λ ms p q. names_of ms x y p q) j u v
+named_expressions_same j x y u v = same_object _ _ _ _ (λ ms p q. names_of ms x y p q) j u.0 v.0
 
 rule_of : (name : List ℕ) (payload : Option Json) (x y : DiagnosticRule) → IsRuleOf name payload x → IsRuleOf name payload y → x ≡ y
 rule_of name payload diagnostics.DerivativeUniformity diagnostics.DerivativeUniformity u v = refl
 rule_of name payload diagnostics.Other diagnostics.Other u v = refl
 rule_of name payload diagnostics.DerivativeUniformity diagnostics.Other u v = elim v [
-  | inl e ↦ apart (codes "Standard") (codes "Unknown") refl (sym u.0 ∙ e)
-  | inr e ↦ apart (codes "Standard") (codes "User") refl (sym u.0 ∙ e)
+  | inl e ↦ apart (codes "Standard") (codes "Unknown") refl (sym u.0 ∙ e.0)
+  | inr e ↦ apart (codes "Standard") (codes "User") refl (sym u.0 ∙ e.0)
 ]
 rule_of name payload diagnostics.Other diagnostics.DerivativeUniformity u v = elim u [
-  | inl e ↦ apart (codes "Standard") (codes "Unknown") refl (sym v.0 ∙ e)
-  | inr e ↦ apart (codes "Standard") (codes "User") refl (sym v.0 ∙ e)
+  | inl e ↦ apart (codes "Standard") (codes "Unknown") refl (sym v.0 ∙ e.0)
+  | inr e ↦ apart (codes "Standard") (codes "User") refl (sym v.0 ∙ e.0)
 ]
 
 pub rule_same : Determines IsRule
@@ -196,6 +196,6 @@ filter_node_same j x y u v = same_object _ _ _ _
     λ i. record {
       severity = (e i).0;
       rule = (e i).1;
-      parent = optional IsUnsigned unsigned_same
+      parent = optional IsHandle handle_same
           (codes "parent") ms x.parent y.parent p.1 q.1 i;
     }) j u v

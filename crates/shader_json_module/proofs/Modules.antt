@@ -3,10 +3,10 @@ use Rattle.std.proofs.Common.{◌≡◌, map, Option, Some, None}
 use Rattle.std.proofs.Common.{MatchOption}
 use Rattle.std.proofs.Common.{codes}
 use Rattle.json.specs.Json.{Json}
-use Rattle.shader_json_reader.specs.Numbers.{IsUnsigned, IsText}
+use Rattle.shader_json_reader.specs.Numbers.{IsHandle, IsText}
 use Rattle.shader_json_reader.specs.Shapes.{IsList}
 use Rattle.shader_json_module.specs.Fixed.{DeterminesOf}
-use Rattle.shader_json_module.proofs.Numbers.{unsigned_same, text_same}
+use Rattle.shader_json_module.proofs.Numbers.{handle_same, text_same}
 use Rattle.shader_json_module.proofs.Shapes.{field_of, optional_of, list_of, field, optional, list}
 use Rattle.shader_json_module.proofs.Shapes.{same_object}
 use Rattle.json.specs.Json.{document}
@@ -14,19 +14,19 @@ use Rattle.shader_json_declarations.specs.Declarations.{IsArgument, IsConstant, 
 use Rattle.shader_json_declarations.specs.Filters.{IsFilterNode}
 use Rattle.shader_json_declarations.specs.NamedExpressions.{AreNamedExpressions}
 use Rattle.shader_json_declarations.specs.SpecialTypes.{AreSpecialTypes}
-use Rattle.shader_json_declarations.specs.Types.{IsType}
+use Rattle.shader_json_declarations.specs.Types.{AreTypes}
 use Rattle.shader_json_expressions.specs.Expressions.{IsExpression}
 use Rattle.shader_json_functions.specs.Statements.{IsBlock}
 use Rattle.shader_json_functions.specs.Functions.{IsEntryPoint, IsFunction}
 use Rattle.shader_json_module.specs.Modules.{IsModule}
-use Rattle.shader_json_module.specs.Fixed.{TextDeterminesModule, fixed_argument, fixed_entry_point, fixed_expression, fixed_function}
+use Rattle.shader_json_module.specs.Fixed.{TextDeterminesModule, fixed_argument, fixed_entry_point, fixed_function}
 use Rattle.shader_json_module.specs.Fixed.{fixed_module, fixed_result, fixed_type}
 use Rattle.shader_json_module.proofs.Declarations.{argument_same, constant_same, filter_node_same, global_same, local_same}
 use Rattle.shader_json_module.proofs.Declarations.{named_expressions_same, override_same, result_same}
 use Rattle.shader_json_module.proofs.Declarations.{special_types_same, stage_same}
 use Rattle.shader_json_module.proofs.Expressions.{expression_same}
 use Rattle.shader_json_module.proofs.Statements.{block_same}
-use Rattle.shader_json_module.proofs.Types.{type_same}
+use Rattle.shader_json_module.proofs.Types.{types_same}
 
 pub function_same : DeterminesOf fixed_function IsFunction
 function_same j x y u v = same_object _ _ _ _ (λ ms p q i. record {
@@ -39,13 +39,12 @@ function_same j x y u v = same_object _ _ _ _ (λ ms p q i. record {
   local_variables = field
       (IsList IsLocal) (list IsLocal local_same) (codes "local_variables") ms x.local_variables y.local_variables p.5 q.5 i;
   expressions =
-      field_of (IsList IsExpression) (map fixed_expression) (list_of IsExpression fixed_expression expression_same)
-      (codes "expressions") ms x.expressions y.expressions p.0 q.0 i;
+      field (IsList IsExpression) (list IsExpression expression_same) (codes "expressions") ms x.expressions y.expressions p.0 q.0 i;
   named_expressions = field
       AreNamedExpressions named_expressions_same (codes "named_expressions") ms x.named_expressions y.named_expressions p.7 q.7 i;
   body = field IsBlock block_same
       (codes "body") ms x.body y.body p.1 q.1 i;
-  diagnostic_filter_leaf = optional IsUnsigned unsigned_same
+  diagnostic_filter_leaf = optional IsHandle handle_same
       (codes "diagnostic_filter_leaf") ms x.diagnostic_filter_leaf y.diagnostic_filter_leaf p.6 q.6 i;
 }) j u v
 
@@ -60,8 +59,7 @@ entry_point_same j x y u v = same_object _ _ _ _ (λ ms p q i. record {
 
 pub module_same : DeterminesOf fixed_module IsModule
 module_same j x y u v = same_object _ _ _ _ (λ ms p q i. record {
-  types = field_of (IsList IsType) (map fixed_type)
-      (list_of IsType fixed_type type_same) (codes "types") ms x.types y.types p.0.0 q.0.0 i;
+  types = field_of AreTypes (map fixed_type) types_same (codes "types") ms x.types y.types p.0.0 q.0.0 i;
   special_types =
       field AreSpecialTypes special_types_same
       (codes "special_types") ms x.special_types y.special_types p.1.0 q.1.0 i;
@@ -71,7 +69,7 @@ module_same j x y u v = same_object _ _ _ _ (λ ms p q i. record {
       (list IsOverride override_same) (codes "overrides") ms x.overrides y.overrides p.1.2 q.1.2 i;
   global_variables = field
       (IsList IsGlobal) (list IsGlobal global_same) (codes "global_variables") ms x.global_variables y.global_variables p.1.3 q.1.3 i;
-  global_expressions = field_of (IsList IsExpression) (map fixed_expression) (list_of IsExpression fixed_expression expression_same)
+  global_expressions = field (IsList IsExpression) (list IsExpression expression_same)
       (codes "global_expressions") ms x.global_expressions y.global_expressions p.0.1 q.0.1 i;
   functions = field_of (IsList IsFunction)
       (map fixed_function) (list_of IsFunction fixed_function function_same) (codes "functions") ms x.functions y.functions p.0.2 q.0.2 i;

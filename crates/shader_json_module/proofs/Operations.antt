@@ -2,9 +2,9 @@
 use Rattle.std.proofs.Common.{◌≡◌, ◌∙◌, ap, sym, refl, ℕ, List, [], ◌∷◌, Option, Some}
 use Rattle.std.proofs.Common.{codes}
 use Rattle.json.specs.Json.{Json}
-use Rattle.shader_json_reader.specs.Numbers.{IsUnsigned, IsSigned}
+use Rattle.shader_json_reader.specs.Numbers.{IsHandle, IsI32, IsU32}
 use Rattle.shader_json_module.specs.Fixed.{Determines}
-use Rattle.shader_json_module.proofs.Numbers.{unsigned_same, signed_same, flags_same}
+use Rattle.shader_json_module.proofs.Numbers.{flags_same, handle_same, i32_same, u32_same}
 use Rattle.shader_json_module.proofs.Shapes.{apart, field, optional, newtype}
 use Rattle.shader_json_module.proofs.Shapes.{same_struct, same_variant, named, name_determines}
 use Rattle.shader_ir.specs.declared.statement.AtomicFunction.{AtomicFunction}
@@ -75,9 +75,9 @@ labelled_switch_value name payload x u = u.0
 switch_value_of : (name : List ℕ) (payload : Option Json) (x y : SwitchValue) → IsSwitchValueOf name payload x
     → IsSwitchValueOf name payload y → x ≡ y
 switch_value_of name payload (values.I32 number) (values.I32 number′) u v = ap values.I32
-    (newtype IsSigned signed_same payload number number′ u.1 v.1)
+    (newtype IsI32 i32_same payload number number′ u.1 v.1)
 switch_value_of name payload (values.U32 number) (values.U32 number′) u v = ap values.U32
-    (newtype IsUnsigned unsigned_same payload number number′ u.1 v.1)
+    (newtype IsU32 u32_same payload number number′ u.1 v.1)
 switch_value_of name payload values.Default values.Default u v = refl
 switch_value_of name payload x y u v = apart (label_switch_value x) (label_switch_value y) refl
     (sym (labelled_switch_value name payload x u) ∙ labelled_switch_value name payload y v)
@@ -108,7 +108,7 @@ atomic_of name payload atomic.InclusiveOr atomic.InclusiveOr u v = refl
 atomic_of name payload atomic.Min atomic.Min u v = refl
 atomic_of name payload atomic.Max atomic.Max u v = refl
 atomic_of name payload (atomic.Exchange compare) (atomic.Exchange compare′) u v = same_struct _ _ _ _
-    (λ ms p q i. atomic.Exchange (optional IsUnsigned unsigned_same (codes "compare") ms compare compare′ p q i)) payload u.1 v.1
+    (λ ms p q i. atomic.Exchange (optional IsHandle handle_same (codes "compare") ms compare compare′ p q i)) payload u.1 v.1
 atomic_of name payload x y u v = apart (label_atomic x) (label_atomic y) refl
     (sym (labelled_atomic name payload x u) ∙ labelled_atomic name payload y v)
 
@@ -132,17 +132,17 @@ labelled_mode name payload x u = u.0
 mode_of : (name : List ℕ) (payload : Option Json) (x y : GatherMode) → IsModeOf name payload x → IsModeOf name payload y → x ≡ y
 mode_of name payload modes.BroadcastFirst modes.BroadcastFirst u v = refl
 mode_of name payload (modes.Broadcast lane) (modes.Broadcast lane′) u v = ap modes.Broadcast
-    (newtype IsUnsigned unsigned_same payload lane lane′ u.1 v.1)
+    (newtype IsHandle handle_same payload lane lane′ u.1 v.1)
 mode_of name payload (modes.Shuffle lane) (modes.Shuffle lane′) u v = ap modes.Shuffle
-    (newtype IsUnsigned unsigned_same payload lane lane′ u.1 v.1)
+    (newtype IsHandle handle_same payload lane lane′ u.1 v.1)
 mode_of name payload (modes.ShuffleDown lane) (modes.ShuffleDown lane′) u v = ap modes.ShuffleDown
-    (newtype IsUnsigned unsigned_same payload lane lane′ u.1 v.1)
+    (newtype IsHandle handle_same payload lane lane′ u.1 v.1)
 mode_of name payload (modes.ShuffleUp lane) (modes.ShuffleUp lane′) u v = ap modes.ShuffleUp
-    (newtype IsUnsigned unsigned_same payload lane lane′ u.1 v.1)
+    (newtype IsHandle handle_same payload lane lane′ u.1 v.1)
 mode_of name payload (modes.ShuffleXor lane) (modes.ShuffleXor lane′) u v = ap modes.ShuffleXor
-    (newtype IsUnsigned unsigned_same payload lane lane′ u.1 v.1)
+    (newtype IsHandle handle_same payload lane lane′ u.1 v.1)
 mode_of name payload (modes.QuadBroadcast lane) (modes.QuadBroadcast lane′) u v = ap modes.QuadBroadcast
-    (newtype IsUnsigned unsigned_same payload lane lane′ u.1 v.1)
+    (newtype IsHandle handle_same payload lane lane′ u.1 v.1)
 mode_of name payload (modes.QuadSwap direction) (modes.QuadSwap direction′) u v = ap modes.QuadSwap
     (newtype IsDirection direction_same payload direction direction′ u.1 v.1)
 mode_of name payload x y u v = apart (label_mode x) (label_mode y) refl
@@ -167,13 +167,13 @@ query_function_of : (name : List ℕ) (payload : Option Json) (x y : RayQueryFun
     → IsQueryFunctionOf name payload y → x ≡ y
 query_function_of name payload (queries.Initialize acceleration_structure descriptor)
     (queries.Initialize acceleration_structure′ descriptor′) u v = same_struct _ _ _ _
-    (λ ms p q i. queries.Initialize (field IsUnsigned unsigned_same
+    (λ ms p q i. queries.Initialize (field IsHandle handle_same
     (codes "acceleration_structure") ms acceleration_structure acceleration_structure′ p.0 q.0 i)
-    (field IsUnsigned unsigned_same (codes "descriptor") ms descriptor descriptor′ p.1 q.1 i)) payload u.1 v.1
+    (field IsHandle handle_same (codes "descriptor") ms descriptor descriptor′ p.1 q.1 i)) payload u.1 v.1
 query_function_of name payload (queries.Proceed result) (queries.Proceed result′) u v = same_struct _ _ _ _
-    (λ ms p q i. queries.Proceed (field IsUnsigned unsigned_same (codes "result") ms result result′ p q i)) payload u.1 v.1
+    (λ ms p q i. queries.Proceed (field IsHandle handle_same (codes "result") ms result result′ p q i)) payload u.1 v.1
 query_function_of name payload (queries.GenerateIntersection hit_t) (queries.GenerateIntersection hit_t′) u v = same_struct _ _ _ _
-    (λ ms p q i. queries.GenerateIntersection (field IsUnsigned unsigned_same (codes "hit_t") ms hit_t hit_t′ p q i)) payload u.1 v.1
+    (λ ms p q i. queries.GenerateIntersection (field IsHandle handle_same (codes "hit_t") ms hit_t hit_t′ p q i)) payload u.1 v.1
 query_function_of name payload queries.ConfirmIntersection queries.ConfirmIntersection u v = refl
 query_function_of name payload queries.Terminate queries.Terminate u v = refl
 query_function_of name payload x y u v = apart (label_query_function x) (label_query_function y) refl
@@ -193,10 +193,10 @@ pipeline_function_of : (name : List ℕ) (payload : Option Json) (x y : RayPipel
     → IsPipelineFunctionOf name payload y → x ≡ y
 pipeline_function_of name payload (pipeline.TraceRay acceleration_structure descriptor ray)
     (pipeline.TraceRay acceleration_structure′ descriptor′ ray′) u v = same_struct _ _ _ _
-    (λ ms p q i. pipeline.TraceRay (field IsUnsigned unsigned_same
+    (λ ms p q i. pipeline.TraceRay (field IsHandle handle_same
     (codes "acceleration_structure") ms acceleration_structure acceleration_structure′ p.0 q.0 i)
-    (field IsUnsigned unsigned_same (codes "descriptor") ms descriptor descriptor′ p.1 q.1 i)
-    (field IsUnsigned unsigned_same (codes "payload") ms ray ray′ p.2 q.2 i)) payload u.1 v.1
+    (field IsHandle handle_same (codes "descriptor") ms descriptor descriptor′ p.1 q.1 i)
+    (field IsHandle handle_same (codes "payload") ms ray ray′ p.2 q.2 i)) payload u.1 v.1
 
 pub pipeline_function_same : Determines IsPipelineFunction
 pipeline_function_same j x y u v = same_variant _ _ _ _ (λ name payload p q. pipeline_function_of name payload x y p q) j u v

@@ -2,9 +2,9 @@
 use Rattle.std.proofs.Common.{◌≡◌, ◌∙◌, ap, sym, refl, ℕ, List, [], ◌∷◌, Option, Some}
 use Rattle.std.proofs.Common.{codes}
 use Rattle.json.specs.Json.{Json}
-use Rattle.shader_json_reader.specs.Numbers.{IsUnsigned, IsTruth}
+use Rattle.shader_json_reader.specs.Numbers.{IsHandle, IsTruth}
 use Rattle.shader_json_module.specs.Fixed.{Determines}
-use Rattle.shader_json_module.proofs.Numbers.{unsigned_same, truth_same}
+use Rattle.shader_json_module.proofs.Numbers.{handle_same, truth_same}
 use Rattle.shader_json_module.proofs.Shapes.{apart, field, optional, newtype}
 use Rattle.shader_json_module.proofs.Shapes.{same_object, same_struct, same_variant, named, name_determines}
 use Rattle.shader_ir.specs.declared.operators.BinaryOperator.{BinaryOperator}
@@ -124,12 +124,12 @@ level_of : (name : List ℕ) (payload : Option Json) (x y : SampleLevel) → IsL
 level_of name payload levels.Auto levels.Auto u v = refl
 level_of name payload levels.Zero levels.Zero u v = refl
 level_of name payload (levels.Exact level) (levels.Exact level′) u v = ap levels.Exact
-    (newtype IsUnsigned unsigned_same payload level level′ u.1 v.1)
+    (newtype IsHandle handle_same payload level level′ u.1 v.1)
 level_of name payload (levels.Bias bias) (levels.Bias bias′) u v = ap levels.Bias
-    (newtype IsUnsigned unsigned_same payload bias bias′ u.1 v.1)
+    (newtype IsHandle handle_same payload bias bias′ u.1 v.1)
 level_of name payload (levels.Gradient x y) (levels.Gradient x′ y′) u v = same_struct _ _ _ _
-    (λ ms p q i. levels.Gradient (field IsUnsigned unsigned_same (codes "x") ms x x′ p.0 q.0 i)
-    (field IsUnsigned unsigned_same (codes "y") ms y y′ p.1 q.1 i)) payload u.1 v.1
+    (λ ms p q i. levels.Gradient (field IsHandle handle_same (codes "x") ms x x′ p.0 q.0 i)
+    (field IsHandle handle_same (codes "y") ms y y′ p.1 q.1 i)) payload u.1 v.1
 level_of name payload x y u v = apart (label_level x) (label_level y) refl
     (sym (labelled_level name payload x u) ∙ labelled_level name payload y v)
 
@@ -148,7 +148,7 @@ labelled_query name payload x u = u.0
 
 query_of : (name : List ℕ) (payload : Option Json) (x y : ImageQuery) → IsQueryOf name payload x → IsQueryOf name payload y → x ≡ y
 query_of name payload (queries.Size level) (queries.Size level′) u v = same_struct _ _ _ _
-    (λ ms p q i. queries.Size (optional IsUnsigned unsigned_same (codes "level") ms level level′ p q i)) payload u.1 v.1
+    (λ ms p q i. queries.Size (optional IsHandle handle_same (codes "level") ms level level′ p q i)) payload u.1 v.1
 query_of name payload queries.NumLevels queries.NumLevels u v = refl
 query_of name payload queries.NumLayers queries.NumLayers u v = refl
 query_of name payload queries.NumSamples queries.NumSamples u v = refl
@@ -160,9 +160,9 @@ query_same j x y u v = same_variant _ _ _ _ (λ name payload p q. query_of name 
 
 pub tile_same : Determines IsTile
 tile_same j x y u v = same_object _ _ _ _ (λ ms p q i. record {
-  pointer = field IsUnsigned unsigned_same
+  pointer = field IsHandle handle_same
       (codes "pointer") ms x.pointer y.pointer p.0 q.0 i;
-  stride = field IsUnsigned unsigned_same
+  stride = field IsHandle handle_same
       (codes "stride") ms x.stride y.stride p.1 q.1 i;
   row_major = field IsTruth truth_same
       (codes "row_major") ms x.row_major y.row_major p.2 q.2 i;

@@ -1,15 +1,15 @@
 -- Modules whose functions and entry points are read apart from the rest of their JSON.
-use Rattle.std.proofs.Common.{◌≡◌, ◌∙◌, ap, refl, sym, subst, ℕ, List, [], Bool, false, Option, Some, ◌||◌}
+use Rattle.std.proofs.Common.{◌≡◌, ◌∙◌, ap, refl, sym, subst, ℕ, List, [], false, Option, ◌||◌}
 use Rattle.std.specs.Prelude.{MatchOption, codes, option_and_then}
 use Rattle.std.specs.Str.{IsUtf8, bytes_eq}
-use Rattle.json.specs.Json.{Json, Members, document, if_last, max_depth, object, value}
+use Rattle.json.specs.Json.{Json, Members, if_last, max_depth, object}
 use Rattle.json.specs.Lex.{tokens}
 use Rattle.json.specs.Token.{Token}
 use Rattle.shader_ir.specs.declared.module.Module.{Module}
 use Rattle.shader_json_declarations.specs.Declarations.{IsConstant, IsGlobal, IsOverride}
 use Rattle.shader_json_declarations.specs.Filters.{IsFilterNode}
 use Rattle.shader_json_declarations.specs.SpecialTypes.{AreSpecialTypes}
-use Rattle.shader_json_declarations.specs.Types.{IsType}
+use Rattle.shader_json_declarations.specs.Types.{AreTypes}
 use Rattle.shader_json_expressions.specs.Expressions.{IsExpression}
 use Rattle.shader_json_functions.specs.Functions.{IsEntryPoint, IsFunction}
 use Rattle.shader_json_functions.specs.Next.{AreParts}
@@ -36,7 +36,7 @@ next_module now rest left others m parts is beside =
       next = parts.next;
       stands = (
         (
-          has (IsList IsType) (codes "types") ms m.types refl all.0,
+          has AreTypes (codes "types") ms m.types refl all.0,
           has (IsList IsExpression) (codes "global_expressions") ms m.global_expressions refl all.1,
           parts.has_first,
           parts.has_second,

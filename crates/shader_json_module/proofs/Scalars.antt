@@ -2,9 +2,9 @@
 use Rattle.std.proofs.Common.{◌≡◌, ◌∙◌, sym, refl, ℕ, List, [], ◌∷◌, Option, Some}
 use Rattle.std.proofs.Common.{codes}
 use Rattle.json.specs.Json.{Json}
-use Rattle.shader_json_reader.specs.Numbers.{IsUnsigned, IsTruth}
+use Rattle.shader_json_reader.specs.Numbers.{IsTruth, IsU32, IsU8}
 use Rattle.shader_json_module.specs.Fixed.{Determines}
-use Rattle.shader_json_module.proofs.Numbers.{unsigned_same, truth_same, flags_same}
+use Rattle.shader_json_module.proofs.Numbers.{flags_same, truth_same, u32_same, u8_same}
 use Rattle.shader_json_module.proofs.Shapes.{apart, field}
 use Rattle.shader_json_module.proofs.Shapes.{same_object, same_struct, same_variant, named, name_determines}
 use Rattle.shader_ir.specs.declared.image.ImageDimension.{ImageDimension}
@@ -94,7 +94,7 @@ format_same = name_determines format_name format_all format_found
 pub scalar_same : Determines IsScalar
 scalar_same j x y u v = same_object _ _ _ _ (λ ms p q i. record {
   kind = field IsKind kind_same (codes "kind") ms x.kind y.kind p.0 q.0 i;
-  width = field IsUnsigned unsigned_same (codes "width") ms x.width y.width p.1 q.1 i;
+  width = field IsU8 u8_same (codes "width") ms x.width y.width p.1 q.1 i;
 }) j u v
 
 pub access_same : Determines IsAccess
@@ -128,6 +128,6 @@ class_same j x y u v = same_variant _ _ _ _ (λ name payload p q. class_of name 
 
 pub range_same : Determines IsRange
 range_same j x y u v = same_object _ _ _ _ (λ ms p q i. (
-  field IsUnsigned unsigned_same (codes "start") ms x.0 y.0 p.0 q.0 i,
-  field IsUnsigned unsigned_same (codes "end") ms x.1 y.1 p.1 q.1 i,
+  field IsU32 u32_same (codes "start") ms x.0 y.0 p.0 q.0 i,
+  field IsU32 u32_same (codes "end") ms x.1 y.1 p.1 q.1 i,
 )) j u v

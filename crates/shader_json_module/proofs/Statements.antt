@@ -2,10 +2,10 @@
 use Rattle.std.proofs.Common.{◌≡◌, ◌∙◌, ap, sym, refl, ℕ, List, Bool, Option}
 use Rattle.std.proofs.Common.{codes}
 use Rattle.json.specs.Json.{Json, Items, no_items, item, Members}
-use Rattle.shader_json_reader.specs.Numbers.{IsUnsigned, IsTruth}
+use Rattle.shader_json_reader.specs.Numbers.{IsHandle, IsTruth}
 use Rattle.shader_json_reader.specs.Shapes.{IsOnly, IsArray, values_of}
 use Rattle.shader_json_module.specs.Fixed.{Determines}
-use Rattle.shader_json_module.proofs.Numbers.{unsigned_same, truth_same}
+use Rattle.shader_json_module.proofs.Numbers.{handle_same, truth_same}
 use Rattle.shader_json_module.proofs.Shapes.{apart, field, optional}
 use Rattle.shader_json_module.proofs.Shapes.{same_object, same_struct, same_variant}
 use Rattle.shader_ir.specs.declared.statement.SwitchValue.{SwitchValue}
@@ -46,16 +46,16 @@ mutual
   step_of (Nested x) (Nested x′) name payload u v = ap Nested
       (same_some _ _ _ _ (λ j p q. same_array _ _ _ _ (λ js. statements_same x x′ js) j p q) payload u.1 v.1)
   step_of (s.If c x y) (s.If c′ x′ y′) name payload u v = same_struct _ _ _ _
-      (λ ms p q i. s.If (field IsUnsigned unsigned_same (codes "condition") ms c c′ p.0 q.0 i)
+      (λ ms p q i. s.If (field IsHandle handle_same (codes "condition") ms c c′ p.0 q.0 i)
       (field_body (codes "accept") ms x x′ (λ js. statements_same x x′ js) p.1 q.1 i)
       (field_body (codes "reject") ms y y′ (λ js. statements_same y y′ js) p.2 q.2 i)) payload u.1 v.1
   step_of (s.Switch c x) (s.Switch c′ x′) name payload u v = same_struct _ _ _ _
-      (λ ms p q i. s.Switch (field IsUnsigned unsigned_same (codes "selector") ms c c′ p.0 q.0 i)
+      (λ ms p q i. s.Switch (field IsHandle handle_same (codes "selector") ms c c′ p.0 q.0 i)
       (field_cases (codes "cases") ms x x′ (λ js. cases_same x x′ js) p.1 q.1 i)) payload u.1 v.1
   step_of (s.Loop x y c) (s.Loop x′ y′ c′) name payload u v = same_struct _ _ _ _
       (λ ms p q i. s.Loop (field_body (codes "body") ms x x′ (λ js. statements_same x x′ js) p.0 q.0 i)
       (field_body (codes "continuing") ms y y′ (λ js. statements_same y y′ js) p.1 q.1 i)
-      (optional IsUnsigned unsigned_same (codes "break_if") ms c c′ p.2 q.2 i)) payload u.1 v.1
+      (optional IsHandle handle_same (codes "break_if") ms c c′ p.2 q.2 i)) payload u.1 v.1
   step_of (Leaf x) (Nested x′) name payload u v = apart (label_simple x) (codes "Block") (not_block x)
       (sym (labelled_simple name payload x u) ∙ v.0)
   step_of (Leaf x) (s.If c′ x′ y′) name payload u v = apart (label_simple x) (codes "If") (not_if x)

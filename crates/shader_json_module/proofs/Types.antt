@@ -1,11 +1,12 @@
--- Types and bindings are determined by their JSON, but for the numbers of built-in values.
-use Rattle.std.proofs.Common.{◌≡◌, ◌∙◌, ap, sym, refl, ℕ, List, map, Option}
+-- Types and bindings are determined by their JSON, but for the numbers of built-in values that naga lacks.
+use Rattle.std.proofs.Common.{◌≡◌, ◌∙◌, ap, sym, refl, ℕ, List, map, Option, Some, None, if◌then◌else◌}
 use Rattle.std.proofs.Common.{codes}
+use Rattle.std.proofs.lemmas.Bool.{le-ltb}
 use Rattle.json.specs.Json.{Json}
-use Rattle.shader_json_reader.specs.Numbers.{IsUnsigned, IsTruth, IsText}
+use Rattle.shader_json_reader.specs.Numbers.{IsCount, IsHandle, IsText, IsTruth, IsU32}
 use Rattle.shader_json_reader.specs.Shapes.{IsList}
 use Rattle.shader_json_module.specs.Fixed.{Determines, DeterminesOf}
-use Rattle.shader_json_module.proofs.Numbers.{unsigned_same, truth_same, text_same}
+use Rattle.shader_json_module.proofs.Numbers.{count_same, handle_same, text_same, truth_same, u32_same}
 use Rattle.shader_json_module.proofs.Shapes.{apart, field_of, optional_of, list_of, newtype_of, field, optional, newtype}
 use Rattle.shader_json_module.proofs.Shapes.{same_object, same_struct, same_variant}
 use Rattle.shader_ir.specs.declared.binding.Binding.{Binding}
@@ -18,9 +19,11 @@ use Rattle.shader_ir.specs.declared.types.ArraySize.{ArraySize}
 use Rattle.shader_ir.specs.declared.types.ArraySize.TheVariants as lengths
 use Rattle.shader_ir.specs.declared.types.TypeInner.{TypeInner}
 use Rattle.shader_ir.specs.declared.types.TypeInner.TheVariants as t
+use Rattle.shader_builtins.specs.BuiltIns.{first_further}
+use Rattle.shader_json_declarations.specs.BuiltIns.{IsFurther, IsKnownOrFurther, known_built_in}
 use Rattle.shader_json_declarations.specs.Scalars.{IsAccess, IsClass, IsCooperativeSize, IsDimension, IsRole, IsScalar, IsSize}
 use Rattle.shader_json_declarations.specs.Types.{IsSpaceOf, IsSpace, IsLengthOf, IsLength, IsBuiltInOf, IsBuiltIn, IsBindingOf}
-use Rattle.shader_json_declarations.specs.Types.{IsBinding, IsMember, IsInnerOf, IsInner, IsType}
+use Rattle.shader_json_declarations.specs.Types.{IsBinding, IsMember, IsInnerOf, IsInner, IsType, AreTypes}
 use Rattle.shader_json_module.specs.Fixed.{fixed_builtin, fixed_binding, fixed_member, fixed_inner, fixed_type}
 use Rattle.shader_json_module.proofs.Scalars.{access_same, class_same, cooperative_size_same, dimension_same, role_same, scalar_same}
 use Rattle.shader_json_module.proofs.Scalars.{size_same}
@@ -70,9 +73,9 @@ labelled_length name payload x u = u.0
 
 length_of : (name : List ℕ) (payload : Option Json) (x y : ArraySize) → IsLengthOf name payload x → IsLengthOf name payload y → x ≡ y
 length_of name payload (lengths.Constant count) (lengths.Constant count′) u v = ap lengths.Constant
-    (newtype IsUnsigned unsigned_same payload count count′ u.1 v.1)
+    (newtype IsCount count_same payload count count′ u.1 v.1)
 length_of name payload (lengths.Pending handle) (lengths.Pending handle′) u v = ap lengths.Pending
-    (newtype IsUnsigned unsigned_same payload handle handle′ u.1 v.1)
+    (newtype IsHandle handle_same payload handle handle′ u.1 v.1)
 length_of name payload lengths.Dynamic lengths.Dynamic u v = refl
 length_of name payload x y u v = apart (label_length x) (label_length y) refl
     (sym (labelled_length name payload x u) ∙ labelled_length name payload y v)
@@ -80,30 +83,21 @@ length_of name payload x y u v = apart (label_length x) (label_length y) refl
 pub length_same : Determines IsLength
 length_same j x y u v = same_variant _ _ _ _ (λ name payload p q. length_of name payload x y p q) j u v
 
+further_fixed : (x : BuiltIn) → IsFurther x → fixed_builtin x ≡ builtins.Other first_further
+further_fixed (builtins.Other n) further =
+    ap (λ b. if b then builtins.Other n else builtins.Other first_further) (le-ltb n first_further further)
+further_fixed builtins.WorkGroupId further = absurd further
+further_fixed builtins.WorkGroupSize further = absurd further
+further_fixed builtins.NumWorkGroups further = absurd further
+
+known_or_further : (found : Option BuiltIn) (x y : BuiltIn) → IsKnownOrFurther found x → IsKnownOrFurther found y
+    → fixed_builtin x ≡ fixed_builtin y
+known_or_further (Some known) x y u v = ap fixed_builtin (u ∙ sym v)
+known_or_further None x y u v = further_fixed x u ∙ sym (further_fixed y v)
+
 builtin_of : (name : List ℕ) (payload : Option Json) (x y : BuiltIn) → IsBuiltInOf name payload x → IsBuiltInOf name payload y
     → fixed_builtin x ≡ fixed_builtin y
-builtin_of name payload builtins.WorkGroupId builtins.WorkGroupId u v = refl
-builtin_of name payload builtins.WorkGroupSize builtins.WorkGroupSize u v = refl
-builtin_of name payload builtins.NumWorkGroups builtins.NumWorkGroups u v = refl
-builtin_of name payload (builtins.Other m) (builtins.Other n) u v = refl
-builtin_of name payload (builtins.Other m) builtins.WorkGroupId u v = absurd (u.0 v)
-builtin_of name payload (builtins.Other m) builtins.WorkGroupSize u v = absurd (u.1 v)
-builtin_of name payload (builtins.Other m) builtins.NumWorkGroups u v = absurd (u.2 v)
-builtin_of name payload builtins.WorkGroupId (builtins.Other n) u v = absurd (v.0 u)
-builtin_of name payload builtins.WorkGroupSize (builtins.Other n) u v = absurd (v.1 u)
-builtin_of name payload builtins.NumWorkGroups (builtins.Other n) u v = absurd (v.2 u)
-builtin_of name payload builtins.WorkGroupId builtins.WorkGroupSize u v = apart (codes "WorkGroupId") (codes "WorkGroupSize") refl
-    (sym u.0 ∙ v.0)
-builtin_of name payload builtins.WorkGroupId builtins.NumWorkGroups u v = apart (codes "WorkGroupId") (codes "NumWorkGroups") refl
-    (sym u.0 ∙ v.0)
-builtin_of name payload builtins.WorkGroupSize builtins.WorkGroupId u v = apart (codes "WorkGroupSize") (codes "WorkGroupId") refl
-    (sym u.0 ∙ v.0)
-builtin_of name payload builtins.WorkGroupSize builtins.NumWorkGroups u v = apart (codes "WorkGroupSize") (codes "NumWorkGroups") refl
-    (sym u.0 ∙ v.0)
-builtin_of name payload builtins.NumWorkGroups builtins.WorkGroupId u v = apart (codes "NumWorkGroups") (codes "WorkGroupId") refl
-    (sym u.0 ∙ v.0)
-builtin_of name payload builtins.NumWorkGroups builtins.WorkGroupSize u v = apart (codes "NumWorkGroups") (codes "WorkGroupSize") refl
-    (sym u.0 ∙ v.0)
+builtin_of name payload x y u v = known_or_further (known_built_in name payload) x y u v
 
 pub builtin_same : DeterminesOf fixed_builtin IsBuiltIn
 builtin_same j x y u v = same_variant _ _ _ _ (λ name payload p q. builtin_of name payload x y p q) j u v
@@ -121,7 +115,7 @@ binding_of : (name : List ℕ) (payload : Option Json) (x y : Binding) → IsBin
 binding_of name payload (bindings.BuiltIn builtin) (bindings.BuiltIn builtin′) u v = ap bindings.BuiltIn
     (newtype_of IsBuiltIn fixed_builtin builtin_same payload builtin builtin′ u.1 v.1)
 binding_of name payload (bindings.Location location) (bindings.Location location′) u v = same_struct _ _ _ _
-    (λ ms p q i. bindings.Location (field IsUnsigned unsigned_same (codes "location") ms location location′ p q i)) payload u.1 v.1
+    (λ ms p q i. bindings.Location (field IsU32 u32_same (codes "location") ms location location′ p q i)) payload u.1 v.1
 binding_of name payload x y u v = apart (label_binding x) (label_binding y) refl
     (sym (labelled_binding name payload x u) ∙ labelled_binding name payload y v)
 
@@ -132,11 +126,11 @@ pub member_same : DeterminesOf fixed_member IsMember
 member_same j x y u v = same_object _ _ _ _ (λ ms p q i. record {
   name = optional IsText text_same
       (codes "name") ms x.name y.name p.0 q.0 i;
-  ty = field IsUnsigned unsigned_same (codes "ty") ms x.ty y.ty p.1 q.1 i;
+  ty = field IsHandle handle_same (codes "ty") ms x.ty y.ty p.1 q.1 i;
   binding =
       optional_of IsBinding fixed_binding binding_same (codes "binding") ms x.binding y.binding p.2 q.2 i;
   offset =
-      field IsUnsigned unsigned_same (codes "offset") ms x.offset y.offset p.3 q.3 i;
+      field IsU32 u32_same (codes "offset") ms x.offset y.offset p.3 q.3 i;
 }) j u v
 
 abbrev label_inner : TypeInner → List ℕ
@@ -177,18 +171,18 @@ inner_of name payload (t.CooperativeMatrix columns rows scalar role) (t.Cooperat
     (field IsRole role_same (codes "role") ms role role′ p.3 q.3 i)) payload u.1 v.1
 inner_of name payload (t.Atomic scalar) (t.Atomic scalar′) u v = ap t.Atomic (newtype IsScalar scalar_same payload scalar scalar′ u.1 v.1)
 inner_of name payload (t.Pointer base space) (t.Pointer base′ space′) u v = same_struct _ _ _ _
-    (λ ms p q i. t.Pointer (field IsUnsigned unsigned_same (codes "base") ms base base′ p.0 q.0 i)
+    (λ ms p q i. t.Pointer (field IsHandle handle_same (codes "base") ms base base′ p.0 q.0 i)
     (field IsSpace space_same (codes "space") ms space space′ p.1 q.1 i)) payload u.1 v.1
 inner_of name payload (t.ValuePointer size scalar space) (t.ValuePointer size′ scalar′ space′) u v = same_struct _ _ _ _
     (λ ms p q i. t.ValuePointer (optional IsSize size_same (codes "size") ms size size′ p.0 q.0 i)
     (field IsScalar scalar_same (codes "scalar") ms scalar scalar′ p.1 q.1 i)
     (field IsSpace space_same (codes "space") ms space space′ p.2 q.2 i)) payload u.1 v.1
 inner_of name payload (t.Array base size stride) (t.Array base′ size′ stride′) u v = same_struct _ _ _ _
-    (λ ms p q i. t.Array (field IsUnsigned unsigned_same (codes "base") ms base base′ p.0 q.0 i)
+    (λ ms p q i. t.Array (field IsHandle handle_same (codes "base") ms base base′ p.0 q.0 i)
     (field IsLength length_same (codes "size") ms size size′ p.1 q.1 i)
-    (field IsUnsigned unsigned_same (codes "stride") ms stride stride′ p.2 q.2 i)) payload u.1 v.1
+    (field IsU32 u32_same (codes "stride") ms stride stride′ p.2 q.2 i)) payload u.1 v.1
 inner_of name payload (t.Struct span members) (t.Struct span′ members′) u v = same_struct _ _ _ _
-    (λ ms p q i. t.Struct (field IsUnsigned unsigned_same (codes "span") ms span span′ p.1 q.1 i)
+    (λ ms p q i. t.Struct (field IsU32 u32_same (codes "span") ms span span′ p.1 q.1 i)
     (field_of (IsList IsMember) (map fixed_member) (list_of IsMember fixed_member member_same)
     (codes "members") ms members members′ p.0 q.0 i)) payload u.1 v.1
 inner_of name payload (t.Image dim arrayed class) (t.Image dim′ arrayed′ class′) u v = same_struct _ _ _ _
@@ -203,7 +197,7 @@ inner_of name payload (t.AccelerationStructure vertex_return) (t.AccelerationStr
 inner_of name payload (t.RayQuery vertex_return) (t.RayQuery vertex_return′) u v = same_struct _ _ _ _
     (λ ms p q i. t.RayQuery (field IsTruth truth_same (codes "vertex_return") ms vertex_return vertex_return′ p q i)) payload u.1 v.1
 inner_of name payload (t.BindingArray base size) (t.BindingArray base′ size′) u v = same_struct _ _ _ _
-    (λ ms p q i. t.BindingArray (field IsUnsigned unsigned_same (codes "base") ms base base′ p.0 q.0 i)
+    (λ ms p q i. t.BindingArray (field IsHandle handle_same (codes "base") ms base base′ p.0 q.0 i)
     (field IsLength length_same (codes "size") ms size size′ p.1 q.1 i)) payload u.1 v.1
 inner_of name payload x y u v = apart (label_inner x) (label_inner y) refl
     (sym (labelled_inner name payload x u) ∙ labelled_inner name payload y v)
@@ -218,3 +212,6 @@ type_same j x y u v = same_object _ _ _ _ (λ ms p q i. record {
   inner = field_of IsInner fixed_inner inner_same
       (codes "inner") ms x.inner y.inner p.1 q.1 i;
 }) j u v
+
+pub types_same : DeterminesOf (map fixed_type) AreTypes
+types_same j x y u v = list_of IsType fixed_type type_same j x y u.0 v.0

@@ -1,19 +1,16 @@
 -- What the JSON of a module determines.
-use Rattle.std.specs.Prelude.{◌≡◌, ℕ, List, map}
+use Rattle.std.specs.Prelude.{◌≡◌, ℕ, List, map, if◌then◌else◌, nat_lt}
 use Rattle.std.specs.Option.{option_map}
 use Rattle.json.specs.Json.{Json}
+use Rattle.shader_builtins.specs.BuiltIns.{first_further}
 use Rattle.shader_ir.specs.declared.binding.Binding.{Binding}
 use Rattle.shader_ir.specs.declared.binding.Binding.TheVariants as bindings
 use Rattle.shader_ir.specs.declared.binding.BuiltIn.{BuiltIn}
 use Rattle.shader_ir.specs.declared.binding.BuiltIn.TheVariants as builtins
-use Rattle.shader_ir.specs.declared.expression.Expression.{Expression}
-use Rattle.shader_ir.specs.declared.expression.Expression.TheVariants as e
 use Rattle.shader_ir.specs.declared.function.EntryPoint.{EntryPoint}
 use Rattle.shader_ir.specs.declared.function.Function.{Function}
 use Rattle.shader_ir.specs.declared.function.FunctionArgument.{FunctionArgument}
 use Rattle.shader_ir.specs.declared.function.FunctionResult.{FunctionResult}
-use Rattle.shader_ir.specs.declared.literal.Literal.{Literal}
-use Rattle.shader_ir.specs.declared.literal.Literal.TheVariants as l
 use Rattle.shader_ir.specs.declared.«module».Module.{Module}
 use Rattle.shader_ir.specs.declared.types.StructMember.{StructMember}
 use Rattle.shader_ir.specs.declared.types.«Type».{«Type»}
@@ -32,9 +29,10 @@ DeterminesOf f R = (j : Json) (x y : _) → R j x → R j y → f x ≡ f y
 
 -- ---- what is left of data without what their JSON leaves open
 
--- the number of a built-in value without a variant is left out
+-- the number of a built-in value that naga lacks is left out
 abbrev pub fixed_builtin : BuiltIn → BuiltIn
-fixed_builtin (builtins.Other number) = builtins.Other 0
+fixed_builtin (builtins.Other number) =
+    if nat_lt number first_further then builtins.Other number else builtins.Other first_further
 fixed_builtin builtin = builtin
 
 abbrev pub fixed_binding : Binding → Binding
@@ -51,15 +49,6 @@ fixed_inner inner = inner
 abbrev pub fixed_type : «Type» → «Type»
 fixed_type ty = record ty { inner = fixed_inner ty.inner }
 
--- the bits of an f16 are left out
-abbrev pub fixed_literal : Literal → Literal
-fixed_literal (l.F16 bits) = l.F16 0
-fixed_literal literal = literal
-
-abbrev pub fixed_expression : Expression → Expression
-fixed_expression (e.Literal literal) = e.Literal (fixed_literal literal)
-fixed_expression expression = expression
-
 abbrev pub fixed_argument : FunctionArgument → FunctionArgument
 fixed_argument a = record a { binding = option_map fixed_binding a.binding }
 
@@ -70,7 +59,6 @@ abbrev pub fixed_function : Function → Function
 fixed_function f = record f {
   arguments = map fixed_argument f.arguments;
   result = option_map fixed_result f.result;
-  expressions = map fixed_expression f.expressions;
 }
 
 abbrev pub fixed_entry_point : EntryPoint → EntryPoint
@@ -79,11 +67,10 @@ fixed_entry_point entry = record entry { function = fixed_function entry.functio
 abbrev pub fixed_module : Module → Module
 fixed_module m = record m {
   types = map fixed_type m.types;
-  global_expressions = map fixed_expression m.global_expressions;
   functions = map fixed_function m.functions;
   entry_points = map fixed_entry_point m.entry_points;
 }
 
--- modules that one text stands for are equal, but for what it leaves open
+-- modules that one text stands for are equal, but for numbers of built-in values
 abbrev pub TextDeterminesModule : Type 0
 TextDeterminesModule = (bytes : List ℕ) (x y : Module) → IsTextOf bytes x → IsTextOf bytes y → fixed_module x ≡ fixed_module y

@@ -9,7 +9,7 @@ use Rattle.shader_json_reader.specs.declared.error.ReadError.{ReadError}
 use Rattle.shader_json_declarations.specs.Declarations.{IsConstant, IsGlobal, IsOverride}
 use Rattle.shader_json_declarations.specs.Filters.{IsFilterNode}
 use Rattle.shader_json_declarations.specs.SpecialTypes.{AreSpecialTypes}
-use Rattle.shader_json_declarations.specs.Types.{IsType}
+use Rattle.shader_json_declarations.specs.Types.{AreTypes}
 use Rattle.shader_json_expressions.specs.Expressions.{IsExpression}
 use Rattle.shader_json_functions.specs.Functions.{IsEntryPoint, IsFunction}
 
@@ -22,7 +22,7 @@ HasDeclarations ms m =
 
 abbrev pub HasCode : Members → Module → Type 0
 HasCode ms m =
-    HasField (IsList IsType) (codes "types") ms m.types
+    HasField AreTypes (codes "types") ms m.types
     × HasField (IsList IsExpression) (codes "global_expressions") ms m.global_expressions
     × HasField (IsList IsFunction) (codes "functions") ms m.functions
     × HasField (IsList IsEntryPoint) (codes "entry_points") ms m.entry_points
@@ -30,7 +30,7 @@ HasCode ms m =
 -- what a module has beside its functions and entry points
 abbrev pub HasBesideCode : Members → Module → Type 0
 HasBesideCode ms m =
-    HasField (IsList IsType) (codes "types") ms m.types
+    HasField AreTypes (codes "types") ms m.types
     × HasField (IsList IsExpression) (codes "global_expressions") ms m.global_expressions
     × HasField AreSpecialTypes (codes "special_types") ms m.special_types × HasField (IsList IsConstant) (codes "constants") ms m.constants
     × HasField (IsList IsOverride) (codes "overrides") ms m.overrides

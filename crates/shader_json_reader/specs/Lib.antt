@@ -1,3 +1,4 @@
+pub mod Answers
 pub mod Errors
 pub mod Numbers
 pub mod Shapes

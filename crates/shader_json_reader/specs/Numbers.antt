@@ -1,8 +1,6 @@
 -- What numbers, flags and the like mean in JSON.
-use Rattle.std.specs.Prelude.{◌≡◌, ℕ, ℤ, List, Bool, true, Option, MatchOption, Ok, option_and_then, ◌==◌, ◌||◌}
-use Rattle.std.specs.Char.{is_ascii_digit}
+use Rattle.std.specs.Prelude.{◌≡◌, ◌≢◌, ◌≤◌, ◌≤ℤ◌, ℕ, ℤ, pos, negsuc, List, Bool, true, Option, MatchOption, Ok, codes, option_and_then}
 use Rattle.std.specs.Int.{w64}
-use Rattle.std.specs.List.{list_all}
 use Rattle.std.specs.Float.{binary32, binary64, float_is_finite}
 use Rattle.std.specs.Float.Ieee.{Float, to_bits}
 use Rattle.std.specs.Float.Parse.{parse_float}
@@ -12,17 +10,51 @@ use Rattle.bitflags.specs.Text.{read_text, name_piece}
 use Rattle.json.specs.Json.{Json, boolean, string}
 use Rattle.json.specs.Find.{as_number, as_str}
 
--- the value is a number that spells n, without point and exponent
-abbrev pub IsUnsigned : Json → ℕ → Type 0
-IsUnsigned j n = MatchOption (as_number j) ⊥ (λ s. ParsesUnsigned {E = ℕ} 64 10 s (Ok n))
+-- the value is a number that spells n, without sign, point and exponent
+abbrev pub SpellsUnsigned : Json → ℕ → Type 0
+SpellsUnsigned j n = MatchOption (as_number j) ⊥ (λ s. ParsesUnsigned {E = ℕ} 64 10 s (Ok n))
 
--- the same of a number that may have a sign
-abbrev pub IsSigned : Json → ℤ → Type 0
-IsSigned j n = MatchOption (as_number j) ⊥ (λ s. ParsesSigned {E = ℕ} w64 10 s (Ok n))
+-- the same of a number that may have a sign, unless it is that of 0
+abbrev pub SpellsSigned : Json → ℤ → Type 0
+SpellsSigned j n = MatchOption (as_number j) ⊥ (λ s. (s ≢ codes "-0") × ParsesSigned {E = ℕ} w64 10 s (Ok n))
 
--- a number of such bytes has neither a point nor an exponent
-abbrev pub is_integer_text : List ℕ → Bool
-is_integer_text text = list_all (λ byte. byte == 45 || is_ascii_digit byte) text
+-- the value spells an integer from 0 to `most`
+abbrev pub IsUnsigned : (most : ℕ) → Json → ℕ → Type 0
+IsUnsigned most j n = SpellsUnsigned j n × (n ≤ most)
+
+-- the value spells an integer from `least` to `most`
+abbrev pub IsSigned : (least most : ℤ) → Json → ℤ → Type 0
+IsSigned least most j n = SpellsSigned j n × (least ≤ℤ n) × (n ≤ℤ most)
+
+-- the integers of each type
+abbrev pub IsU8 : Json → ℕ → Type 0
+IsU8 j n = IsUnsigned 255 j n
+
+abbrev pub IsU16 : Json → ℕ → Type 0
+IsU16 j n = IsUnsigned 65535 j n
+
+abbrev pub IsU32 : Json → ℕ → Type 0
+IsU32 j n = IsUnsigned 4294967295 j n
+
+abbrev pub IsU64 : Json → ℕ → Type 0
+IsU64 j n = IsUnsigned 18446744073709551615 j n
+
+abbrev pub IsI16 : Json → ℤ → Type 0
+IsI16 j n = IsSigned (negsuc 32767) (pos 32767) j n
+
+abbrev pub IsI32 : Json → ℤ → Type 0
+IsI32 j n = IsSigned (negsuc 2147483647) (pos 2147483647) j n
+
+abbrev pub IsI64 : Json → ℤ → Type 0
+IsI64 j n = IsSigned (negsuc 9223372036854775807) (pos 9223372036854775807) j n
+
+-- a handle, which leaves one position less than 32 bits have
+abbrev pub IsHandle : Json → ℕ → Type 0
+IsHandle j n = IsUnsigned 4294967294 j n
+
+-- an integer of 32 bits that is not 0
+abbrev pub IsCount : Json → ℕ → Type 0
+IsCount j n = IsU32 j n × (1 ≤ n)
 
 -- the f64 and the f32 nearest to a number, of two the even one
 abbrev pub double_of : Json → Option Float

@@ -1,5 +1,5 @@
 -- The shapes that serde's derives give data in JSON: structs, enums, options and lists. A relation says what data a value stands for.
-use Rattle.std.specs.Prelude.{◌≡◌, ℕ, List, [], ◌∷◌, Bool, true, false, Option, Some, None, MatchOption, ⊤}
+use Rattle.std.specs.Prelude.{◌≡◌, ◌≢◌, ◌||◌, ℕ, List, [], ◌∷◌, Bool, true, false, IsTrue, Option, Some, None, MatchOption, ⊤}
 use Rattle.std.specs.Str.{bytes_eq}
 use Rattle.json.specs.Json.{Json, null, boolean, number, string, array, object, Items, no_items, item, Members, no_members, member}
 
@@ -60,6 +60,11 @@ IsObject (string s) P = ⊥
 IsObject (array js) P = ⊥
 IsObject (object ms) P = P ms
 
+-- each member has one of two names
+abbrev pub HasOnly : (first second : List ℕ) → Members → Type 0
+HasOnly first second no_members = ⊤
+HasOnly first second (member k j ms) = IsTrue (bytes_eq k first || bytes_eq k second) × HasOnly first second ms
+
 -- the value is an array with such items
 abbrev pub IsArray : Json → (Items → Type 0) → Type 0
 IsArray null P = ⊥
@@ -76,9 +81,26 @@ Each R no_items (x ∷ xs) = ⊥
 Each R (item j js) [] = ⊥
 Each R (item j js) (x ∷ xs) = R j x × Each R js xs
 
+-- there are two items, and they are such
+abbrev pub IsPair : (Json → Json → Type 0) → Items → Type 0
+IsPair P no_items = ⊥
+IsPair P (item first no_items) = ⊥
+IsPair P (item first (item second no_items)) = P first second
+IsPair P (item first (item second (item third js))) = ⊥
+
 -- an array stands for a list
 abbrev pub IsList : {A : Type 0} → Reading A → Reading (List A)
 IsList R j xs = IsArray j (λ js. Each R js xs)
+
+-- the item is none of a list
+abbrev pub IsAbsent : {A : Type 0} → A → List A → Type 0
+IsAbsent x [] = ⊤
+IsAbsent x (y ∷ ys) = (y ≢ x) × IsAbsent x ys
+
+-- no two items of a list are equal
+abbrev pub AreDistinct : {A : Type 0} → List A → Type 0
+AreDistinct [] = ⊤
+AreDistinct (x ∷ xs) = IsAbsent x xs × AreDistinct xs
 
 -- the name of a variant, with its payload: a text alone, or an object with one member
 abbrev pub variant_of : Json → Option (List ℕ × Option Json)

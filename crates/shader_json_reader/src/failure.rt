@@ -1,5 +1,5 @@
 //! Failures on the way up from a rejected value.
-ghost use Rattle.std.specs.Prelude.{◌≡◌, ◌≢◌, ◌⊎◌, OnOk, OnErr};
+ghost use Rattle.std.specs.Prelude.{◌≡◌, ◌≢◌, ◌⊎◌, Err, OnOk, OnErr};
 ghost use Rattle.shader_json_reader.specs.declared.failure.Failure.TheVariants.{OutOfMemory};
 ghost use Rattle.shader_json_reader.specs.declared.error.ReadError.TheVariants as error;
 ghost use Rattle.shader_json_reader.specs.Errors.{IsOfModule};
@@ -96,6 +96,7 @@ impl<T: Drop> From<AllocFailed<T>> for Failure {
 pub fn within<T>(index: usize, read: Result<T, Failure>) -> Result<T, Failure>
     ensures ok { OnOk read (result ≡ read) }
     ensures err { OnErr read (OnOk result ⊥) }
+    ensures memory { read ≡ Err OutOfMemory → result ≡ Err OutOfMemory }
 {
     match read {
         Ok(read) => Ok(read),

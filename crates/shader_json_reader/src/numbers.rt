@@ -1,14 +1,14 @@
 //! JSON numbers as numbers of Rust.
-ghost use Rattle.std.specs.Prelude.{◌≡◌, ◌≤◌, IfSome};
+ghost use Rattle.std.specs.Prelude.{ℕ, ℤ, IfNone, IfSome};
 ghost use Rattle.json.specs.Value.{value_view};
-ghost use Rattle.shader_json_reader.specs.Numbers.{IsDouble, IsSigned, IsSingle, IsUnsigned, is_integer_text};
+ghost use Rattle.shader_json_reader.specs.Numbers.{IsDouble, IsSigned, IsSingle, IsUnsigned};
 
 use json::Value;
 
 /// Returns an integer from 0 to `most` that is written without point and exponent, or `None` for any other value.
 pub fn unsigned(value: &Value<'_>, most: u64) -> Option<u64>
-    ensures value { IfSome result (λ number. IsUnsigned (value_view value.now) number) }
-    ensures bound { IfSome result (λ number. number ≤ most) }
+    ensures some { IfSome result (λ number. IsUnsigned most (value_view value.now) number) }
+    ensures none { IfNone result ((number : ℕ) → IsUnsigned most (value_view value.now) number → ⊥) }
 {
     match value.as_u64() {
         Some(number) if number <= most => Some(number),
@@ -16,15 +16,19 @@ pub fn unsigned(value: &Value<'_>, most: u64) -> Option<u64>
     }
 }
 
-/// Returns a signed integer of 64 bits that is written without point and exponent, or `None` for any other value, `-0` among them.
-pub fn signed(value: &Value<'_>) -> Option<i64>
-    ensures { IfSome result (λ number. IsSigned (value_view value.now) number) }
+/// Returns an integer from `least` to `most` that is written without point and exponent, or `None` for any other value, `-0` among them.
+pub fn signed(value: &Value<'_>, least: i64, most: i64) -> Option<i64>
+    ensures some { IfSome result (λ number. IsSigned least most (value_view value.now) number) }
+    ensures none { IfNone result ((number : ℤ) → IsSigned least most (value_view value.now) number → ⊥) }
 {
     let text = value.as_number()?;
     if text == "-0" {
         return None;
     }
-    value.as_i64()
+    match value.as_i64() {
+        Some(number) if least <= number && number <= most => Some(number),
+        _ => None,
+    }
 }
 
 /// Returns the bits of the f64 nearest to a number, ties to even, or `None` if that is infinite.
@@ -49,14 +53,4 @@ pub fn single_bits(value: &Value<'_>) -> Option<u32>
     } else {
         None
     }
-}
-
-/// Returns whether a number is written without point and exponent.
-pub fn is_integer(number: &str) -> bool
-    ensures { result ≡ is_integer_text number.now }
-{
-    number
-        .as_bytes()
-        .iter()
-        .all(|byte| *byte == b'-' || byte.is_ascii_digit())
 }

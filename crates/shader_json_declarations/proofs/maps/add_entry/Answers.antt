@@ -1,8 +1,13 @@
 use Rattle.std.proofs.Common.{◌∙◌}
+use Rattle.shader_json_declarations.proofs.DistinctLemmas.{absent_key}
 use Rattle.shader_json_declarations.proofs.EntryLemmas.{new_last}
 use Rattle.shader_json_declarations.proofs.maps.add_entry.Goals as goal
 
 pub returns : goal.returns
 returns g c =
-    c.in_ok-insert.ensures.entries
-    ∙ new_last _ c.args.entries.now c.args.key c.args.value c.in_ok-insert.field-0 c.in_ok-insert.ensures.old c.if-is_some.ensures
+    record {
+      added = c.in_ok-insert.ensures.entries
+          ∙ new_last _ c.args.entries.now c.args.key c.args.value c.in_ok-insert.field-0 c.in_ok-insert.ensures.old c.if-is_some.ensures;
+      absent = absent_key g.K.PartialEq.eq g.met.K.Eq.laws c.args.key c.args.entries.now c.in_ok-insert.field-0
+          c.in_ok-insert.ensures.old c.if-is_some.ensures;
+    }

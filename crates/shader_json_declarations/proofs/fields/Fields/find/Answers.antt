@@ -1,4 +1,4 @@
-use Rattle.std.proofs.Common.{◌≡◌, ℕ, ◌+◌, List, Bor, ◌∙◌, ap, sym, take, option_map, length, arith}
+use Rattle.std.proofs.Common.{◌≡◌, ◌+◌, ◌∙◌, ap, sym, take, option_map, length, arith}
 use Rattle.std.proofs.Math.Seq.{take-length}
 use Rattle.std.specs.Str.{bytes_eq}
 use Rattle.json.specs.Value.{value_view, members_view}

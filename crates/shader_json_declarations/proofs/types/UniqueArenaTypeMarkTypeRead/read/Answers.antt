@@ -2,6 +2,7 @@ use Rattle.std.proofs.Common.{◌≡◌, ◌≤◌, ◌+◌, ◌∙◌, [], ◌�
 use Rattle.std.proofs.lemmas.List.{length-append}
 use Rattle.json.specs.Json.{array}
 use Rattle.json.specs.Value.{items_view, value_view}
+use Rattle.shader_json_declarations.proofs.DistinctLemmas.{distinct_more}
 use Rattle.shader_json_declarations.proofs.ListLemmas.{all_read, array_view, each_more}
 use Rattle.shader_json_declarations.specs.Types.{IsType}
 use Rattle.shader_json_declarations.proofs.types.UniqueArenaTypeMarkTypeRead.read.Goals as goal
@@ -10,12 +11,14 @@ pub loop-index-preserved : goal.loop-index-preserved
 loop-index-preserved c =
     let types = c.loop-index.types in
     let ty = c.in_ok-ty.ty in
-    let grown : length c.add_type.new.types ≡ length types + 1 = ap length c.in_ok-add_type.ensures ∙ length-append types (ty ∷ []) in
+    let grown : length c.add_item.new.items ≡ length types + 1 = ap length c.in_ok-add_item.ensures.added ∙ length-append types (ty ∷ []) in
     record {
       each =
-          each_more IsType c.deref-item-items.result.now c.loop-index.index c.item-item.result types ty c.add_type.new.types
-          c.in_ok-add_type.ensures c.loop-index-test.true c.item-item.is c.loop-index.invariant.each c.in_ok-ty.ensures;
+          each_more IsType c.deref-item-items.result.now c.loop-index.index c.item-item.result types ty c.add_item.new.items
+          c.in_ok-add_item.ensures.added c.loop-index-test.true c.item-item.is c.loop-index.invariant.each c.in_ok-ty.ensures;
       count = omega (arith, grown, c.loop-index.invariant.count);
+      distinct = distinct_more types ty c.add_item.new.items c.in_ok-add_item.ensures.added c.in_ok-add_item.ensures.absent
+          c.loop-index.invariant.distinct;
     }
 
 pub returns : goal.returns
@@ -25,6 +28,8 @@ returns c =
     array_view c.args.value.now c.in-Array.items items c.in-Array.is c.deref-item-items.ensures.value in
     let end : length items ≤ c.loop-index.index = omega arith in
     record {
-      reads = all_read IsType
-          (value_view c.args.value.now) items c.loop-index.index c.loop-index.types is end c.loop-index.invariant.each;
+      reads = (
+        all_read IsType (value_view c.args.value.now) items c.loop-index.index c.loop-index.types is end c.loop-index.invariant.each,
+        c.loop-index.invariant.distinct,
+      );
     }

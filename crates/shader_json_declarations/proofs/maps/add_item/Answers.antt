@@ -1,0 +1,8 @@
+use Rattle.std.proofs.Common.{◌∙◌}
+use Rattle.shader_json_declarations.proofs.DistinctLemmas.{absent_grown}
+use Rattle.shader_json_declarations.proofs.maps.add_item.Goals as goal
+
+pub returns-clause-absent : goal.returns-clause-absent
+returns-clause-absent g c =
+    absent_grown g.T.PartialEq.eq g.met.T.Eq.laws c.args.item c.args.items.now c.insert.new.self c.in_ok-insert.ensures.inserted
+    (λ same. c.if-len-index.false (c.len.ensures.len ∙ same ∙ c.requires))
