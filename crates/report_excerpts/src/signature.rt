@@ -3,6 +3,7 @@
 use crate::body::Body;
 use report_names::{ItemKind, MOST_NESTED, item_text, name_text, type_text};
 use report_places::{BodyPlace, stage_word};
+use shader_builtins::wgsl_name;
 use shader_ir::{Binding, FunctionArgument};
 use std::alloc::{AllocError, Global};
 
@@ -53,11 +54,15 @@ fn beginning(alloc: Global, body: &Body<'_>, shortened: Shortened) -> Result<Str
     }
 }
 
-/// Returns the attribute of an argument that has a location (WGSL, "Attributes"). The IR keeps no names of built-in values.
-fn location_text(alloc: Global, argument: &FunctionArgument) -> Result<String, AllocError> {
+/// Returns the attribute of an argument that is bound (WGSL, "Attributes"). A built-in value has none if it has no name in WGSL.
+fn attribute_text(alloc: Global, argument: &FunctionArgument) -> Result<String, AllocError> {
     match argument.binding {
         Some(Binding::Location(location)) => format!(in alloc; "@location({location}) "),
-        _ => Ok(String::new(alloc)),
+        Some(Binding::BuiltIn(built_in)) => match wgsl_name(built_in) {
+            Some(name) => format!(in alloc; "@builtin({name}) "),
+            None => Ok(String::new(alloc)),
+        },
+        None => Ok(String::new(alloc)),
     }
 }
 
@@ -69,8 +74,8 @@ fn add_argument(
     argument: &FunctionArgument,
     index: usize,
 ) -> Result<(usize, usize), AllocError> {
-    let location = location_text(alloc, argument)?;
-    text.push_str(location.as_str())?;
+    let attribute = attribute_text(alloc, argument)?;
+    text.push_str(attribute.as_str())?;
     let begin = columns_of(text.as_str());
     let name = item_text(alloc, ItemKind::Argument, &argument.name, index)?;
     text.push_str(name.as_str())?;
