@@ -2,7 +2,8 @@
 
 If the proved program is built and no source is newer, that answers. Otherwise the toolchain compiles the same sources
 with checks, once for all inputs, and proves nothing (scripts/run_unproved.py); two lines on standard error say so.
-Arguments are checked before anything else.
+Arguments are checked before anything else. What is printed of several files, and of a whole run, is made here
+(scripts/several_reports.py, scripts/sarif.py, scripts/github_annotations.py).
 """
 import os
 import pathlib
@@ -16,9 +17,11 @@ import tempfile
 TOP = pathlib.Path(__file__).resolve().parent.parent
 sys.path.insert(0, str(TOP / "tests/lib"))
 import run_unproved
+import several_reports
 from programs import is_built, program_of
-from report_arguments import HELP, VERSION, Arguments, WrongArgument, check_files, parsed, with_closest
+from report_arguments import HELP, USAGE, VERSION, Arguments, WrongArgument, check_files, parsed, with_closest
 from run_unproved import Answer
+from several_reports import Piece, shown
 
 STANDARD_INPUT = 3
 BAD_USAGE, READ_FAILED, WRITE_FAILED, INTERRUPTED = 2, 3, 4, 130
@@ -37,13 +40,6 @@ class OutputFailed(Exception):
 def say(text):
     """Prints a line on standard error."""
     print(text, file=sys.stderr, flush=True)
-
-
-def shown(file):
-    """Returns the name of a file as one line shows it."""
-    if file == "-":
-        return "standard input"
-    return "".join(it if it.isprintable() else "?" for it in os.fsencode(file).decode(errors="replace"))
 
 
 def parsed_for_typer(words):
@@ -127,7 +123,7 @@ def built_answers(name, arguments):
     """Yields each file with its bytes and the answer of the built program."""
     for file in arguments.files:
         text = read(name, file)
-        answer = unread(text) if isinstance(text, OSError) else run_built(name, arguments.flags, text)
+        answer = unread(text) if isinstance(text, OSError) else run_built(name, arguments.for_program(), text)
         yield file, text, answer
 
 
@@ -137,7 +133,7 @@ def unproved_answers(name, arguments):
         warn_unproved(name)
     held = {it: read(name, it) for it in arguments.files}
     readable = {it: text for it, text in held.items() if isinstance(text, bytes)}
-    found = run_unproved.run(name, [(arguments.flags, it) for it in readable.values()]) if readable else []
+    found = run_unproved.run(name, [(arguments.for_program(), it) for it in readable.values()]) if readable else []
     answers = dict(zip(readable, found))
     for file in arguments.files:
         yield file, held[file], answers.get(file) or unread(held[file])
@@ -156,31 +152,53 @@ def reason_of(name, text, answer):
     return ENDS_OF_TYPER.get(answer.status) if name == "typer" else None
 
 
-def hand_on(name, file, text, answer, is_named, is_json):
-    """Writes an answer and its errors, with the name of the file if there are several.
-
-    The name goes to standard error if the answer is JSON, so that each line of standard output is one answer.
-    """
+def piece_of(name, file, text, answer, is_named):
+    """Returns an answer and its errors, with the name of the file if there are several."""
     label, reason = shown(file), reason_of(name, text, answer)
-    if is_named and (answer.output or answer.status == 0):
-        say(f"{label}:") if is_json else write(f"{label}:\n".encode())
-    write(answer.output)
+    head = f"{label}:\n".encode() if is_named and (answer.output or answer.status == 0) else b""
     is_own = isinstance(text, OSError) or answer.status in (run_unproved.BEYOND_A_TRY, run_unproved.FAILED)
     prefix = f"{label}: " if is_named or isinstance(text, OSError) else ""
+    errors = ""
     if answer.errors:
         own = f"{name}: " if is_own else ""
-        say(own + prefix + answer.errors.decode(errors="backslashreplace").rstrip("\n"))
+        errors = own + prefix + answer.errors.decode(errors="backslashreplace").rstrip("\n")
     elif reason:
-        say(f"{name}: {prefix}{reason}")
+        errors = f"{name}: {prefix}{reason}"
+    return Piece(head + answer.output, errors)
+
+
+def pieces_of(name, arguments, answers):
+    """Returns what is printed of all answers, by the form that the arguments ask for."""
+    form, _ = arguments.form()
+    if form == "sarif":
+        import sarif
+        return sarif.pieces(answers)
+    if form == "github":
+        import github_annotations
+        return github_annotations.pieces(answers)
+    if form == "json":
+        return several_reports.json_lines(answers)
+    is_named = len(arguments.files) > 1
+    if is_named and name == "report":
+        return several_reports.texts(answers)
+    return (piece_of(name, file, text, answer, is_named) for file, text, answer in answers)
 
 
 def hand_on_all(name, arguments, answers):
-    """Writes all answers, and returns the highest exit status."""
-    highest, is_named, is_json = 0, len(arguments.files) > 1, "--json" in arguments.flags
+    """Writes what is printed of all answers, and returns the highest exit status."""
+    highest = 0
+
+    def noted():
+        nonlocal highest
+        for it in answers:
+            highest = max(highest, it[2].status)
+            yield it
+
     try:
-        for file, text, answer in answers:
-            highest = max(highest, answer.status)
-            hand_on(name, file, text, answer, is_named, is_json)
+        for piece in pieces_of(name, arguments, noted()):
+            write(piece.output)
+            if piece.errors:
+                say(piece.errors)
     except OutputFailed:
         say(f"{name}: the output can't be written")
         highest = max(highest, WRITE_FAILED)
@@ -207,22 +225,21 @@ def run_in_place(name, arguments):
     signal.signal(signal.SIGPIPE, signal.SIG_DFL)
     signal.signal(signal.SIGXFSZ, signal.SIG_DFL)
     program = str(program_of(name))
-    os.execv(program, [program, *arguments.flags])
+    os.execv(program, [program, *arguments.for_program()])
 
 
 def answer_files(name, arguments):
     """Answers all files, and returns the exit status."""
     arguments.files = arguments.files or ["-"]
-    drawn = {"--json", "--drawing", "--no-drawing"}.intersection(arguments.flags)
-    if "--json" in drawn:
+    form, word = arguments.form()
+    if form != "text":
         for flag in sorted({"--all-structs", "--drawing", "--no-drawing"}.intersection(arguments.flags)):
-            say(f"{name}: {flag} has no effect with --json")
-    # The program doesn't see the terminal if its output is collected.
-    if name == "report" and not drawn and sys.stdout is not None and sys.stdout.isatty():
-        arguments.flags.append("--drawing")
+            say(f"{name}: {flag} has no effect with {word}")
     if not is_built(name):
         return hand_on_all(name, arguments, unproved_answers(name, arguments))
-    if name == "report" and len(arguments.files) == 1:
+    # An answer as JSON has the name of its file, which the program doesn't know.
+    is_plain = form == "text" or (form == "json" and arguments.files == ["-"])
+    if name == "report" and len(arguments.files) == 1 and is_plain:
         return run_in_place(name, arguments)
     return hand_on_all(name, arguments, built_answers(name, arguments))
 
@@ -240,7 +257,8 @@ def main():
     try:
         arguments = parsed(words) if name == "report" else parsed_for_typer(words)
     except WrongArgument as wrong:
-        say(f"{name}: {shown(str(wrong))}; see ./{name} --help")
+        text = shown(str(wrong))
+        say(f"{name}: {text}\n{USAGE}" if name == "report" else f"{name}: {text}; see ./{name} --help")
         return BAD_USAGE
     return answer_files(name, arguments)
 

@@ -133,8 +133,8 @@ ERROR = {"anyOf": [members({"path": TEXT, "wanted": TEXT}), members({"byte": NUM
 ANSWER = members(
     {"version": {"type": "string", "pattern": "^1\\.[0-9]+$"}, "verdict": words("accepted", "refused", "invalid_input", "unreadable"),
      "diagnostics": items(DIAGNOSTIC)},
-    uniformity_verdict=members({"accepted": BOOL}, place=BODY), layouts=items(members(LAYOUT)), layout_error=LAYOUT_ERROR, info=INFO,
-    refused=members({"place": PLACE, "cause": CAUSE}), bounds=BOUNDS, resources=RESOURCES, fault=words(*FAULTS), error=ERROR,
+    file=TEXT, uniformity_verdict=members({"accepted": BOOL}, place=BODY), layouts=items(members(LAYOUT)), layout_error=LAYOUT_ERROR,
+    info=INFO, refused=members({"place": PLACE, "cause": CAUSE}), bounds=BOUNDS, resources=RESOURCES, fault=words(*FAULTS), error=ERROR,
 )
 
 

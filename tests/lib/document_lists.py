@@ -27,6 +27,8 @@ PRINTED = re.compile(r'\\"(\w+)\\"|(?:key|variant|fields|_member|_tokens) \(code
 PRINTING = re.compile(r"report_(answers|diagnostics|json)|shader_(report_(bounds|json|resources)|uniformity_text)")
 UNSEEN = set("""AccelerationStructure Array Atomic BindingArray Constant Depth External FunctionNotDefined Image InvalidArrayElementType
     InvalidStructMemberType OutOfMemory Pending RayQuery Sampled Sampler arrayed class comparison dim format multi vertex_return""".split())
+# The member that the launcher adds, and no definition prints.
+BY_LAUNCHER = {"file"}
 COSTS, FAILURES, JSON = "docs/maintaining/costs.md", "docs/maintaining/allocation-failures.md", "docs/JSON.md"
 # A code of a diagnostic or its name in a definition, and a row with both in their document.
 CODES, CODE = "docs/DIAGNOSTICS.md", re.compile(r'(?m)^\w+_(code|text|name)(?:_text)? (\S+) = codes "([A-Z]\d{3}|[a-z0-9-]+)"')
@@ -149,7 +151,7 @@ def unnamed(definitions, page):
     """Returns what definitions print as JSON and a page doesn't name, and what the first cells of its tables name that they don't have."""
     printed = {text or token for text, token in PRINTED.findall(definitions)} - UNSEEN
     cells = ticked("\n".join(re.findall(r"(?m)^\| (.*?) \|", page)))
-    return sorted(printed - ticked(page)), sorted(cells - set(re.findall(r"\w+", definitions)))
+    return sorted(printed - ticked(page)), sorted(cells - BY_LAUNCHER - set(re.findall(r"\w+", definitions)))
 
 
 def of_json():

@@ -7,9 +7,9 @@ use Rattle.report_answers.specs.Options.{flag_of, is_set, on_ok, once, options_f
 use Rattle.report_answers.specs.WordLaws.{TwiceIsOfTwoWords, WordsChangePlaces, flags_in, sets_same}
 use Rattle.report_answers.specs.declared.options.BadWord.{BadWord}
 use Rattle.report_answers.specs.declared.options.Flag.{Flag}
-use Rattle.report_answers.specs.declared.options.Flag.TheVariants.{Json, WgslFlow, NagaFlow, AnyFlow, NoFlow, IndexTextures}
-use Rattle.report_answers.specs.declared.options.Flag.TheVariants.{IndexStorageTextures, IndexBoth, IndexBothTurned, Bounds, Policies}
-use Rattle.report_answers.specs.declared.options.Flag.TheVariants.{Resources, AllStructs, Drawing, NoDrawing}
+use Rattle.report_answers.specs.declared.options.Flag.TheVariants.{Json, FormatText, FormatJson, WgslFlow, NagaFlow, AnyFlow, NoFlow}
+use Rattle.report_answers.specs.declared.options.Flag.TheVariants.{IndexTextures, IndexStorageTextures, IndexBoth, IndexBothTurned}
+use Rattle.report_answers.specs.declared.options.Flag.TheVariants.{Bounds, Policies, Resources, AllStructs, Drawing, NoDrawing}
 use Rattle.report_answers.specs.declared.options.Options.{Options}
 
 set_twice : {A : Type 0} → true ≡ false → A
@@ -31,6 +31,14 @@ record MayChange (o : Options) (one other : Flag) : Type 0 where
 -- two flags that set different things, or the second would be refused
 change : (o : Options) (one other : Flag) → is_set o one ≡ false → is_set (with o one) other ≡ false → MayChange o one other
 change o Json Json unset twice = set_twice twice
+change o Json FormatText unset twice = set_twice twice
+change o Json FormatJson unset twice = set_twice twice
+change o FormatText Json unset twice = or_set o.is_json twice
+change o FormatText FormatText unset twice = or_set o.is_json twice
+change o FormatText FormatJson unset twice = or_set o.is_json twice
+change o FormatJson Json unset twice = set_twice twice
+change o FormatJson FormatText unset twice = set_twice twice
+change o FormatJson FormatJson unset twice = set_twice twice
 change o WgslFlow WgslFlow unset twice = set_twice twice
 change o WgslFlow NagaFlow unset twice = set_twice twice
 change o WgslFlow AnyFlow unset twice = set_twice twice
@@ -120,6 +128,10 @@ module _ {A : Type 0} where
 
 is_set-with : (o : Options) (one other : Flag) → is_set (with o one) other ≡ (sets_same one other || is_set o other)
 is_set-with o Json Json = refl
+is_set-with o FormatText Json = or_true o.is_json
+is_set-with o FormatText FormatText = or_true o.is_json
+is_set-with o FormatText FormatJson = or_true o.is_json
+is_set-with o FormatJson FormatJson = refl
 is_set-with o WgslFlow WgslFlow = refl
 is_set-with o NagaFlow NagaFlow = refl
 is_set-with o AnyFlow AnyFlow = refl

@@ -1,6 +1,6 @@
 -- The options of the command line.
-use Rattle.std.specs.Prelude.{ℕ, suc, ◌+◌, Bool, true, false, ◌||◌, List, [], ◌∷◌, codes, Option, Some, None, Result, Ok, Err}
-use Rattle.std.specs.Prelude.{String, find, is_some, nat_eq, nat_lt, unwrap_or, if◌then◌else◌}
+use Rattle.std.specs.Prelude.{ℕ, ◌+◌, Bool, true, false, ◌||◌, List, [], ◌∷◌, codes, Option, Some, None, Result, Ok, Err}
+use Rattle.std.specs.Prelude.{String, find, is_some, unwrap_or}
 use Rattle.std.specs.Option.{option_map, option_or}
 use Rattle.std.specs.Str.{bytes_eq}
 use Rattle.std.specs.String.{string_bytes}
@@ -12,9 +12,9 @@ use Rattle.shader_bounds.specs.declared.policies.BoundsCheckPolicies.{BoundsChec
 use Rattle.shader_passes.specs.Causes.{settings_of}
 use Rattle.report_answers.specs.Policies.{policies_of}
 use Rattle.report_answers.specs.declared.options.Flag.{Flag}
-use Rattle.report_answers.specs.declared.options.Flag.TheVariants.{Json, WgslFlow, NagaFlow, AnyFlow, NoFlow, IndexTextures}
-use Rattle.report_answers.specs.declared.options.Flag.TheVariants.{IndexStorageTextures, IndexBoth, IndexBothTurned, Bounds, Policies}
-use Rattle.report_answers.specs.declared.options.Flag.TheVariants.{Resources, AllStructs, Drawing, NoDrawing}
+use Rattle.report_answers.specs.declared.options.Flag.TheVariants.{Json, FormatText, FormatJson, WgslFlow, NagaFlow, AnyFlow, NoFlow}
+use Rattle.report_answers.specs.declared.options.Flag.TheVariants.{IndexTextures, IndexStorageTextures, IndexBoth, IndexBothTurned}
+use Rattle.report_answers.specs.declared.options.Flag.TheVariants.{Bounds, Policies, Resources, AllStructs, Drawing, NoDrawing}
 use Rattle.report_answers.specs.declared.options.FlowCheck.{FlowCheck}
 use Rattle.report_answers.specs.declared.options.FlowCheck.TheVariants.{Wgsl, Naga, Off}
 use Rattle.report_answers.specs.declared.options.BadWord.{BadWord}
@@ -23,6 +23,8 @@ use Rattle.report_answers.specs.declared.options.Options.{Options}
 
 abbrev pub flag_text : Flag → List ℕ
 flag_text Json = codes "--json"
+flag_text FormatText = codes "--format=text"
+flag_text FormatJson = codes "--format=json"
 flag_text WgslFlow = codes "--uniformity=wgsl"
 flag_text NagaFlow = codes "--uniformity=naga"
 flag_text AnyFlow = codes "--uniformity=off"
@@ -40,8 +42,8 @@ flag_text NoDrawing = codes "--no-drawing"
 
 abbrev pub all_flags : List Flag
 all_flags =
-    Json ∷ WgslFlow ∷ NagaFlow ∷ AnyFlow ∷ NoFlow ∷ IndexTextures ∷ IndexStorageTextures ∷ IndexBoth ∷ IndexBothTurned
-    ∷ Bounds ∷ Resources ∷ AllStructs ∷ Drawing ∷ NoDrawing ∷ []
+    Json ∷ FormatText ∷ FormatJson ∷ WgslFlow ∷ NagaFlow ∷ AnyFlow ∷ NoFlow ∷ IndexTextures ∷ IndexStorageTextures ∷ IndexBoth
+    ∷ IndexBothTurned ∷ Bounds ∷ Resources ∷ AllStructs ∷ Drawing ∷ NoDrawing ∷ []
 
 abbrev pub named_flag : List ℕ → Option Flag
 named_flag word = find (λ flag. bytes_eq (flag_text flag) word) all_flags
@@ -54,6 +56,7 @@ flag_of word = option_or (named_flag word) (option_map (λ policies. Policies po
 abbrev pub start : Options
 start = record {
   is_json = false;
+  is_text = false;
   flow = None;
   indexes_textures = false;
   indexes_storage_textures = false;
@@ -70,6 +73,8 @@ indexing_both options = record options { indexes_textures = true; indexes_storag
 -- the options with one more flag
 abbrev pub with : Options → Flag → Options
 with options Json = record options { is_json = true }
+with options FormatText = record options { is_text = true }
+with options FormatJson = record options { is_json = true }
 with options WgslFlow = record options { flow = Some Wgsl }
 with options NagaFlow = record options { flow = Some Naga }
 with options AnyFlow = record options { flow = Some Off }
@@ -94,7 +99,7 @@ policies_or None false = None
 abbrev pub bounds_of : Options → Option BoundsCheckPolicies
 bounds_of options = policies_or options.policies options.has_bounds
 
--- structs are drawn if a word or the caller says so
+-- structs are drawn if a word says so
 abbrev pub draws_structs : Options → Bool
 draws_structs options = unwrap_or options.drawing false
 
@@ -102,16 +107,18 @@ draws_structs options = unwrap_or options.drawing false
 abbrev pub declares_structs : Options → Bool
 declares_structs options = options.has_structs || draws_structs options
 
--- structs are drawn as a word says, and as the caller does where none says it
-abbrev pub drawing_if : Options → Bool → Options
-drawing_if options is_drawn = record options { drawing = Some (unwrap_or options.drawing is_drawn) }
-
 abbrev indexes : Options → Bool
 indexes options = options.indexes_textures || options.indexes_storage_textures
 
+-- whether a word has said how the report is printed
+abbrev is_formed : Options → Bool
+is_formed options = options.is_json || options.is_text
+
 -- whether what the flag sets is set already
 abbrev pub is_set : Options → Flag → Bool
-is_set options Json = options.is_json
+is_set options Json = is_formed options
+is_set options FormatText = is_formed options
+is_set options FormatJson = is_formed options
 is_set options WgslFlow = is_some options.flow
 is_set options NagaFlow = is_some options.flow
 is_set options AnyFlow = is_some options.flow
@@ -148,24 +155,6 @@ abbrev pub options_from : {A : Type 0} → Options → ℕ → List (String A) �
 options_from options index [] = Ok options
 options_from options index (word ∷ words) =
     on_ok (with_word options index (string_bytes word)) (λ next. options_from next (index + 1) words)
-
--- how many bytes two words share at their start
-abbrev pub shared : List ℕ → List ℕ → ℕ
-shared [] other = 0
-shared (byte ∷ one) [] = 0
-shared (byte ∷ one) (another ∷ other) = if nat_eq byte another then suc (shared one other) else 0
-
-abbrev pub nearer : List ℕ → Flag → Flag → Flag
-nearer word one other = if nat_lt (shared word (flag_text one)) (shared word (flag_text other)) then other else one
-
--- the flag that shares most with the word at the start, the first of those
-abbrev pub nearest : List ℕ → Flag
-nearest word =
-    nearer word Json (nearer word
-    (nearer word (nearer word (nearer word (nearer word WgslFlow NagaFlow) (nearer word AnyFlow NoFlow))
-    (nearer word IndexTextures IndexStorageTextures))
-    (nearer word IndexBoth IndexBothTurned))
-    (nearer word (nearer word Bounds Resources) (nearer word AllStructs (nearer word Drawing NoDrawing))))
 
 -- uniform flow is checked by WGSL's rules unless a word says otherwise
 abbrev pub flow_check : Options → FlowCheck

@@ -1,8 +1,9 @@
 //! The options of the command line.
-ghost use Rattle.std.specs.Prelude.{◌≡◌, Some};
-ghost use Rattle.report_answers.specs.Options.{bounds_of, capabilities_of, checks_uniformity, declares_structs, drawing_if};
-ghost use Rattle.report_answers.specs.Options.{draws_structs, flag_of, flag_text, flags_of, flow_check, indexing_both, is_set, named_flag};
-ghost use Rattle.report_answers.specs.Options.{nearer, nearest, options_from, shared, start, with, with_word};
+ghost use Rattle.std.specs.Prelude.{◌≡◌, Some, true};
+ghost use Rattle.report_answers.specs.Options.{bounds_of, capabilities_of, checks_uniformity, declares_structs, draws_structs};
+ghost use Rattle.report_answers.specs.Options.{flag_of, flag_text, flags_of, flow_check, indexing_both, is_set, named_flag};
+ghost use Rattle.report_answers.specs.Options.{options_from, start, with, with_word};
+ghost use Rattle.report_answers.specs.WordLaws.{sets_same};
 
 use crate::policies::policies_of;
 use bitflags::Flags;
@@ -22,6 +23,10 @@ const UNCHECKED: BoundsCheckPolicies = BoundsCheckPolicies {
 pub enum Flag {
     /// Reports as JSON.
     Json,
+    /// Reports as text, as without a flag.
+    FormatText,
+    /// Reports as JSON: the longer name of this flag.
+    FormatJson,
     /// Checks uniform flow by WGSL's rules, as without a flag.
     WgslFlow,
     /// Checks uniform flow as naga specifies it.
@@ -63,8 +68,10 @@ pub enum BadWord {
 
 impl Flag {
     /// The flags with a fixed argument each: all except policies.
-    pub const ALL: [Flag; 14] = [
+    pub const ALL: [Flag; 16] = [
         Flag::Json,
+        Flag::FormatText,
+        Flag::FormatJson,
         Flag::WgslFlow,
         Flag::NagaFlow,
         Flag::AnyFlow,
@@ -86,6 +93,8 @@ impl Flag {
     {
         match self {
             Flag::Json => "--json",
+            Flag::FormatText => "--format=text",
+            Flag::FormatJson => "--format=json",
             Flag::WgslFlow => "--uniformity=wgsl",
             Flag::NagaFlow => "--uniformity=naga",
             Flag::AnyFlow => "--uniformity=off",
@@ -103,30 +112,6 @@ impl Flag {
         }
     }
 
-    /// Returns the flag that shares the longest prefix with an argument, the first of several.
-    pub fn nearest(word: &[u8]) -> Flag
-        ensures { result ≡ nearest word.now }
-    {
-        let of_flow = nearer(
-            word,
-            nearer(word, Flag::WgslFlow, Flag::NagaFlow),
-            nearer(word, Flag::AnyFlow, Flag::NoFlow),
-        );
-        let of_one = nearer(word, Flag::IndexTextures, Flag::IndexStorageTextures);
-        let of_both = nearer(word, Flag::IndexBoth, Flag::IndexBothTurned);
-        let of_parts = nearer(
-            word,
-            nearer(word, Flag::Bounds, Flag::Resources),
-            nearer(
-                word,
-                Flag::AllStructs,
-                nearer(word, Flag::Drawing, Flag::NoDrawing),
-            ),
-        );
-        let of_checks = nearer(word, nearer(word, of_flow, of_one), of_both);
-        nearer(word, Flag::Json, nearer(word, of_checks, of_parts))
-    }
-
     /// Returns the flag whose argument is `word`.
     fn named(word: &[u8]) -> Option<Flag>
         ensures { result ≡ named_flag word.now }
@@ -138,7 +123,7 @@ impl Flag {
     }
 
     /// Returns the flag that an argument sets, which may be policies of bounds checks.
-    fn from_word(word: &[u8]) -> Option<Flag>
+    pub fn from_word(word: &[u8]) -> Option<Flag>
         ensures { result ≡ flag_of word.now }
     {
         match Flag::named(word) {
@@ -146,35 +131,12 @@ impl Flag {
             None => policies_of(word).map(Flag::Policies),
         }
     }
-}
 
-/// Returns the length of the longest common prefix.
-fn shared(one: &[u8], other: &[u8]) -> usize
-    ensures { result ≡ shared one.now other.now }
-{
-    let (mut left, mut right) = (one, other);
-    let mut count = 0;
-    while let Some((byte, rest)) = left.split_first() {
-        let Some((another, others)) = right.split_first() else {
-            return count;
-        };
-        if *byte != *another {
-            return count;
-        }
-        count += 1;
-        (left, right) = (rest, others);
-    }
-    count
-}
-
-/// Returns the flag that shares the longer prefix with an argument, the first if both are equal.
-fn nearer(word: &[u8], one: Flag, other: Flag) -> Flag
-    ensures { result ≡ nearer word.now one other }
-{
-    if shared(word, one.word().as_bytes()) < shared(word, other.word().as_bytes()) {
-        other
-    } else {
-        one
+    /// Returns whether another flag sets the option that this flag sets.
+    pub fn sets_same(self, other: Flag) -> bool
+        ensures { result ≡ sets_same self other }
+    {
+        Options::START.with(self).is_set(other)
     }
 }
 
@@ -194,6 +156,8 @@ pub enum FlowCheck {
 pub struct Options {
     /// True for JSON, false for text output.
     pub is_json: bool,
+    /// True if an argument asks for text output, which is the default.
+    pub is_text: bool,
     /// The check of uniform flow, if an argument says it. Otherwise it is that of WGSL.
     pub flow: Option<FlowCheck>,
     /// True if arrays of sampled images and of samplers may be indexed by values that differ among invocations.
@@ -216,6 +180,7 @@ impl Options {
     /// The options without any argument.
     pub const START: Options = Options {
         is_json: false,
+        is_text: false,
         flow: None,
         indexes_textures: false,
         indexes_storage_textures: false,
@@ -225,6 +190,26 @@ impl Options {
         has_structs: false,
         drawing: None,
     };
+
+    /// Returns the options with JSON as output.
+    fn as_json(self) -> Options
+        ensures { result ≡ record self { is_json = true } }
+    {
+        Options {
+            is_json: true,
+            ..self
+        }
+    }
+
+    /// Returns the options with text as output because an argument says so.
+    fn as_text(self) -> Options
+        ensures { result ≡ record self { is_text = true } }
+    {
+        Options {
+            is_text: true,
+            ..self
+        }
+    }
 
     /// Returns the options with non-uniform indexes of both kinds of arrays allowed.
     fn indexing_both(self) -> Options
@@ -269,10 +254,9 @@ impl Options {
         ensures { result ≡ with self flag }
     {
         match flag {
-            Flag::Json => Options {
-                is_json: true,
-                ..self
-            },
+            Flag::Json => self.as_json(),
+            Flag::FormatText => self.as_text(),
+            Flag::FormatJson => self.as_json(),
             Flag::WgslFlow => self.with_flow(FlowCheck::Wgsl),
             Flag::NagaFlow => self.with_flow(FlowCheck::Naga),
             Flag::AnyFlow => self.with_flow(FlowCheck::Off),
@@ -314,8 +298,11 @@ impl Options {
     {
         let indexes = self.indexes_textures || self.indexes_storage_textures;
         let decides = self.flow.is_some();
+        let is_formed = self.is_json || self.is_text;
         match flag {
-            Flag::Json => self.is_json,
+            Flag::Json => is_formed,
+            Flag::FormatText => is_formed,
+            Flag::FormatJson => is_formed,
             Flag::WgslFlow => decides,
             Flag::NagaFlow => decides,
             Flag::AnyFlow => decides,
@@ -356,16 +343,6 @@ impl Options {
         ensures { result ≡ declares_structs self }
     {
         self.has_structs || self.draws_structs()
-    }
-
-    /// Returns the options, with this default for drawings if no argument sets it.
-    pub fn drawing_if(self, is_drawn: bool) -> Options
-        ensures { result ≡ drawing_if self is_drawn }
-    {
-        match self.drawing {
-            Some(_) => self,
-            None => self.with_drawing(is_drawn),
-        }
     }
 
     /// Applies one command line argument to the options. `index` is its position, for errors.
