@@ -27,6 +27,8 @@ STANDARD_INPUT = 3
 BAD_USAGE, READ_FAILED, WRITE_FAILED, INTERRUPTED = 2, 3, 4, 130
 # As many bytes of an input are read as show that it is too long.
 MAX_INPUT = {"report": 268_435_456 + 1, "typer": 1_048_576 + 1}
+# Flags that are for the text output alone.
+WITHOUT_JSON = {"--all", "--all-structs", "--drawing", "--explain", "--no-drawing"}
 AWAITED = {"report": "a module as JSON", "typer": "questions, one a line"}
 BAD_LINE = re.compile(rb"(?:.*\n)?bad line (\d+)\n", re.DOTALL)
 # The reasons that typer doesn't print itself.
@@ -233,7 +235,7 @@ def answer_files(name, arguments):
     arguments.files = arguments.files or ["-"]
     form, word = arguments.form()
     if form != "text":
-        for flag in sorted({"--all-structs", "--drawing", "--no-drawing"}.intersection(arguments.flags)):
+        for flag in sorted(WITHOUT_JSON.intersection(arguments.flags)):
             say(f"{name}: {flag} has no effect with {word}")
     if not is_built(name):
         return hand_on_all(name, arguments, unproved_answers(name, arguments))

@@ -23,6 +23,8 @@ GROUPS = [
     ["--resources"],
     ["--all-structs"],
     ["--drawing", "--no-drawing"],
+    ["--explain"],
+    ["--all"],
 ]
 GROUP_OF = {flag: number for number, group in enumerate(GROUPS) for flag in group}
 HELP, VERSION = ("-h", "--help"), ("-V", "--version")

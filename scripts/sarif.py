@@ -19,8 +19,9 @@ LEVELS = {"error": "error", "warning": "warning", "info": "note"}
 SENTENCE = re.compile(r"(?m)^\| ([A-Z]\d{3}) \| ([A-Z`].*\.) \|$")
 # What is said of the place of a need, which ends the way from its source: the invocations that have to be together there.
 QUAD, WORKGROUP, SUBGROUP = (f"needs all invocations of the {it}" for it in ("quad", "workgroup", "subgroup"))
-NEEDS = {"U101": QUAD, "U102": QUAD, "U103": WORKGROUP, "U104": WORKGROUP, "U106": SUBGROUP}
-NEEDS["U105"] = f"{WORKGROUP}, with the same pointer"
+NEEDS = {"U101": QUAD, "U102": QUAD, "U103": WORKGROUP, "U104": WORKGROUP, "U105": WORKGROUP, "U106": SUBGROUP}
+# What is said in place of it where invocations may pass different pointers, and how the message tells that.
+POINTER, BY_POINTER = "needs the same pointer in all invocations of the workgroup", "needs one pointer"
 
 
 def sentences():
@@ -70,7 +71,8 @@ def flow_of(file, places, found):
     if not found["related"]:
         return {}
     steps = [(it["location"], it["message"]) for it in reversed(found["related"])]
-    steps.append((found["location"], NEEDS.get(found["code"], found["message"])))
+    need = POINTER if BY_POINTER in found["message"] else NEEDS.get(found["code"], found["message"])
+    steps.append((found["location"], need))
     locations = [{"location": location_of(file, places, *it)} for it in steps]
     return {"codeFlows": [{"threadFlows": [{"locations": locations}]}]}
 

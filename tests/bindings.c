@@ -100,7 +100,7 @@ static void try_failures(long flags) {
 
 static void try_flags(void) {
     size_t length;
-    for (int bit = 16; bit < 32; bit++) {
+    for (int bit = 19; bit < 32; bit++) {
         uint32_t status = call(1L << bit, sizeof buffer, &length);
         check(status == PETHUVAZH_BAD_FLAGS && length == 0 && is_untouched(0, sizeof buffer), "a bit that is no flag", (unsigned long)bit);
     }

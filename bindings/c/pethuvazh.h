@@ -51,7 +51,11 @@ enum {
     PETHUVAZH_IMAGE_LOAD_RESTRICT = 1 << 12,
     PETHUVAZH_IMAGE_LOAD_READ_ZERO_SKIP_WRITE = 2 << 12,
     PETHUVAZH_BINDING_ARRAY_RESTRICT = 1 << 14,
-    PETHUVAZH_BINDING_ARRAY_READ_ZERO_SKIP_WRITE = 2 << 14
+    PETHUVAZH_BINDING_ARRAY_READ_ZERO_SKIP_WRITE = 2 << 14,
+    /* More in the text. */
+    PETHUVAZH_ALL_STRUCTS = 1 << 16, /* declares structs with the layouts of their members; --all-structs */
+    PETHUVAZH_EXPLAIN = 1 << 17,     /* what codes mean, and why results of entry points may differ; --explain */
+    PETHUVAZH_ALL = 1 << 18          /* all errors, causes, entry points and globals; --all */
 };
 
 /* Reports on a module, which `json` has as JSON: `json_length` bytes of UTF-8, as serde_json prints a naga 30 Module.

@@ -122,6 +122,16 @@ def wrong_location(location, text, value):
     return None
 
 
+def wrong_places(diagnostics, text, value):
+    """Returns what is wrong with the place in the JSON of a diagnostic that only the JSON shows, or None."""
+    if value is None:
+        return None
+    for it in diagnostics:
+        if it["code"][0] in "ML" and (found := wrong_value(it["location"], text, value) if "path" in it["location"] else "no path"):
+            return f"{found} of {it['code']}"
+    return None
+
+
 def value_of(text):
     """Returns the value of an input, None if Python finds no JSON or a member that stands twice, or if it is long."""
     def once(pairs):
@@ -144,7 +154,7 @@ def wrong_head(status, answer, text):
         return found
     value = value_of(text)
     places = [at for it in head["diagnostics"] for at in (it["location"], *(cause["location"] for cause in it["related"]))]
-    found = next(filter(None, (wrong_location(it, text, value) for it in places)), None)
+    found = next(filter(None, (wrong_location(it, text, value) for it in places)), None) or wrong_places(head["diagnostics"], text, value)
     if "error" in members and not found:
         location, error = places[0], members["error"]
         if any(location.get(name) != error[name] for name in ("path", "byte") if name in error):

@@ -121,8 +121,9 @@ RESOURCES = define("resources", members({
 }))
 
 LOCATION = define("location", members(
-    {"body": or_null(PLACE)}, name=TEXT, statement=TEXT, expression=NUMBER, argument=NUMBER, type=NUMBER,
-    pointer={"type": "string", "pattern": "^(/.*)?$"}, path=TEXT, line=NUMBER | {"minimum": 1}, column=NUMBER | {"minimum": 1}, byte=NUMBER,
+    {"body": or_null(PLACE)}, name=TEXT, statement=TEXT, expression=NUMBER, text=TEXT, type=NUMBER,
+    pointer={"type": "string", "pattern": "^(/.*)?$"}, argument=NUMBER, path=TEXT,
+    line=NUMBER | {"minimum": 1}, column=NUMBER | {"minimum": 1}, byte=NUMBER,
 ))
 DIAGNOSTIC = define("diagnostic", members({
     "code": {"type": "string", "pattern": "^[A-Z][0-9]{3}$"}, "name": {"type": "string", "pattern": "^[a-z0-9-]+$"},

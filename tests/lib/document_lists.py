@@ -33,6 +33,9 @@ COSTS, FAILURES, JSON = "docs/maintaining/costs.md", "docs/maintaining/allocatio
 # A code of a diagnostic or its name in a definition, and a row with both in their document.
 CODES, CODE = "docs/DIAGNOSTICS.md", re.compile(r'(?m)^\w+_(code|text|name)(?:_text)? (\S+) = codes "([A-Z]\d{3}|[a-z0-9-]+)"')
 CODE_ROW = re.compile(r"(?m)^\| ([A-Z]\d{3}) \| ([a-z0-9-]+) \|")
+# The sentence of a code in the program, and a row with both.
+SENTENCES, SENTENCE = "crates/report_diagnostics/src/sentences.rt", re.compile(r'Code::(\w+) =>[\s{]*"([^"]+)"')
+SENTENCE_ROW = re.compile(r"(?m)^\| ([A-Z]\d{3}) \| ([^|]+\.) \|$")
 
 
 def read(path):
@@ -165,7 +168,7 @@ def of_json():
 
 
 def of_codes():
-    """Yields what is wrong with the page on diagnostics: rows with other codes and names than the definitions have."""
+    """Yields what is wrong with the page on diagnostics: rows with other codes, names and sentences than the sources have."""
     definitions = read("crates/report_diagnostics/specs/Codes.antt")
     held = {}
     for _, variant, word in CODE.findall(definitions):
@@ -173,6 +176,10 @@ def of_codes():
     defined = {tuple(it) for it in held.values()}
     rows = {*CODE_ROW.findall(read(CODES))}
     yield CODES, "" if rows == defined else f"other codes or names than Codes.antt has: {sorted(rows ^ defined)}"
+    code_of = {variant.rpartition(".")[2]: words[0] for variant, words in held.items()}
+    said = {(code_of.get(variant, variant), sentence) for variant, sentence in SENTENCE.findall(read(SENTENCES))}
+    rows = {*SENTENCE_ROW.findall(read(CODES))}
+    yield CODES, "" if rows == said else f"other sentences than sentences.rt has: {sorted(rows ^ said)}"
 
 
 def of_schema():

@@ -1,8 +1,9 @@
-"""Computes the resources of a module, from its JSON and the answer of naga's own code: the member `resources` and the lines of the text.
+"""Computes the resources of a module, from its JSON and the answer of naga's own code: the member `resources` and the lists of the text.
 
-The names of types are those of WGSL, written out here a second time.
+The names of types are those of WGSL, written out here a second time, and so are the rules by which the text shows names.
 """
 import json
+import re
 
 from compare_info import variant
 
@@ -11,8 +12,22 @@ DIMENSIONS = {"D1": "1d", "D2": "2d", "D3": "3d", "Cube": "cube"}
 SPACES = {"WorkGroup": "workgroup", "TaskPayload": "task_payload", "RayPayload": "ray_payload"}
 SPACES |= {"IncomingRayPayload": "incoming_ray_payload"}
 MAX_LEVELS = 16
-# The text prints the number in place of a longer name.
-MAX_NAME_BYTES = 200
+# The text shows so many types one within another, and so many columns of a name.
+MAX_NESTED, MAX_COLUMNS = 4, 40
+# The characters of names that the text escapes: those that quote, and those that can't be seen.
+ESCAPED = re.compile(
+    "[\"\\\\`\x00-\x20\x7f-\xa0\xad\u061c\u115f\u1160\u1680\u17b4\u17b5\u180b-\u180f\u2000-\u200f\u2028-\u202f\u205f-\u206f\u2800"
+    "\u3000\u3164\ufe00-\ufe0f\ufeff\uffa0\ufff0-\uffff\U000e0000-\U000e0fff]"
+)
+ESCAPES = {"\n": "\\n", "\r": "\\r", "\t": "\\t", '"': '\\"', "\\": "\\\\"}
+# The built-in values and the ways to interpolate that have a word in WGSL or in naga's extensions. Of others the text shows naga's name.
+WORDED = set(
+    "VertexIndex InstanceIndex ClipDistance Position FrontFacing FragDepth PrimitiveIndex SampleIndex SampleMask LocalInvocationId "
+    "LocalInvocationIndex GlobalInvocationId WorkGroupId NumWorkGroups SubgroupInvocationId SubgroupSize SubgroupId NumSubgroups ViewIndex "
+    "Barycentric MeshTaskSize CullPrimitive PointIndex LineIndices TriangleIndices VertexCount Vertices PrimitiveCount Primitives".split()
+)
+FLOWS = set("Perspective Linear Flat PerVertex Center Centroid Sample First Either".split())
+UNRULY = {"work_group_id": "workgroup_id", "num_work_groups": "num_workgroups", "clip_distance": "clip_distances"}
 
 
 def scalar(given):
@@ -187,95 +202,144 @@ def resources(module, answer):
     return Resources(module, answer).all()
 
 
-def has_control(text):
-    """Returns whether a name may hold a control character."""
-    return any(byte < 0x20 or byte in (0x7F, 0xC2) for byte in text.encode())
+def escape(character):
+    """Returns a character of a name as the text shows it."""
+    if not ESCAPED.match(character):
+        return character
+    return ESCAPES.get(character, f"\\u{{{ord(character):x}}}")
 
 
-def shown(name, position):
-    """Returns a name, or the number of a thing whose name can't be printed."""
-    return f"#{position}" if not name or len(name.encode()) > MAX_NAME_BYTES or has_control(name) else name
+def fitting(characters, columns):
+    """Returns the first of some characters that fit into so many columns."""
+    kept = ""
+    for character in characters:
+        if len(kept + escape(character)) > columns:
+            break
+        kept += escape(character)
+    return kept
 
 
-def word(text):
-    """Returns a name of the language, or a question mark if it can't be printed."""
-    return "?" if has_control(text) else text
+def shown(name):
+    """Returns a name as the text shows it."""
+    characters = name[: MAX_COLUMNS + 1]
+    is_whole = sum(len(escape(character)) for character in characters) <= MAX_COLUMNS
+    kept = fitting(characters, MAX_COLUMNS if is_whole else MAX_COLUMNS - 3)
+    return (f'"{kept}"' if ESCAPED.search(characters) else kept) + ("" if is_whole else "...")
 
 
-class Lines:
-    """Computes the lines on the resources of a module, given the member `resources`."""
+def item(kind, name, position):
+    """Returns the name of an item, or its number."""
+    return shown(name) if name else f"{kind}#{position}"
+
+
+def word(name, known):
+    """Returns the word for a name of naga's, if the name is one of the known ones."""
+    small = re.sub("(?<!^)(?=[A-Z])", "_", name).lower()
+    return UNRULY.get(small, small) if name in known else shown(name)
+
+
+def columns(rows):
+    """Returns lines of two columns, of which the second may be empty."""
+    width = max((len(first) for first, second in rows if second), default=0)
+    return "".join(f"  {first.ljust(width)}  {second}\n" if second else f"  {first}\n" for first, second in rows)
+
+
+def listed(title, rows):
+    """Returns a list behind an empty line and its title, or nothing if it is empty."""
+    return f"\n{title}\n{columns(rows)}" if rows else ""
+
+
+class Lists:
+    """Computes the lists on the resources of a module, given the member `resources`."""
 
     def __init__(self, module, member):
         self.module, self.member = module, member
 
-    def typed(self, of):
-        """Returns the name of the type of a thing."""
-        return shown(of["type"], of["ty"])
+    def count(self, size):
+        """Returns the size of an array as it follows the name of the base."""
+        name, held = variant(size)
+        if name == "Dynamic":
+            return ""
+        return f", {item('override', self.module['overrides'][held].get('name'), held) if name == 'Pending' else held}"
 
-    def named(self, position):
-        """Returns a global variable with its binding."""
+    def pointer(self, base, given):
+        """Returns the name of a pointer type."""
+        name, mode = space(given)
+        return f"ptr<{name}, {base}{f', {mode}' if mode else ''}>"
+
+    def type(self, ty, nested=MAX_NESTED):
+        """Returns the name of a type, of which so many are shown one within another."""
+        if not nested:
+            return "..."
+        found = self.module["types"][ty]
+        name, data = variant(found["inner"])
+        if name == "Struct":
+            return item("struct", found.get("name"), ty)
+        if name == "Pointer":
+            return self.pointer(self.type(data["base"], nested - 1), data["space"])
+        if name == "ValuePointer":
+            return self.pointer(sized(data["size"], data["scalar"]), data["space"])
+        if name in ("Array", "BindingArray"):
+            return f"{'array' if name == 'Array' else 'binding_array'}<{self.type(data['base'], nested - 1)}{self.count(data['size'])}>"
+        return Resources(self.module, None).built(ty, found["inner"], 1)
+
+    def declared(self, position):
+        """Returns a global variable as it is declared."""
         it = self.member["globals"][position]
         bound = "" if it["group"] is None else f"@group({it['group']}) @binding({it['binding']}) "
-        return bound + shown(it["name"], position)
+        brackets = "" if it["space"] == "handle" else f"<{it['space']}{', ' + it['access'] if it['access'] else ''}>"
+        return f"{bound}var{brackets} {item('global', it['name'], position)}: {self.type(it['ty'])}"
 
-    def globals(self):
-        """Yields the lines of the global variables."""
-        for position, it in enumerate(self.member["globals"]):
-            ty, (_, inner) = self.member["types"][it["ty"]], variant(self.module["types"][it["ty"]]["inner"])
-            stride = "" if ty["stride"] is None else f", stride {ty['stride']}"
-            room = "" if it["space"] == "handle" else f", {ty['size']} bytes, alignment {ty['alignment']}{stride}"
-            yield f"global {self.named(position)}: {self.typed(it)}"
-            yield f"  {it['space']}{' ' + it['access'] if it['access'] else ''}{room}"
-            members = self.member["types"][inner["base"]]["members"] if "base" in inner else ty["members"]
-            for index, of in enumerate(members or []):
-                yield f"  offset {of['offset']}: {shown(of['name'], index)}: {self.typed(of)}"
+    def room(self, it):
+        """Returns the size and the alignment of a global variable."""
+        ty, inner = self.member["types"][it["ty"]], self.module["types"][it["ty"]]["inner"]
+        if it["space"] == "handle":
+            return ""
+        is_open = "Array" in inner and inner["Array"]["size"] == "Dynamic"
+        size = f"{ty['stride']} bytes an element" if is_open else f"{ty['size']} bytes"
+        return f"{size}, align {ty['alignment']}"
 
-    def overrides(self):
-        """Yields the lines of the overrides."""
-        for position, it in enumerate(self.member["overrides"]):
-            rest = "" if it["id"] is None else f", id {it['id']}"
-            rest += "" if it["default"] is None else f", default {json.dumps(it['default'])}"
-            yield f"override {shown(it['name'], position)}: {self.typed(it)}{rest}"
+    def override(self, position, it):
+        """Returns an override as it is declared."""
+        attribute = "" if it["id"] is None else f"@id({it['id']}) "
+        has_value = self.module["overrides"][position].get("init") is not None
+        value = "..." if it["default"] is None else shown(json.dumps(it["default"]))
+        rest = f" = {value}" if has_value else ""
+        return f"{attribute}override {item('override', it['name'], position)}: {self.type(it['ty'])}{rest}"
 
-    def values(self, way, values, positions):
-        """Yields the lines of inputs or outputs."""
-        for of, position in zip(values, positions, strict=True):
-            line = f"@builtin({word(of['builtin'])}) " if of["builtin"] else ""
+    def values(self, way, values, names):
+        """Yields the rows of inputs or outputs."""
+        for of, name in zip(values, names, strict=True):
+            line = f"@builtin({word(of['builtin'], WORDED)}) " if of["builtin"] else ""
             line += "".join(f"@{key}({of[key]}) " for key in ("location", "blend_src") if of[key] is not None)
-            flow = [word(of[key]) for key in ("interpolation", "sampling") if of[key]] if of["interpolation"] else []
-            line += f"@interpolate({', '.join(flow)}) " if flow else ""
-            line += "" if of["name"] is None else f"{shown(of['name'], position)}: "
-            yield f"  {way} {line}{self.typed(of)}"
+            flow = ", ".join(word(of[key], FLOWS) for key in ("interpolation", "sampling") if of[key])
+            yield f"{way} {line}{name}{self.type(of['ty'])}", flow
 
-    def positions(self, ty, position):
-        """Returns the numbers of the values that a value of this type is bound as."""
+    def names(self, ty, name):
+        """Returns what stands in front of the types of the values that a value of this type is bound as."""
         inner = self.module["types"][ty]["inner"]
-        return range(len(inner["Struct"]["members"])) if "Struct" in inner else [position]
+        if "Struct" not in inner:
+            return [name]
+        return [f"{item('member', of.get('name'), index)}: " for index, of in enumerate(inner["Struct"]["members"])]
 
-    def entries(self):
-        """Yields the lines of the entry points."""
-        for number, (it, of) in enumerate(zip(self.member["entry_points"], self.module["entry_points"], strict=True)):
-            size = zip(it["workgroup_size"], it["workgroup_overrides"], strict=True)
-            size = " x ".join(f"{many}" if given is None else f"expression #{given}" for many, given in size)
-            groups = "" if it["stage"] in ("vertex", "fragment") else f", work groups of {size}"
-            yield f"resources of entry point {shown(it['name'], number)} ({it['stage']}){groups}"
-            for use in it["uses"]:
-                ways = "".join(f" {way}" for way in ("read", "write", "query", "atomic") if use[way])
-                yield f"  uses {self.named(use['global'])}:{ways}"
-            for pair in it["sampled"]:
-                yield f"  samples {self.named(pair['image'])} with {self.named(pair['sampler'])}"
-            function = of["function"]
-            arguments = [at for index, it in enumerate(function["arguments"]) for at in self.positions(it["ty"], index)]
-            yield from self.values("input", it["inputs"], arguments)
-            result = function.get("result")
-            yield from self.values("output", it["outputs"], self.positions(result["ty"], 0) if result else [])
+    def entry(self, it, of):
+        """Returns the list on an entry point."""
+        function, result = of["function"], of["function"].get("result")
+        names = [self.names(at["ty"], f"{item('argument', at.get('name'), index)}: ") for index, at in enumerate(function["arguments"])]
+        rows = list(self.values("in ", it["inputs"], [name for part in names for name in part]))
+        rows += self.values("out", it["outputs"], self.names(result["ty"], "") if result else [])
+        return listed(f"inputs and outputs of {it['stage']} entry point `{shown(it['name'])}`", rows)
 
     def all(self):
-        """Returns the lines."""
-        unused = [f"no entry point uses {self.named(position)}" for position in self.member["unused"]]
-        return "".join(f"{line}\n" for line in [*self.globals(), *self.overrides(), *self.entries(), *unused])
+        """Returns the lists."""
+        variables = [(self.declared(position), self.room(it)) for position, it in enumerate(self.member["globals"])]
+        overrides = [(self.override(position, it), "") for position, it in enumerate(self.member["overrides"])]
+        points = zip(self.member["entry_points"], self.module["entry_points"], strict=True)
+        unused = [(self.declared(position), "") for position in self.member["unused"]]
+        entries = "".join(self.entry(it, of) for it, of in points)
+        return listed("global variables", variables) + listed("overrides", overrides) + entries + listed("used by no entry point", unused)
 
 
-def lines(module, answer):
-    """Returns the lines on the resources of a module."""
-    return Lines(module, resources(module, answer)).all()
+def lists(module, answer):
+    """Returns the lists on the resources of a module."""
+    return Lists(module, resources(module, answer)).all()

@@ -16,9 +16,11 @@ MODULES, UNIFORMITY, RULES = DATA / "modules", DATA / "uniformity", DATA / "line
 REPORT = program_of("report")
 ACCEPTED, REFUSED, BAD_USAGE, READ_FAILED, WRITE_FAILED, OUT_OF_MEMORY, NOT_MODULE = range(7)
 MODULE = re.compile(rb'"module"\s*:\s*')
-# The first line of a text on a refused module, and the first two lines of a block, of which a text has at most so many.
+# The first line of a text on a refused module, and the first two lines of a block, of which a text without --all has at most so many, and
+# the line on others.
 VERDICT, MOST_BLOCKS = re.compile(r"refused: ([1-9]\d*) errors?"), 20
 BLOCK = re.compile(r"(?m)^\nerror\[[A-Z]\d{3}\]: .+\n  --> .+$")
+MORE = re.compile(r"(?m)^\n\.\.\. and ([1-9]\d*) more, which `--all` shows$")
 INDEXING = {1: "textures", 2: "storage-textures", 3: "textures,storage-textures"}
 
 
@@ -118,7 +120,7 @@ class Asked:
             return f"standard error is {said.decode()!r}, wanted {self.said!r}"
         if "--json" not in self.words:
             text = output.decode(errors="replace")
-            return (wrong_refusal(text) if status == REFUSED else None) or self.judge(status, text)
+            return (wrong_refusal(text, self.words) if status == REFUSED else None) or self.judge(status, text)
         answer = read(output)
         return wrong_head(status, answer, self.text) or self.judge(status, parted(answer)[1])
 
@@ -133,12 +135,16 @@ def judge_answer(case, want, cause=None):
     return judge
 
 
-def wrong_refusal(text):
-    """Returns what is wrong with the text on a refused module, or None: its first and last line, and the number of its blocks."""
+def wrong_refusal(text, words):
+    """Returns what is wrong with the text on a refused module, or None: its first and last line, and the number of its blocks, which
+    --all doesn't limit."""
     lines = text.split("\n")
     count = VERDICT.fullmatch(lines[0])
     heads = len(BLOCK.findall(text))
-    good = count and lines[-2:] == [lines[0], ""] and heads == min(int(count[1]), MOST_BLOCKS)
+    more = MORE.search(text)
+    all_told = heads + (int(more[1]) if more else 0)
+    within = not more if "--all" in words else heads <= MOST_BLOCKS
+    good = count and lines[-2:] == [lines[0], ""] and all_told == int(count[1]) and within
     return None if good else f"{heads} blocks between the lines {lines[0]!r} and {lines[-2:]!r}"
 
 

@@ -98,6 +98,12 @@ pub struct Options {
     pub resources: bool,
     /// Draws structs in the text output.
     pub drawing: bool,
+    /// Declares structs in the text output, with the layouts of their members.
+    pub all_structs: bool,
+    /// Says in the text output what each code means, and why the result of an entry point may differ between invocations.
+    pub explain: bool,
+    /// Shows all errors, causes, entry points and globals in the text output, and not the first ones alone.
+    pub all: bool,
 }
 
 /// The bit for text output.
@@ -117,6 +123,9 @@ impl Options {
             | u32::from(self.non_uniform_storage_textures) << 2
             | u32::from(self.drawing) << 5
             | u32::from(self.resources) << 6
+            | u32::from(self.all_structs) << 16
+            | u32::from(self.explain) << 17
+            | u32::from(self.all) << 18
             | self.bounds_checks.map_or(0, BoundsCheckPolicies::bits)
     }
 }

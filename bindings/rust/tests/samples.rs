@@ -94,8 +94,18 @@ fn more_is_reported_on_request() {
         drawing: true,
         ..Options::default()
     };
+    let declared = Options {
+        all_structs: true,
+        ..Options::default()
+    };
+    let explained = Options {
+        explain: true,
+        ..Options::default()
+    };
     let plain = report_text(&module, Options::default()).unwrap().text;
-    assert!(report_text(&module, drawn).unwrap().text.len() > plain.len());
+    for options in [drawn, declared, explained] {
+        assert!(report_text(&module, options).unwrap().text.len() > plain.len());
+    }
 }
 
 #[test]

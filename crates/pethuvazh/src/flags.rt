@@ -21,8 +21,16 @@ const DRAWING: u32 = 32;
 const RESOURCES: u32 = 64;
 /// Reports bounds checks. Two bits with a policy for each kind of access follow; a policy implies this flag.
 const BOUNDS_CHECKS: u32 = 128;
+/// The lowest bit behind those of bounds checks.
+const BEHIND_POLICIES: u32 = 65_536;
+/// Declares all structs in the text output.
+const ALL_STRUCTS: u32 = 65_536;
+/// Explains codes and results in the text output.
+const EXPLAIN: u32 = 131_072;
+/// Shows all blocks, causes, entry points and globals in the text output.
+const ALL: u32 = 262_144;
 /// The lowest bit that is no flag.
-const NO_FLAG: u32 = 65_536;
+const NO_FLAG: u32 = 524_288;
 
 /// Adds a flag to the options if it is set.
 #[tactic(auto, unfolding(crate::specs::Flags::with_if))]
@@ -43,7 +51,10 @@ fn set_options(bits: u32) -> Options
     let is_storage = bits & INDEX_STORAGE_TEXTURES != 0;
     let indexing = with_if(textures, is_storage, Flag::IndexStorageTextures);
     let drawing = with_if(indexing, bits & DRAWING != 0, Flag::Drawing);
-    with_if(drawing, bits & RESOURCES != 0, Flag::Resources)
+    let resources = with_if(drawing, bits & RESOURCES != 0, Flag::Resources);
+    let structs = with_if(resources, bits & ALL_STRUCTS != 0, Flag::AllStructs);
+    let explained = with_if(structs, bits & EXPLAIN != 0, Flag::Explain);
+    with_if(explained, bits & ALL != 0, Flag::ShowAll)
 }
 
 /// Returns the policy with this number, if there is one.
@@ -78,7 +89,7 @@ fn policies_of(bits: u32) -> Option<BoundsCheckPolicies>
 fn with_policies(options: Options, bits: u32, policies: BoundsCheckPolicies) -> Options
     ensures { result ≡ with_policies options bits policies }
 {
-    if bits < BOUNDS_CHECKS {
+    if bits % BEHIND_POLICIES < BOUNDS_CHECKS {
         options
     } else {
         options.with(Flag::Policies(policies))

@@ -8,6 +8,8 @@ use Rattle.shader_analysis_spec.specs.Program.{Module}
 use Rattle.shader_json_reader.specs.Errors.{most_text_bytes}
 use Rattle.shader_json_reader.specs.declared.error.ReadError.TheVariants.{TooLong}
 use Rattle.shader_json_module.specs.Modules.{IsTextOf}
+use Rattle.report_diagnostics.specs.declared.diagnostic.Diagnostic.{Diagnostic}
+use Rattle.report_input.specs.Inputs.{IsOfError}
 use Rattle.report_answers.specs.Reports.{IsModuleReport, IsRefusal, IsReport}
 use Rattle.report_answers.specs.declared.options.Options.{Options}
 use Rattle.report_answers.specs.declared.reports.Outcome.{Outcome}
@@ -27,6 +29,25 @@ whole (Some all) (Some rest) input read ended = read ∙ (ap (λ r. input ++ r) 
 of_all : (P : List ℕ → Type 0) (before : Option (List ℕ)) (input : List ℕ) → IfSome before (λ all. all ≡ input) → P input → IfSome before P
 of_all P None input e holds = tt
 of_all P (Some all) input e holds = subst P (sym e) holds
+
+-- the diagnostic of too many bytes is the same of each input
+too_long : (input : List ℕ) (diagnostic : Diagnostic) → IsOfError [] TooLong diagnostic → IsOfError input TooLong diagnostic
+too_long input diagnostic h = record {
+  kind = h.kind;
+  has = h.has;
+  code = h.code;
+  severity = h.severity;
+  pointer = h.pointer;
+  byte = h.byte;
+  found = h.found;
+  placed = record {
+    path_is = h.placed.path_is;
+    pointer_is = h.placed.pointer_is;
+    byte_is = h.placed.byte_is;
+    line = h.placed.line;
+    column = h.placed.column;
+  };
+}
 
 module _ (options : Options) (before after : Option (List ℕ)) where
   abbrev Answer : (old new : Option (List ℕ)) → Status → Type 0
@@ -142,19 +163,8 @@ module _ (options : Options) (before after : Option (List ℕ)) where
   -- the text on too many bytes is the same of each input
   of_length : (is_json : Bool) (input text : List ℕ) → IsRefusal (record options { is_json = is_json }) [] TooLong text →
       IsRefusal (record options { is_json = is_json }) input TooLong text
-  of_length true input text h = record {
-    diagnostic = h.diagnostic;
-    of = record {
-      kind = h.of.kind;
-      has = h.of.has;
-      code = h.of.code;
-      severity = h.of.severity;
-      path = h.of.path;
-      placed = record { byte = h.of.placed.byte; line = h.of.placed.line; column = h.of.placed.column };
-    };
-    printed = h.printed;
-  }
-  of_length false input text h = h
+  of_length true input text h = record { diagnostic = h.diagnostic; of = too_long input h.diagnostic h.of; printed = h.printed }
+  of_length false input text h = record { diagnostic = h.diagnostic; of = too_long input h.diagnostic h.of; printed = h.printed }
 
   longer : (P : List ℕ → Type 0) (known left : Option (List ℕ)) (read : List ℕ) → Consumes known left read → most_text_bytes < length read →
       ((input : List ℕ) → most_text_bytes < length input → P input) → IfSome known P

@@ -11,6 +11,8 @@ What is checked
   --non-uniform-indexing=textures|storage-textures|textures,storage-textures
                                     arrays that the device can index by values that aren't uniform
 What is told
+  --explain                         what each code means, and why results may differ
+  --all                             everything that is left out where there is much
   --all-structs                     the layout of each struct
   --drawing                         the same, with its bytes
   --resources                       globals with sizes, overrides, inputs and outputs

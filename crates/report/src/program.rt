@@ -15,7 +15,7 @@ use report_answers::{Options, Outcome, Progress, Reading, Report, Stage};
 use shader_json_module::{MOST_BYTES, ReadError};
 use std::alloc::{AllocError, Global};
 
-/// Reads the whole input, drops it, builds the whole report, and then writes it. Errors of the input go to `errors`, unless they are JSON.
+/// Reads the whole input, builds the whole report, and then writes it. Errors of the input go to `errors`, unless they are JSON.
 pub fn run<R: Source, W: Sink, E: Sink, P: Progress>(
     alloc: Global,
     options: Options,
@@ -61,12 +61,11 @@ pub fn run<R: Source, W: Sink, E: Sink, P: Progress>(
         Err(InputError::TooLong) => return refuse(alloc, options, writer, errors, progress),
         Err(InputError::OutOfMemory) => return Status::OutOfMemory,
     };
-    let Ok(reading) = Reading::of(alloc, options, input.as_slice(), progress) else {
+    let bytes = input.as_slice();
+    let Ok(reading) = Reading::of(alloc, options, bytes, progress) else {
         return Status::OutOfMemory;
     };
-    // The report no longer needs the input, which may be large.
-    drop(input);
-    match Report::of(alloc, options, reading, progress) {
+    match Report::of(alloc, options, bytes, reading, progress) {
         Ok(report) => write_report(options, &report, writer, errors, progress),
         Err(AllocError) => Status::OutOfMemory,
     }

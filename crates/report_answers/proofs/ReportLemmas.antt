@@ -12,6 +12,7 @@ use Rattle.json.specs.Written.{Written}
 use Rattle.report_diagnostics.specs.Heads.{head_members}
 use Rattle.report_diagnostics.specs.declared.diagnostic.Diagnostic.{Diagnostic}
 use Rattle.report_findings.specs.Collected.{AreDiagnostics}
+use Rattle.report_input.specs.Located.{AreLocated}
 use Rattle.report_json.specs.Tokens.{Adds, object}
 use Rattle.report_model.specs.Analyzed.{IsAnalyzed, is_accepted, uniformity_of}
 use Rattle.report_model.specs.declared.analyzed.Analyzed.{Analyzed}
@@ -25,63 +26,55 @@ use Rattle.report_answers.specs.Reading.{IsRead}
 use Rattle.report_answers.specs.Reports.{verdict, IsDeep, IsDeepReport, IsJson, IsModuleReport, IsOutputOn, IsPeople, IsPrintedFor}
 use Rattle.report_answers.specs.Reports.{IsTextFor, IsTextOnAccepted, IsTextOnRefused, word_of}
 use Rattle.report_answers.specs.Reports.{IsReport, IsReportOn}
-use Rattle.report_answers.specs.Sections.{AreSections, EndsWithLines, IsRootIf}
+use Rattle.report_answers.specs.Sections.{AreSections, IsRootIf}
 use Rattle.report_answers.specs.declared.options.Options.{Options}
 use Rattle.report_answers.specs.declared.reports.Outcome.{Outcome}
 use Rattle.report_answers.specs.declared.reports.Outcome.TheVariants.{Accepted, Refused, NotModule}
 
-module _ (options : Options) (j : Json) (m : Module) where
+module _ (options : Options) (input : List ℕ) (j : Json) (m : Module) where
   by_verdict : (accepted : Bool) (outcome : Outcome) (text : List ℕ) → outcome ≡ verdict accepted →
-      IsOutputOn options j m accepted text → IsReportOn options j m outcome text
-  by_verdict true outcome text e output = subst (λ (o : Outcome). IsReportOn options j m o text) (sym e) output
-  by_verdict false outcome text e output = subst (λ (o : Outcome). IsReportOn options j m o text) (sym e) output
+      IsOutputOn options input j m accepted text → IsReportOn options input j m outcome text
+  by_verdict true outcome text e output = subst (λ (o : Outcome). IsReportOn options input j m o text) (sym e) output
+  by_verdict false outcome text e output = subst (λ (o : Outcome). IsReportOn options input j m o text) (sym e) output
 
   module _ (analyzed : Analyzed) (found : IsAnalyzed m (settings options) (checks_uniformity options) analyzed) (outcome : Outcome)
       (text : List ℕ) (accepted : Bool) (is : accepted ≡ is_accepted analyzed) (ends : outcome ≡ verdict accepted) where
-    reported : IsPrintedFor options.is_json options j m analyzed text → IsReportOn options j m outcome text
+    reported : IsPrintedFor options.is_json options input j m analyzed text → IsReportOn options input j m outcome text
     reported printed =
         by_verdict accepted outcome text ends (record { analyzed = analyzed; found = found; verdict = is; printed = printed })
 
-    pub json_reported : options.is_json ≡ true → IsJson options j m analyzed text → IsReportOn options j m outcome text
-    json_reported json printed = reported (subst (λ (b : Bool). IsPrintedFor b options j m analyzed text) (sym json) printed)
+    pub json_reported : options.is_json ≡ true → IsJson options input j m analyzed text → IsReportOn options input j m outcome text
+    json_reported json printed = reported (subst (λ (b : Bool). IsPrintedFor b options input j m analyzed text) (sym json) printed)
 
-    pub people_reported : options.is_json ≡ false → IsPeople options j m analyzed text → IsReportOn options j m outcome text
-    people_reported people printed = reported (subst (λ (b : Bool). IsPrintedFor b options j m analyzed text) (sym people) printed)
+    pub people_reported : options.is_json ≡ false → IsPeople options input j m analyzed text → IsReportOn options input j m outcome text
+    people_reported people printed = reported (subst (λ (b : Bool). IsPrintedFor b options input j m analyzed text) (sym people) printed)
 
   module _ (analyzed : Analyzed) where
-    -- a text that ends with the lines still does behind another one
-    pub still_ends : (before text : List ℕ) → EndsWithLines options j m analyzed text → EndsWithLines options j m analyzed (before ++ text)
-    still_ends before text ends = record {
-      before = before ++ ends.before;
-      resources = ends.resources;
-      resources_asked = ends.resources_asked;
-      printed = ap (λ (more : List ℕ). before ++ more) ends.printed ∙ sym (append_assoc before ends.before ends.resources);
-    }
-
     -- the text on an accepted module
     pub people_accepted : {Z : Type 0} (text : String Z) → is_accepted analyzed ≡ true →
-        IsTextOnAccepted options j m analyzed (string_bytes text) → IsPeople options j m analyzed (string_bytes text)
+        IsTextOnAccepted options j m analyzed (string_bytes text) → IsPeople options input j m analyzed (string_bytes text)
     people_accepted text accepted printed = record {
       utf8 = IsUtf8-string_bytes text;
-      printed = subst (λ (b : Bool). IsTextFor b options j m analyzed (string_bytes text)) (sym accepted) printed;
+      printed = subst (λ (b : Bool). IsTextFor b options input j m analyzed (string_bytes text)) (sym accepted) printed;
     }
 
     -- the text on a refused module
     pub people_refused : {Z : Type 0} (text : String Z) → is_accepted analyzed ≡ false →
-        IsTextOnRefused options j m analyzed (string_bytes text) → IsPeople options j m analyzed (string_bytes text)
+        IsTextOnRefused options input j m analyzed (string_bytes text) → IsPeople options input j m analyzed (string_bytes text)
     people_refused text refused printed = record {
       utf8 = IsUtf8-string_bytes text;
-      printed = subst (λ (b : Bool). IsTextFor b options j m analyzed (string_bytes text)) (sym refused) printed;
+      printed = subst (λ (b : Bool). IsTextFor b options input j m analyzed (string_bytes text)) (sym refused) printed;
     }
 
     -- the bytes of an object that is written from nothing, with the end of the line
-    pub object_written : (start end : Written) (text line : List ℕ) (diagnostics : List Diagnostic) (found sections : List Token) →
-        start.before ≡ [] → start.tokens ≡ [] → AreDiagnostics m analyzed diagnostics →
+    pub object_written : (start end : Written) (text line : List ℕ) (faults diagnostics : List Diagnostic)
+        (found sections : List Token) → start.before ≡ [] → start.tokens ≡ [] → AreDiagnostics m analyzed faults →
+        AreLocated input faults diagnostics →
         AreModuleMembers analyzed found → AreSections options j m analyzed sections →
         Adds start end (begin_object ∷ (head_members (word_of (is_accepted analyzed)) diagnostics
         ++ (verdict_members (uniformity_of analyzed) ++ (found ++ (sections ++ end_object ∷ []))))) →
-        text ≡ end.before ++ print end.tokens → line ≡ text ++ 10 ∷ [] → IsJson options j m analyzed line
-    object_written start end text line diagnostics found sections before none diagnosed are asked adds bytes ends =
+        text ≡ end.before ++ print end.tokens → line ≡ text ++ 10 ∷ [] → IsJson options input j m analyzed line
+    object_written start end text line faults diagnostics found sections before none diagnosed located are asked adds bytes ends =
         let head = head_members (word_of (is_accepted analyzed)) diagnostics in
         let flow = verdict_members (uniformity_of analyzed) in
         let all = object (head ++ (flow ++ (found ++ sections))) in
@@ -94,8 +87,10 @@ module _ (options : Options) (j : Json) (m : Module) where
         adds.added ∙ ap (λ (ts : List Token). ts ++ (begin_object ∷ (head ++ (flow ++ (found ++ (sections ++ end_object ∷ [])))))) none
         ∙ regrouped in
         record {
+          faults = faults;
+          faults_are = diagnosed;
           diagnostics = diagnostics;
-          diagnostics_are = diagnosed;
+          located = located;
           found = found;
           found_are = are;
           sections = sections;
@@ -104,38 +99,38 @@ module _ (options : Options) (j : Json) (m : Module) where
               (bytes ∙ ap (λ (v : List ℕ). v ++ print end.tokens) (adds.before ∙ before) ∙ ap print tokens);
         }
 
-  is_text : (input : List ℕ) → document input ≡ Some j → IsModule j m → IsTextOf input m
-  is_text input parses stands = subst (λ (found : Option Json). MatchOption found ⊥ (λ j. IsModule j m)) (sym parses) stands
+  is_text : document input ≡ Some j → IsModule j m → IsTextOf input m
+  is_text parses stands = subst (λ (found : Option Json). MatchOption found ⊥ (λ j. IsModule j m)) (sym parses) stands
 
-  is_document : (input : List ℕ) → document input ≡ Some j → IsSome (document input)
-  is_document input parses = subst (λ (found : Option Json). IsSome found) (sym parses) refl
+  is_document : document input ≡ Some j → IsSome (document input)
+  is_document parses = subst (λ (found : Option Json). IsSome found) (sym parses) refl
 
-  spelled : (input : List ℕ) (accepted : Bool) (text : List ℕ) → IsUtf8 input → document input ≡ Some j → IsModule j m →
-      IsOutputOn options j m accepted text → IsModuleReport options input accepted text
-  spelled input accepted text utf8 parses stands output = record {
+  spelled : (accepted : Bool) (text : List ℕ) → IsUtf8 input → document input ≡ Some j → IsModule j m →
+      IsOutputOn options input j m accepted text → IsModuleReport options input accepted text
+  spelled accepted text utf8 parses stands output = record {
     utf8 = utf8;
-    parses = is_document input parses;
+    parses = is_document parses;
     m = m;
-    stands = is_text input parses stands;
+    stands = is_text parses stands;
     output = record { j = j; parses = parses; output = output };
   }
 
-  nested : (input text : List ℕ) → IsUtf8 input → document input ≡ Some j → IsModule j m → IsDeep options m text →
+  nested : (text : List ℕ) → IsUtf8 input → document input ≡ Some j → IsModule j m → IsDeep options m text →
       IsDeepReport options input text
-  nested input text utf8 parses stands deep = record {
+  nested text utf8 parses stands deep = record {
     utf8 = utf8;
-    parses = is_document input parses;
+    parses = is_document parses;
     m = m;
-    stands = is_text input parses stands;
+    stands = is_text parses stands;
     nested = deep;
   }
 
   -- the report on a module that the input spells
-  pub module_told : (input : List ℕ) (outcome : Outcome) (text : List ℕ) → IsUtf8 input → document input ≡ Some j → IsModule j m →
-      IsReportOn options j m outcome text → IsReport options input outcome text
-  module_told input Accepted text utf8 parses stands report = spelled input true text utf8 parses stands report
-  module_told input Refused text utf8 parses stands report = spelled input false text utf8 parses stands report
-  module_told input NotModule text utf8 parses stands report = inr (nested input text utf8 parses stands report)
+  pub module_told : (outcome : Outcome) (text : List ℕ) → IsUtf8 input → document input ≡ Some j → IsModule j m →
+      IsReportOn options input j m outcome text → IsReport options input outcome text
+  module_told Accepted text utf8 parses stands report = spelled true text utf8 parses stands report
+  module_told Refused text utf8 parses stands report = spelled false text utf8 parses stands report
+  module_told NotModule text utf8 parses stands report = inr (nested text utf8 parses stands report)
 
 -- no JSON is needed if resources aren't asked for
 pub no_root : (has_resources : Bool) (j : Json) → has_resources ≡ false → IsRootIf has_resources j None
@@ -143,8 +138,21 @@ no_root has_resources j unasked = subst (λ (b : Bool). IsRootIf b j None) (sym 
 
 -- the report on a module that was read of an input
 pub read_told : (options : Options) (input : List ℕ) (m : Module) (outcome : Outcome) (text : List ℕ) →
-    ((j : Json) → IsRootIf options.has_resources j None → IsReportOn options j m outcome text) →
+    ((j : Json) → IsRootIf options.has_resources j None → IsReportOn options input j m outcome text) →
     IsRead input m × (options.has_resources ≡ false) → IsReport options input outcome text
 read_told options input m outcome text on read =
-    module_told options read.0.j m input outcome text read.0.utf8 read.0.parses read.0.stands
+    module_told options input read.0.j m outcome text read.0.utf8 read.0.parses read.0.stands
     (on read.0.j (no_root options.has_resources read.0.j read.1))
+
+-- the JSON is at hand
+some_root : (has_resources : Bool) (j : Json) → IsRootIf has_resources j (Some j)
+some_root true j = refl
+some_root false j = tt
+
+-- the report on a module while its JSON is at hand
+pub value_told : (options : Options) (input : List ℕ) (j : Json) (m : Module) (outcome : Outcome) (text : List ℕ) →
+    IsUtf8 input → document input ≡ Some j → IsModule j m →
+    ((k : Json) → IsRootIf options.has_resources k (Some j) → IsReportOn options input k m outcome text) →
+    IsReport options input outcome text
+value_told options input j m outcome text utf8 parses stands on =
+    module_told options input j m outcome text utf8 parses stands (on j (some_root options.has_resources j))

@@ -10,6 +10,7 @@ use Rattle.report_answers.specs.declared.options.Flag.{Flag}
 use Rattle.report_answers.specs.declared.options.Flag.TheVariants.{Json, FormatText, FormatJson, WgslFlow, NagaFlow, AnyFlow, NoFlow}
 use Rattle.report_answers.specs.declared.options.Flag.TheVariants.{IndexTextures, IndexStorageTextures, IndexBoth, IndexBothTurned}
 use Rattle.report_answers.specs.declared.options.Flag.TheVariants.{Bounds, Policies, Resources, AllStructs, Drawing, NoDrawing}
+use Rattle.report_answers.specs.declared.options.Flag.TheVariants.{Explain, ShowAll}
 use Rattle.report_answers.specs.declared.options.Options.{Options}
 
 set_twice : {A : Type 0} → true ≡ false → A
@@ -79,6 +80,8 @@ change o Drawing Drawing unset twice = set_twice twice
 change o Drawing NoDrawing unset twice = set_twice twice
 change o NoDrawing Drawing unset twice = set_twice twice
 change o NoDrawing NoDrawing unset twice = set_twice twice
+change o Explain Explain unset twice = set_twice twice
+change o ShowAll ShowAll unset twice = set_twice twice
 change o one other unset also = record { unset = also; still_unset = unset; same = refl }
 
 at_once : (b : Bool) (index : ℕ) (o : Options) (next : Options → Result Options BadWord) (r : Options)
@@ -149,6 +152,8 @@ is_set-with o Resources Resources = refl
 is_set-with o AllStructs AllStructs = refl
 is_set-with o Drawing Drawing = refl
 is_set-with o NoDrawing NoDrawing = refl
+is_set-with o Explain Explain = refl
+is_set-with o ShowAll ShowAll = refl
 is_set-with o one other = refl
 
 is_set-start : (flag : Flag) → is_set start flag ≡ false

@@ -15,6 +15,7 @@ use Rattle.report_answers.specs.declared.options.Flag.{Flag}
 use Rattle.report_answers.specs.declared.options.Flag.TheVariants.{Json, FormatText, FormatJson, WgslFlow, NagaFlow, AnyFlow, NoFlow}
 use Rattle.report_answers.specs.declared.options.Flag.TheVariants.{IndexTextures, IndexStorageTextures, IndexBoth, IndexBothTurned}
 use Rattle.report_answers.specs.declared.options.Flag.TheVariants.{Bounds, Policies, Resources, AllStructs, Drawing, NoDrawing}
+use Rattle.report_answers.specs.declared.options.Flag.TheVariants.{Explain, ShowAll}
 use Rattle.report_answers.specs.declared.options.FlowCheck.{FlowCheck}
 use Rattle.report_answers.specs.declared.options.FlowCheck.TheVariants.{Wgsl, Naga, Off}
 use Rattle.report_answers.specs.declared.options.BadWord.{BadWord}
@@ -39,11 +40,13 @@ flag_text Resources = codes "--resources"
 flag_text AllStructs = codes "--all-structs"
 flag_text Drawing = codes "--drawing"
 flag_text NoDrawing = codes "--no-drawing"
+flag_text Explain = codes "--explain"
+flag_text ShowAll = codes "--all"
 
 abbrev pub all_flags : List Flag
 all_flags =
     Json ∷ FormatText ∷ FormatJson ∷ WgslFlow ∷ NagaFlow ∷ AnyFlow ∷ NoFlow ∷ IndexTextures ∷ IndexStorageTextures ∷ IndexBoth
-    ∷ IndexBothTurned ∷ Bounds ∷ Resources ∷ AllStructs ∷ Drawing ∷ NoDrawing ∷ []
+    ∷ IndexBothTurned ∷ Bounds ∷ Resources ∷ AllStructs ∷ Drawing ∷ NoDrawing ∷ Explain ∷ ShowAll ∷ []
 
 abbrev pub named_flag : List ℕ → Option Flag
 named_flag word = find (λ flag. bytes_eq (flag_text flag) word) all_flags
@@ -65,6 +68,8 @@ start = record {
   has_resources = false;
   has_structs = false;
   drawing = None;
+  explains = false;
+  shows_all = false;
 }
 
 abbrev pub indexing_both : Options → Options
@@ -89,6 +94,8 @@ with options Resources = record options { has_resources = true }
 with options AllStructs = record options { has_structs = true }
 with options Drawing = record options { drawing = Some true }
 with options NoDrawing = record options { drawing = Some false }
+with options Explain = record options { explains = true }
+with options ShowAll = record options { shows_all = true }
 
 abbrev policies_or : Option BoundsCheckPolicies → Bool → Option BoundsCheckPolicies
 policies_or (Some policies) has_bounds = Some policies
@@ -133,6 +140,8 @@ is_set options Resources = options.has_resources
 is_set options AllStructs = options.has_structs
 is_set options Drawing = is_some options.drawing
 is_set options NoDrawing = is_some options.drawing
+is_set options Explain = options.explains
+is_set options ShowAll = options.shows_all
 
 abbrev pub once : Bool → ℕ → Options → Result Options BadWord
 once true index options = Err (Twice index)

@@ -1,10 +1,11 @@
 -- The report on the module that an input is.
-use Rattle.std.specs.Prelude.{◌≡◌, ◌⊎◌, ◌++◌, ◌∷◌, [], ℕ, Bool, true, false, List, IsSome, Option, Some, None}
+use Rattle.std.specs.Prelude.{◌≡◌, ◌⊎◌, ◌++◌, ◌∷◌, [], ℕ, Bool, true, false, List, IsSome, Option, Some, None, ⊤}
 use Rattle.std.specs.Str.{IsUtf8}
 use Rattle.json.specs.Json.{Json, document}
 use Rattle.json.specs.Print.{print}
 use Rattle.json.specs.Token.{Token}
-use Rattle.report_blocks.specs.Refusals.{IsRefusalText}
+use Rattle.report_blocks.specs.Refusals.{IsInputText, IsRefusalText}
+use Rattle.report_blocks.specs.declared.detail.Detail.{Detail}
 use Rattle.report_diagnostics.specs.Heads.{head_members}
 use Rattle.report_diagnostics.specs.declared.diagnostic.Diagnostic.{Diagnostic}
 use Rattle.report_diagnostics.specs.declared.head.Verdict.{Verdict}
@@ -15,6 +16,7 @@ use Rattle.report_model.specs.declared.analyzed.Analyzed.{Analyzed}
 use Rattle.report_summary.specs.Summaries.{IsSummaryText}
 use Rattle.shader_analysis_spec.specs.Program.{Module}
 use Rattle.shader_interface.specs.declared.bound.ResourceBinding.{ResourceBinding}
+use Rattle.shader_interface.specs.declared.workgroup.WorkgroupSize.{WorkgroupSize}
 use Rattle.shader_json_module.specs.Modules.{IsTextOf}
 use Rattle.shader_json_reader.specs.Errors.{IsAccurate}
 use Rattle.shader_json_reader.specs.declared.error.ReadError.{ReadError}
@@ -22,7 +24,9 @@ use Rattle.shader_report_json.specs.Answers.{AreModuleMembers}
 use Rattle.shader_resolve.specs.Nesting.{NestsWithin}
 use Rattle.report_answers.specs.Verdicts.{verdict_members}
 use Rattle.report_findings.specs.Collected.{AreDiagnostics}
-use Rattle.report_input.specs.Errors.{IsErrorText, IsNestingObject, IsObjectText, nesting_text}
+use Rattle.report_input.specs.Errors.{IsNestingObject, IsObjectText, IsOfNesting}
+use Rattle.report_input.specs.Inputs.{IsOfError}
+use Rattle.report_input.specs.Located.{AreLocated}
 use Rattle.report_answers.specs.Options.{checks_uniformity, settings}
 use Rattle.report_answers.specs.Sections.{AreSections, EndsWithLines}
 use Rattle.report_answers.specs.declared.options.Options.{Options}
@@ -34,11 +38,13 @@ abbrev pub word_of : Bool → Verdict
 word_of true = heads.Accepted
 word_of false = heads.Refused
 
--- as JSON the text is an object: the verdict and a diagnostic for each fault, then the verdict on uniform flow, what was found of the
--- module, and the sections that words ask for
-pub record IsJson (options : Options) (j : Json) (m : Module) (analyzed : Analyzed) (text : List ℕ) : Type 0 where
+-- as JSON the text is an object: the verdict and a diagnostic for each fault, with its place in the input if only that shows it; then the
+-- verdict on uniform flow, what was found of the module, and the sections that words ask for
+pub record IsJson (options : Options) (input : List ℕ) (j : Json) (m : Module) (analyzed : Analyzed) (text : List ℕ) : Type 0 where
+  pub faults : List Diagnostic
+  pub faults_are : AreDiagnostics m analyzed faults
   pub diagnostics : List Diagnostic
-  pub diagnostics_are : AreDiagnostics m analyzed diagnostics
+  pub located : AreLocated input faults diagnostics
   pub found : List Token
   pub found_are : AreModuleMembers analyzed found
   pub sections : List Token
@@ -46,66 +52,92 @@ pub record IsJson (options : Options) (j : Json) (m : Module) (analyzed : Analyz
   pub printed : text ≡ print (object (head_members (word_of (is_accepted analyzed)) diagnostics
       ++ (verdict_members (uniformity_of analyzed) ++ (found ++ sections)))) ++ 10 ∷ []
 
--- in text output on a refused module: the verdict, its diagnostics, and the resources that options ask for
-pub record IsTextOnRefused (options : Options) (j : Json) (m : Module) (analyzed : Analyzed) (text : List ℕ) : Type 0 where
+-- how much of diagnostics is printed
+abbrev pub block_detail : Options → Detail
+block_detail options = record { explains = options.explains; shows_all = options.shows_all }
+
+-- no entry point has a reason unasked
+abbrev pub AreReasonsAsked : Bool → (reasons : List (List ℕ)) → Type 0
+AreReasonsAsked true reasons = ⊤
+AreReasonsAsked false reasons = reasons ≡ []
+
+-- in text output on a refused module: the verdict, the same diagnostics, which are all shown if options ask for that, and the resources
+pub record IsTextOnRefused (options : Options) (input : List ℕ) (j : Json) (m : Module) (analyzed : Analyzed) (text : List ℕ) : Type 0 where
+  pub faults : List Diagnostic
+  pub faults_are : AreDiagnostics m analyzed faults
   pub diagnostics : List Diagnostic
-  pub diagnostics_are : AreDiagnostics m analyzed diagnostics
+  pub located : AreLocated input faults diagnostics
   pub sections : List ℕ
   pub lines : EndsWithLines options j m analyzed sections
-  pub is : IsRefusalText m diagnostics sections text
+  pub is : IsRefusalText m diagnostics (block_detail options) sections text
 
--- on an accepted module: the verdict with counts, what each entry point uses, and the resources that options ask for
+-- on an accepted module: the verdict with counts, what each entry point uses, with a reason if options ask for it, and the resources
 pub record IsTextOnAccepted (options : Options) (j : Json) (m : Module) (analyzed : Analyzed) (text : List ℕ) : Type 0 where
   pub sections : List ℕ
   pub lines : EndsWithLines options j m analyzed sections
   pub bindings : List (Option ResourceBinding)
-  pub is : IsSummaryText m (info_of analyzed) bindings sections text
+  pub groups : List WorkgroupSize
+  pub reasons : List (List ℕ)
+  pub reasons_asked : AreReasonsAsked options.explains reasons
+  pub is : IsSummaryText m groups reasons options.shows_all (info_of analyzed) bindings sections text
 
-abbrev pub IsTextFor : Bool → Options → Json → Module → Analyzed → List ℕ → Type 0
-IsTextFor true options j m analyzed text = IsTextOnAccepted options j m analyzed text
-IsTextFor false options j m analyzed text = IsTextOnRefused options j m analyzed text
+abbrev pub IsTextFor : Bool → Options → (input : List ℕ) → Json → Module → Analyzed → List ℕ → Type 0
+IsTextFor true options input j m analyzed text = IsTextOnAccepted options j m analyzed text
+IsTextFor false options input j m analyzed text = IsTextOnRefused options input j m analyzed text
 
 -- for people it is UTF-8
-pub record IsPeople (options : Options) (j : Json) (m : Module) (analyzed : Analyzed) (text : List ℕ) : Type 0 where
+pub record IsPeople (options : Options) (input : List ℕ) (j : Json) (m : Module) (analyzed : Analyzed) (text : List ℕ) : Type 0 where
   pub utf8 : IsUtf8 text
-  pub printed : IsTextFor (is_accepted analyzed) options j m analyzed text
+  pub printed : IsTextFor (is_accepted analyzed) options input j m analyzed text
 
-abbrev pub IsPrintedFor : Bool → Options → Json → Module → Analyzed → List ℕ → Type 0
-IsPrintedFor true options j m analyzed text = IsJson options j m analyzed text
-IsPrintedFor false options j m analyzed text = IsPeople options j m analyzed text
+abbrev pub IsPrintedFor : Bool → Options → (input : List ℕ) → Json → Module → Analyzed → List ℕ → Type 0
+IsPrintedFor true options input j m analyzed text = IsJson options input j m analyzed text
+IsPrintedFor false options input j m analyzed text = IsPeople options input j m analyzed text
 
 -- the text is the report on a module for which the JSON stands: the verdict is by what is found of it, and that is printed
-pub record IsOutputOn (options : Options) (j : Json) (m : Module) (accepted : Bool) (text : List ℕ) : Type 0 where
+pub record IsOutputOn (options : Options) (input : List ℕ) (j : Json) (m : Module) (accepted : Bool) (text : List ℕ) : Type 0 where
   pub analyzed : Analyzed
   pub found : IsAnalyzed m (settings options) (checks_uniformity options) analyzed
   pub verdict : accepted ≡ is_accepted analyzed
-  pub printed : IsPrintedFor options.is_json options j m analyzed text
+  pub printed : IsPrintedFor options.is_json options input j m analyzed text
 
 -- the text is the report on a module by the JSON that the input spells
 pub record IsOutput (options : Options) (input : List ℕ) (m : Module) (accepted : Bool) (text : List ℕ) : Type 0 where
   pub j : Json
   pub parses : document input ≡ Some j
-  pub output : IsOutputOn options j m accepted text
+  pub output : IsOutputOn options input j m accepted text
 
 abbrev pub verdict : Bool → Outcome
 verdict true = Accepted
 verdict false = Refused
 
+-- for people, the text on an input with an error is the block of its diagnostic
+pub record IsErrorText (options : Options) (input : List ℕ) (error : ReadError) (text : List ℕ) : Type 0 where
+  pub diagnostic : Diagnostic
+  pub of : IsOfError input error diagnostic
+  pub printed : IsInputText options.explains diagnostic text
+
 -- the text of an error of the input, as JSON or for people
-abbrev IsErrorFor : Bool → List ℕ → ReadError → List ℕ → Type 0
-IsErrorFor true input error text = IsObjectText input error text
-IsErrorFor false input error text = IsErrorText input error text
+abbrev IsErrorFor : Bool → Options → List ℕ → ReadError → List ℕ → Type 0
+IsErrorFor true options input error text = IsObjectText input error text
+IsErrorFor false options input error text = IsErrorText options input error text
 
 abbrev pub IsRefusal : Options → List ℕ → ReadError → List ℕ → Type 0
-IsRefusal options input error text = IsErrorFor options.is_json input error text
+IsRefusal options input error text = IsErrorFor options.is_json options input error text
+
+-- for people, the text on blocks that nest too deep is the block of their diagnostic
+pub record IsNestingText (options : Options) (text : List ℕ) : Type 0 where
+  pub diagnostic : Diagnostic
+  pub of : IsOfNesting diagnostic
+  pub printed : IsInputText options.explains diagnostic text
 
 -- the text on blocks that nest too deep
-abbrev IsNestingFor : Bool → List ℕ → Type 0
-IsNestingFor true text = IsNestingObject text
-IsNestingFor false text = text ≡ nesting_text
+abbrev IsNestingFor : Bool → Options → List ℕ → Type 0
+IsNestingFor true options text = IsNestingObject text
+IsNestingFor false options text = IsNestingText options text
 
 abbrev pub IsNesting : Options → List ℕ → Type 0
-IsNesting options text = IsNestingFor options.is_json text
+IsNesting options text = IsNestingFor options.is_json options text
 
 -- blocks of the module nest more than 4,000 deep, and the text says so
 pub record IsDeep (options : Options) (m : Module) (text : List ℕ) : Type 0 where
@@ -113,10 +145,10 @@ pub record IsDeep (options : Options) (m : Module) (text : List ℕ) : Type 0 wh
   pub told : IsNesting options text
 
 -- the text is the report on a module for which the JSON stands
-abbrev pub IsReportOn : Options → Json → Module → Outcome → List ℕ → Type 0
-IsReportOn options j m Accepted text = IsOutputOn options j m true text
-IsReportOn options j m Refused text = IsOutputOn options j m false text
-IsReportOn options j m NotModule text = IsDeep options m text
+abbrev pub IsReportOn : Options → (input : List ℕ) → Json → Module → Outcome → List ℕ → Type 0
+IsReportOn options input j m Accepted text = IsOutputOn options input j m true text
+IsReportOn options input j m Refused text = IsOutputOn options input j m false text
+IsReportOn options input j m NotModule text = IsDeep options m text
 
 -- the text is the report on a module for which the JSON of the input stands
 pub record IsModuleReport (options : Options) (input : List ℕ) (accepted : Bool) (text : List ℕ) : Type 0 where

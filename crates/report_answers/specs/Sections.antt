@@ -8,9 +8,12 @@ use Rattle.shader_analysis.specs.Recorded.{Recorded}
 use Rattle.shader_analysis_spec.specs.Program.{Module}
 use Rattle.shader_bounds.specs.declared.policies.BoundsCheckPolicies.{BoundsCheckPolicies}
 use Rattle.shader_interface.specs.Bound.{bound_first}
+use Rattle.shader_interface.specs.Workgroups.{workgroups_first}
 use Rattle.shader_interface.specs.declared.bound.ResourceBinding.{ResourceBinding}
+use Rattle.shader_interface.specs.declared.workgroup.WorkgroupSize.{WorkgroupSize}
 use Rattle.shader_ir.specs.declared.proc.layouter.TypeLayout.{TypeLayout}
 use Rattle.shader_report_bounds.specs.Bounds.{AreModuleBounds}
+use Rattle.shader_report_bounds.specs.Texts.{IsBoundsText}
 use Rattle.shader_report_bounds.specs.Tokens.{bounds_tokens}
 use Rattle.shader_report_bounds.specs.declared.module_bounds.ModuleBounds.{ModuleBounds}
 use Rattle.shader_report_resources.specs.Resources.{AreResources, AreResourcesLines}
@@ -26,6 +29,17 @@ AreBoundsFor None info m found = found ≡ None
 
 abbrev pub AreBoundsAsked : Options → Module → Analyzed → Option ModuleBounds → Type 0
 AreBoundsAsked options m analyzed found = AreBoundsFor (bounds_of options) (info_of analyzed) m found
+
+-- the checks that were found, as text for people
+abbrev pub IsTextOfBounds : Option BoundsCheckPolicies → Option ModuleBounds → Module → List ℕ → Type 0
+IsTextOfBounds (Some policies) (Some found) m text = IsBoundsText m policies found text
+IsTextOfBounds (Some policies) None m text = text ≡ []
+IsTextOfBounds None found m text = text ≡ []
+
+pub record AreBoundsLines (options : Options) (m : Module) (analyzed : Analyzed) (text : List ℕ) : Type 0 where
+  pub found : Option ModuleBounds
+  pub asked : AreBoundsAsked options m analyzed found
+  pub printed : IsTextOfBounds (bounds_of options) found m text
 
 abbrev pub bounds_members : Option ModuleBounds → List Token
 bounds_members (Some bounds) = key (codes "bounds") ∷ bounds_tokens bounds
@@ -46,7 +60,7 @@ AreResourcesFor false found j m tokens = tokens ≡ []
 abbrev pub AreResourcesAsked : Options → Json → Module → Analyzed → List Token → Type 0
 AreResourcesAsked options j m analyzed tokens = AreResourcesFor options.has_resources (sound_of analyzed) j m tokens
 
--- the same as lines for people
+-- the same as lists for people
 abbrev AreLinesFor : Bool → Option (List TypeLayout × Recorded) → Json → Module → List ℕ → Type 0
 AreLinesFor true (Some found) j m text = AreResourcesLines j m found.0 found.1 text
 AreLinesFor true None j m text = text ≡ []
@@ -69,12 +83,14 @@ pub record AreSections (options : Options) (j : Json) (m : Module) (analyzed : A
   pub resources_asked : AreResourcesAsked options j m analyzed resources
   pub written : tokens ≡ bounds_members bounds ++ resources
 
--- the text for people ends with the lines on resources that words ask for
+-- the text for people ends with the bounds checks and the resources that words ask for
 pub record EndsWithLines (options : Options) (j : Json) (m : Module) (analyzed : Analyzed) (text : List ℕ) : Type 0 where
   pub before : List ℕ
+  pub bounds : List ℕ
+  pub bounds_asked : AreBoundsLines options m analyzed bounds
   pub resources : List ℕ
   pub resources_asked : AreLinesAsked options j m analyzed resources
-  pub printed : text ≡ before ++ resources
+  pub printed : text ≡ before ++ (bounds ++ resources)
 
 -- for people, where the JSON has the host bind each global variable of the module; JSON has its resources as a member of their own
 abbrev AreBindingsFor : Bool → Json → Module → List (Option ResourceBinding) → Type 0
@@ -83,3 +99,11 @@ AreBindingsFor false j m bindings = bindings ≡ bound_first j (length m.global_
 
 abbrev pub AreBindings : Options → Json → Module → List (Option ResourceBinding) → Type 0
 AreBindings options j m bindings = AreBindingsFor options.is_json j m bindings
+
+-- and the size of the work groups of each entry point
+abbrev AreGroupsFor : Bool → Json → Module → List WorkgroupSize → Type 0
+AreGroupsFor true j m groups = groups ≡ []
+AreGroupsFor false j m groups = groups ≡ workgroups_first j (length m.entry_points)
+
+abbrev pub AreGroups : Options → Json → Module → List WorkgroupSize → Type 0
+AreGroups options j m groups = AreGroupsFor options.is_json j m groups

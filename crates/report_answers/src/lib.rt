@@ -7,6 +7,7 @@ mod options;
 mod policies;
 mod progress;
 mod reading;
+mod reasons;
 mod reports;
 mod sections;
 mod verdict;

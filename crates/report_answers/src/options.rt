@@ -55,6 +55,10 @@ pub enum Flag {
     Drawing,
     /// Doesn't draw structs.
     NoDrawing,
+    /// Explains codes, and why results may differ.
+    Explain,
+    /// Shows all blocks, causes, entry points and globals.
+    ShowAll,
 }
 
 /// The reason why arguments are refused, with the index of the first wrong one.
@@ -68,7 +72,7 @@ pub enum BadWord {
 
 impl Flag {
     /// The flags with a fixed argument each: all except policies.
-    pub const ALL: [Flag; 16] = [
+    pub const ALL: [Flag; 18] = [
         Flag::Json,
         Flag::FormatText,
         Flag::FormatJson,
@@ -85,6 +89,8 @@ impl Flag {
         Flag::AllStructs,
         Flag::Drawing,
         Flag::NoDrawing,
+        Flag::Explain,
+        Flag::ShowAll,
     ];
 
     /// Returns the command line argument that sets the flag. It is empty for policies, which many arguments set.
@@ -109,6 +115,8 @@ impl Flag {
             Flag::AllStructs => "--all-structs",
             Flag::Drawing => "--drawing",
             Flag::NoDrawing => "--no-drawing",
+            Flag::Explain => "--explain",
+            Flag::ShowAll => "--all",
         }
     }
 
@@ -174,6 +182,10 @@ pub struct Options {
     pub has_structs: bool,
     /// Whether the text output has drawings of structs, if an argument says so.
     pub drawing: Option<bool>,
+    /// True if the text output explains codes, and why results of entry points may differ between invocations.
+    pub explains: bool,
+    /// True if the text output has all blocks, causes, entry points and globals, and not the first ones alone.
+    pub shows_all: bool,
 }
 
 impl Options {
@@ -189,6 +201,8 @@ impl Options {
         has_resources: false,
         has_structs: false,
         drawing: None,
+        explains: false,
+        shows_all: false,
     };
 
     /// Returns the options with JSON as output.
@@ -249,6 +263,36 @@ impl Options {
         }
     }
 
+    /// Returns the options with declarations of structs.
+    fn declaring_structs(self) -> Options
+        ensures { result ≡ record self { has_structs = true } }
+    {
+        Options {
+            has_structs: true,
+            ..self
+        }
+    }
+
+    /// Returns the options with explanations.
+    fn explaining(self) -> Options
+        ensures { result ≡ record self { explains = true } }
+    {
+        Options {
+            explains: true,
+            ..self
+        }
+    }
+
+    /// Returns the options without limits of the text output.
+    fn showing_all(self) -> Options
+        ensures { result ≡ record self { shows_all = true } }
+    {
+        Options {
+            shows_all: true,
+            ..self
+        }
+    }
+
     /// Returns the options with one more flag.
     pub fn with(self, flag: Flag) -> Options
         ensures { result ≡ with self flag }
@@ -283,12 +327,11 @@ impl Options {
                 has_resources: true,
                 ..self
             },
-            Flag::AllStructs => Options {
-                has_structs: true,
-                ..self
-            },
+            Flag::AllStructs => self.declaring_structs(),
             Flag::Drawing => self.with_drawing(true),
             Flag::NoDrawing => self.with_drawing(false),
+            Flag::Explain => self.explaining(),
+            Flag::ShowAll => self.showing_all(),
         }
     }
 
@@ -317,6 +360,8 @@ impl Options {
             Flag::AllStructs => self.has_structs,
             Flag::Drawing => self.drawing.is_some(),
             Flag::NoDrawing => self.drawing.is_some(),
+            Flag::Explain => self.explains,
+            Flag::ShowAll => self.shows_all,
         }
     }
 

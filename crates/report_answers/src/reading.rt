@@ -1,4 +1,4 @@
-//! Reads a module from an input. The input may then be dropped.
+//! Reads a module from an input.
 ghost use Rattle.std.specs.Prelude.{◌≡◌, IfOk, Some, false};
 ghost use Rattle.std.specs.Str.{IsUtf8};
 ghost use Rattle.json.specs.Json.{document};
@@ -11,9 +11,8 @@ ghost use Rattle.shader_json_reader.specs.Errors.{IsAccurate};
 use crate::options::Options;
 use crate::progress::{Progress, Stage};
 use crate::reports::Report;
-use crate::sections::bindings_of;
+use crate::sections::{Declared, declared_of};
 use json::{Scratch, Value};
-use shader_interface::ResourceBinding;
 use shader_ir::Module;
 use shader_json_module::{ModuleParts, ReadError, parse_bytes, read_parts, read_value};
 use std::alloc::{AllocError, Global};
@@ -22,8 +21,8 @@ use std::alloc::{AllocError, Global};
 #[derive(Drop)]
 pub struct ReadModule {
     pub module: Module,
-    /// The binding of each global variable, for a text report.
-    pub bindings: Vec<Option<ResourceBinding>>,
+    /// What it declares to its host, for a text report.
+    pub declared: Declared,
 }
 
 /// The result of reading an input.
@@ -36,7 +35,7 @@ pub enum Reading {
 }
 
 impl Reading {
-    /// Returns the module and the bindings of its globals, if resources aren't requested.
+    /// Returns the module and what it declares to its host, if resources aren't requested.
     fn of_module(
         alloc: Global,
         options: Options,
@@ -48,8 +47,8 @@ impl Reading {
         requires read { IsRead input.now «module» }
         ensures { IfOk result (λ reading. IsReading options input.now reading) }
     {
-        match bindings_of(alloc, options, json, &module) {
-            Ok(bindings) => Ok(Reading::Module(ReadModule { module, bindings })),
+        match declared_of(alloc, options, json, &module) {
+            Ok(declared) => Ok(Reading::Module(ReadModule { module, declared })),
             Err(error) => {
                 drop(module);
                 Err(error)
@@ -90,7 +89,7 @@ impl Reading {
     }
 
     /// Reports on a module while its JSON is at hand, if resources are requested.
-    #[tactic(auto, using(crate::proofs::ReadingLemmas::whole_read, crate::proofs::ReportLemmas::module_told))]
+    #[tactic(auto, using(crate::proofs::ReadingLemmas::whole_read))]
     fn of_value_read<P: Progress>(
         alloc: Global,
         options: Options,
@@ -107,12 +106,13 @@ impl Reading {
         if !options.has_resources {
             return Reading::of_module(alloc, options, input, root, module);
         }
-        let bindings = bindings_of(alloc, options, root, &module)?;
+        let declared = declared_of(alloc, options, root, &module)?;
         let report = Report::on_module(
             alloc,
             options,
+            input,
             &module,
-            bindings.as_slice(),
+            &declared,
             Some(root),
             progress,
         )?;

@@ -1,18 +1,20 @@
 //! The report on an input.
+ghost use Rattle.std.specs.Prelude.{◌≡◌};
+ghost use Rattle.report_answers.specs.Reports.{block_detail};
 
 use crate::options::{FlowCheck, Options};
 use crate::progress::{Progress, Stage};
 use crate::reading::Reading;
-use crate::sections::{section_lines, write_sections};
+use crate::reasons::asked_reasons;
+use crate::sections::{Declared, section_lines, write_sections};
 use crate::verdict::write_verdict;
 use json::{Value, Writer};
-use report_blocks::refusal_text;
+use report_blocks::{Detail as BlockDetail, input_text, refusal_text};
 use report_diagnostics::{Verdict, write_head};
 use report_findings::diagnostics_of;
-use report_input::{error_object, error_text, nesting_object, nesting_text};
+use report_input::{diagnostic_of, error_object, located, nesting_diagnostic, nesting_object};
 use report_model::{Analyzed, analyze};
-use report_summary::{FlowRules, summary_text};
-use shader_interface::ResourceBinding;
+use report_summary::{Detail, FlowRules, summary_text};
 use shader_ir::Module;
 use shader_json_module::ReadError;
 use shader_report_json::write_module;
@@ -39,6 +41,16 @@ fn flow_rules(options: Options) -> FlowRules {
     }
 }
 
+/// Returns how much of diagnostics a report prints.
+fn block_detail(options: Options) -> BlockDetail
+    ensures { result ≡ block_detail options }
+{
+    BlockDetail {
+        explains: options.explains,
+        shows_all: options.shows_all,
+    }
+}
+
 /// The report on an input.
 #[derive(Drop)]
 pub struct Report {
@@ -53,7 +65,8 @@ impl Report {
     ghost use Rattle.json.specs.Json.{Json};
     ghost use Rattle.report_answers.specs.Analyses.{IsAnalysisOf};
     ghost use Rattle.report_answers.specs.Reading.{IsReading};
-    ghost use Rattle.report_answers.specs.Reports.{IsJson, IsNesting, IsPeople, IsRefusal, IsReport, IsReportOn};
+    ghost use Rattle.report_answers.specs.Reports.{IsErrorText, IsJson, IsNesting, IsNestingText, IsPeople, IsRefusal};
+    ghost use Rattle.report_answers.specs.Reports.{IsReport, IsReportOn};
     ghost use Rattle.report_answers.specs.Reports.{IsTextOnAccepted, IsTextOnRefused, verdict, word_of};
     ghost use Rattle.report_answers.specs.Sections.{IsRootIf};
     ghost use Rattle.shader_interface.specs.Interface.{seen};
@@ -98,6 +111,27 @@ impl Report {
         }
     }
 
+    /// Returns the text report on an input from which no module can be read.
+    fn error_lines(
+        alloc: Global,
+        options: Options,
+        input: &[u8],
+        error: &ReadError,
+    ) -> Result<String, AllocError>
+        ensures { IfOk result (λ text. IsErrorText options input.now error.now (string_bytes text)) }
+    {
+        let diagnostic = diagnostic_of(alloc, input, error, options.explains)?;
+        input_text(alloc, input, &diagnostic, options.explains)
+    }
+
+    /// Returns the text report on a module whose blocks nest too deep to be checked.
+    fn nesting_lines(alloc: Global, options: Options) -> Result<String, AllocError>
+        ensures { IfOk result (λ text. IsNestingText options (string_bytes text)) }
+    {
+        let diagnostic = nesting_diagnostic(alloc)?;
+        input_text(alloc, &[], &diagnostic, options.explains)
+    }
+
     /// Returns the report on an input from which no module can be read.
     ///
     /// # Errors
@@ -115,7 +149,7 @@ impl Report {
         let text = if options.is_json {
             error_object(alloc, input, error)?
         } else {
-            error_text(alloc, input, error)?
+            Report::error_lines(alloc, options, input, error)?.into_bytes()
         };
         Ok(Report::without_module(text))
     }
@@ -128,7 +162,7 @@ impl Report {
         let text = if options.is_json {
             nesting_object(alloc)?
         } else {
-            nesting_text(alloc)?
+            Report::nesting_lines(alloc, options)?.into_bytes()
         };
         Ok(Report::without_module(text))
     }
@@ -137,15 +171,17 @@ impl Report {
     fn json_on(
         alloc: Global,
         options: Options,
+        input: &[u8],
         module: &Module,
         analyzed: &Analyzed,
         root: Option<&Value<'_>>,
     ) -> Result<Vec<u8>, AllocError>
         requires { IsAnalysisOf options «module».now analyzed.now }
         ensures { IfOk result (λ text. (j : Json) → IsRootIf options.has_resources j (seen root.entry) →
-            IsJson options j «module».now analyzed.now text.items) }
+            IsJson options input.now j «module».now analyzed.now text.items) }
     {
-        let diagnostics = diagnostics_of(alloc, module, analyzed)?;
+        let faults = diagnostics_of(alloc, module, analyzed, false)?;
+        let diagnostics = located(alloc, input, faults)?;
         let verdict = Report::verdict_of(analyzed.is_accepted());
         let mut writer = Writer::new(Vec::new(alloc));
         writer.begin_object()?;
@@ -165,7 +201,7 @@ impl Report {
         options: Options,
         module: &Module,
         analyzed: &Analyzed,
-        bindings: &[Option<ResourceBinding>],
+        declared: &Declared,
         root: Option<&Value<'_>>,
     ) -> Result<String, AllocError>
         requires { IsAnalysisOf options «module».now analyzed.now }
@@ -173,44 +209,62 @@ impl Report {
             IsTextOnAccepted options j «module».now analyzed.now (string_bytes text)) }
     {
         let sections = section_lines(alloc, options, root, module, analyzed)?;
-        let rules = flow_rules(options);
-        summary_text(alloc, module, analyzed, bindings, rules, sections.as_str())
+        let reasons = asked_reasons(alloc, options, module, analyzed)?;
+        let detail = Detail {
+            rules: flow_rules(options),
+            shows_all: options.shows_all,
+            reasons: reasons.as_slice(),
+            groups: declared.groups.as_slice(),
+        };
+        let bindings = declared.bindings.as_slice();
+        summary_text(alloc, module, analyzed, bindings, detail, sections.as_str())
     }
 
     /// Returns the text report on a refused module.
     fn refusal_on(
         alloc: Global,
         options: Options,
+        input: &[u8],
         module: &Module,
         analyzed: &Analyzed,
         root: Option<&Value<'_>>,
     ) -> Result<String, AllocError>
         requires { IsAnalysisOf options «module».now analyzed.now }
         ensures { IfOk result (λ text. (j : Json) → IsRootIf options.has_resources j (seen root.entry) →
-            IsTextOnRefused options j «module».now analyzed.now (string_bytes text)) }
+            IsTextOnRefused options input.now j «module».now analyzed.now (string_bytes text)) }
     {
-        let diagnostics = diagnostics_of(alloc, module, analyzed)?;
+        let faults = diagnostics_of(alloc, module, analyzed, options.shows_all)?;
+        let diagnostics = located(alloc, input, faults)?;
         let sections = section_lines(alloc, options, root, module, analyzed)?;
-        refusal_text(alloc, module, &diagnostics, sections.as_str())
+        let detail = block_detail(options);
+        refusal_text(
+            alloc,
+            input,
+            module,
+            &diagnostics,
+            detail,
+            sections.as_str(),
+        )
     }
 
     /// Returns the text report on a module.
     fn text_on(
         alloc: Global,
         options: Options,
+        input: &[u8],
         module: &Module,
         analyzed: &Analyzed,
-        bindings: &[Option<ResourceBinding>],
+        declared: &Declared,
         root: Option<&Value<'_>>,
     ) -> Result<String, AllocError>
         requires { IsAnalysisOf options «module».now analyzed.now }
         ensures { IfOk result (λ text. (j : Json) → IsRootIf options.has_resources j (seen root.entry) →
-            IsPeople options j «module».now analyzed.now (string_bytes text)) }
+            IsPeople options input.now j «module».now analyzed.now (string_bytes text)) }
     {
         if analyzed.is_accepted() {
-            Report::lines_on(alloc, options, module, analyzed, bindings, root)
+            Report::lines_on(alloc, options, module, analyzed, declared, root)
         } else {
-            Report::refusal_on(alloc, options, module, analyzed, root)
+            Report::refusal_on(alloc, options, input, module, analyzed, root)
         }
     }
 
@@ -219,24 +273,25 @@ impl Report {
     fn on_analyzed(
         alloc: Global,
         options: Options,
+        input: &[u8],
         module: &Module,
         analyzed: &Analyzed,
-        bindings: &[Option<ResourceBinding>],
+        declared: &Declared,
         root: Option<&Value<'_>>,
     ) -> Result<Report, AllocError>
         requires { IsAnalysisOf options «module».now analyzed.now }
         ensures { IfOk result (λ report. (j : Json) → IsRootIf options.has_resources j (seen root.entry) →
-            IsReportOn options j «module».now report.outcome report.text.items) }
+            IsReportOn options input.now j «module».now report.outcome report.text.items) }
     {
         let text = if options.is_json {
-            Report::json_on(alloc, options, module, analyzed, root)?
+            Report::json_on(alloc, options, input, module, analyzed, root)?
         } else {
-            Report::text_on(alloc, options, module, analyzed, bindings, root)?.into_bytes()
+            Report::text_on(alloc, options, input, module, analyzed, declared, root)?.into_bytes()
         };
         Ok(Report::with_verdict(text, analyzed.is_accepted()))
     }
 
-    /// Returns the report on a module. Its JSON is needed if the options ask for resources.
+    /// Returns the report on a module, which the input spells. Its JSON is needed if the options ask for resources.
     ///
     /// # Errors
     ///
@@ -244,13 +299,14 @@ impl Report {
     pub fn on_module<P: Progress>(
         alloc: Global,
         options: Options,
+        input: &[u8],
         module: &Module,
-        bindings: &[Option<ResourceBinding>],
+        declared: &Declared,
         root: Option<&Value<'_>>,
         progress: &mut P,
     ) -> Result<Report, AllocError>
         ensures { IfOk result (λ report. (j : Json) → IsRootIf options.has_resources j (seen root.entry) →
-            IsReportOn options j «module».now report.outcome report.text.items) }
+            IsReportOn options input.now j «module».now report.outcome report.text.items) }
     {
         if !nests_within(module, MOST_LEVELS) {
             return Report::on_nesting(alloc, options);
@@ -259,10 +315,10 @@ impl Report {
         let (flags, capabilities) = (options.flags(), options.capabilities());
         let checks_uniformity = options.checks_uniformity();
         let analyzed = analyze(alloc, module, flags, capabilities, checks_uniformity)?;
-        Report::on_analyzed(alloc, options, module, &analyzed, bindings, root)
+        Report::on_analyzed(alloc, options, input, module, &analyzed, declared, root)
     }
 
-    /// Returns the report on an input that was read. The input itself isn't needed.
+    /// Returns the report on an input that was read. The input shows where in it the module is at fault.
     ///
     /// # Errors
     ///
@@ -271,16 +327,17 @@ impl Report {
     pub fn of<P: Progress>(
         alloc: Global,
         options: Options,
+        input: &[u8],
         reading: Reading,
         progress: &mut P,
     ) -> Result<Report, AllocError>
-        ensures { IfOk result (λ report. (input : List ℕ) → IsReading options input reading →
-            IsReport options input report.outcome report.text.items) }
+        ensures { IfOk result (λ report. IsReading options input.now reading →
+            IsReport options input.now report.outcome report.text.items) }
     {
         match reading {
             Reading::Module(read) => {
-                let bindings = read.bindings.as_slice();
-                Report::on_module(alloc, options, &read.module, bindings, None, progress)
+                let (module, declared) = (&read.module, &read.declared);
+                Report::on_module(alloc, options, input, module, declared, None, progress)
             }
             Reading::Reported(report) => Ok(report),
         }
@@ -300,6 +357,6 @@ impl Report {
         ensures { IfOk result (λ report. IsReport options input.now report.outcome report.text.items) }
     {
         let reading = Reading::of(alloc, options, input, progress)?;
-        Report::of(alloc, options, reading, progress)
+        Report::of(alloc, options, input, reading, progress)
     }
 }

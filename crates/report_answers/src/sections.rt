@@ -6,8 +6,8 @@ ghost use Rattle.json.specs.Value.{value_view};
 ghost use Rattle.report_json.specs.Tokens.{Adds};
 ghost use Rattle.report_model.specs.Fitting.{Fits, HasInfos};
 ghost use Rattle.report_answers.specs.Analyses.{IsAnalysisOf};
-ghost use Rattle.report_answers.specs.Sections.{AreBindings, AreBoundsAsked, AreLinesAsked, AreResourcesAsked, AreSections, EndsWithLines};
-ghost use Rattle.report_answers.specs.Sections.{IsRootIf, bounds_members};
+ghost use Rattle.report_answers.specs.Sections.{AreBindings, AreBoundsAsked, AreBoundsLines, AreGroups, AreLinesAsked, AreResourcesAsked};
+ghost use Rattle.report_answers.specs.Sections.{AreSections, EndsWithLines, IsRootIf, IsTextOfBounds, bounds_members};
 ghost use Rattle.shader_interface.specs.Interface.{seen};
 ghost use Rattle.shader_report_resources.specs.Resources.{AreResources};
 
@@ -16,9 +16,10 @@ use json::{Value, Writer};
 use report_json::{Member, WriteMembers};
 use report_layouts::structs_text;
 use report_model::{Analyzed, Sound};
-use shader_interface::{Interface, ResourceBinding};
+use shader_bounds::BoundsCheckPolicies;
+use shader_interface::{Interface, ResourceBinding, WorkgroupSize};
 use shader_ir::Module;
-use shader_report_bounds::{BoundsText, ModuleBounds, find_bounds};
+use shader_report_bounds::{ModuleBounds, bounds_text, find_bounds};
 use shader_report_resources::{resources_lines, write_resources};
 use std::alloc::{AllocError, Global};
 
@@ -117,7 +118,25 @@ pub fn write_sections(
     write_asked_resources(alloc, writer, options, root, module, analyzed)
 }
 
-/// Returns the lines on bounds checks, or an empty text if the options don't ask for them or the module isn't accepted.
+/// Returns the bounds checks as text, given the policies, or an empty text if none were found.
+fn found_bounds(
+    alloc: Global,
+    module: &Module,
+    policies: Option<BoundsCheckPolicies>,
+    found: &Option<ModuleBounds>,
+) -> Result<String, AllocError>
+    ensures { IfOk result (λ text. IsTextOfBounds policies found.now «module».now (string_bytes text)) }
+{
+    let Some(policies) = policies else {
+        return Ok(String::new(alloc));
+    };
+    match found {
+        Some(bounds) => bounds_text(alloc, module, policies, bounds),
+        None => Ok(String::new(alloc)),
+    }
+}
+
+/// Returns the bounds checks as text, or an empty text if the options don't ask for them or the analysis doesn't accept the module.
 fn bounds_lines(
     alloc: Global,
     options: Options,
@@ -125,20 +144,13 @@ fn bounds_lines(
     analyzed: &Analyzed,
 ) -> Result<String, AllocError>
     requires { IsAnalysisOf options «module».now analyzed.now }
+    ensures { IfOk result (λ text. AreBoundsLines options «module».now analyzed.now (string_bytes text)) }
 {
-    match asked_bounds(alloc, options, module, analyzed)? {
-        Some(bounds) => {
-            let bounds = BoundsText {
-                module,
-                bounds: &bounds,
-            };
-            format!(in alloc; "{bounds}")
-        }
-        None => Ok(String::new(alloc)),
-    }
+    let found = asked_bounds(alloc, options, module, analyzed)?;
+    found_bounds(alloc, module, options.bounds(), &found)
 }
 
-/// Returns the lines on the resources of a module with this JSON, or an empty text if the options don't ask for them or the module has a
+/// Returns the resources of a module with this JSON as text, or an empty text if the options don't ask for them or the module has a
 /// fault besides its control flow.
 fn asked_resources(
     alloc: Global,
@@ -181,26 +193,8 @@ fn asked_structs(
     structs_text(alloc, module, &analysis.layouts, options.draws_structs())
 }
 
-/// Returns the lines on bounds checks, then those on resources, that the options ask for.
-fn asked_tables(
-    alloc: Global,
-    options: Options,
-    root: Option<&Value<'_>>,
-    module: &Module,
-    analyzed: &Analyzed,
-) -> Result<String, AllocError>
-    requires { IsAnalysisOf options «module».now analyzed.now }
-    ensures { IfOk result (λ text. (j : Json) → IsRootIf options.has_resources j (seen root.entry) →
-        EndsWithLines options j «module».now analyzed.now (string_bytes text)) }
-{
-    let mut text = bounds_lines(alloc, options, module, analyzed)?;
-    let lines = asked_resources(alloc, options, root, module, analyzed)?;
-    text.push_str(lines.as_str())?;
-    Ok(text)
-}
-
-/// Returns what the options ask for beside the verdict: the structs, each behind an empty line; then the lines on bounds checks and on
-/// resources, behind an empty line too.
+/// Returns what the options ask for beside the verdict: the structs, then the bounds checks, then the resources. An empty line stands
+/// before each part.
 pub fn section_lines(
     alloc: Global,
     options: Options,
@@ -213,19 +207,13 @@ pub fn section_lines(
         EndsWithLines options j «module».now analyzed.now (string_bytes text)) }
 {
     let structs = asked_structs(alloc, options, module, analyzed)?;
-    let lines = asked_tables(alloc, options, root, module, analyzed)?;
-    let gap = if lines.is_empty() { "" } else { "\n" };
-    let mut text = format!(in alloc; "{structs}{gap}")?;
-    text.push_str(lines.as_str())?;
-    Ok(text)
+    let bounds = bounds_lines(alloc, options, module, analyzed)?;
+    let resources = asked_resources(alloc, options, root, module, analyzed)?;
+    format!(in alloc; "{structs}{bounds}{resources}")
 }
 
 /// Returns the binding of each global variable, for a text report. JSON has resources as a member of their own.
-///
-/// # Errors
-///
-/// `AllocError` if an allocation fails.
-pub fn bindings_of(
+fn bindings_of(
     alloc: Global,
     options: Options,
     root: &Value<'_>,
@@ -238,4 +226,49 @@ pub fn bindings_of(
     } else {
         Interface(root).bound_first(alloc, module.global_variables.len())
     }
+}
+
+/// Returns the size of the work groups of each entry point, for a text report.
+fn groups_of(
+    alloc: Global,
+    options: Options,
+    root: &Value<'_>,
+    module: &Module,
+) -> Result<Vec<WorkgroupSize>, AllocError>
+    ensures { IfOk result (λ groups. AreGroups options (value_view root.now) «module».now groups.items) }
+{
+    if options.is_json {
+        Ok(Vec::new(alloc))
+    } else {
+        Interface(root).workgroups_first(alloc, module.entry_points.len())
+    }
+}
+
+/// What a module declares to its host, as far as a text report prints it of each module.
+#[derive(Drop)]
+pub struct Declared {
+    /// The binding of each global variable.
+    pub bindings: Vec<Option<ResourceBinding>>,
+    /// The size of the work groups of each entry point.
+    pub groups: Vec<WorkgroupSize>,
+}
+
+/// Returns what the JSON of a module declares to the host.
+///
+/// # Errors
+///
+/// `AllocError` if an allocation fails.
+pub fn declared_of(
+    alloc: Global,
+    options: Options,
+    root: &Value<'_>,
+    module: &Module,
+) -> Result<Declared, AllocError>
+    ensures bindings { IfOk result (λ declared. AreBindings options (value_view root.now) «module».now declared.bindings.items) }
+    ensures groups { IfOk result (λ declared. AreGroups options (value_view root.now) «module».now declared.groups.items) }
+{
+    Ok(Declared {
+        bindings: bindings_of(alloc, options, root, module)?,
+        groups: groups_of(alloc, options, root, module)?,
+    })
 }

@@ -1,2 +1,4 @@
 pub mod Blocks
+pub mod Causes
+pub mod Chosen
 pub mod Refusals

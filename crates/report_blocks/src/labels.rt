@@ -6,8 +6,9 @@ use report_diagnostics::{Code, FlowCode, ResourceCode, TypeCode};
 fn flow_label(code: FlowCode) -> &'static str {
     match code {
         FlowCode::Derivative | FlowCode::ImplicitLevel => "needs all invocations of the quad",
-        FlowCode::Barrier | FlowCode::MemoryBarrier => "needs all invocations of the workgroup",
-        FlowCode::UniformLoad => "needs all invocations of the workgroup, with the same pointer",
+        FlowCode::Barrier | FlowCode::MemoryBarrier | FlowCode::UniformLoad => {
+            "needs all invocations of the workgroup"
+        }
         FlowCode::CooperativeOperation => "needs all invocations of the subgroup",
     }
 }

@@ -1,5 +1,5 @@
 -- Diagnostics, and how they are written as JSON.
-use Rattle.std.specs.Prelude.{◌≡◌, ℕ, List, [], ◌∷◌, ◌++◌, codes}
+use Rattle.std.specs.Prelude.{◌≡◌, ℕ, List, None, [], ◌∷◌, ◌++◌, codes}
 use Rattle.std.specs.List.{flat_map}
 use Rattle.json.specs.Token.{Token, key}
 use Rattle.report_json.specs.Tokens.{array, number_tokens, object, text_tokens}
@@ -21,7 +21,7 @@ severity_text Info = codes "info"
 unfoldable pub related_tokens : Related → List Token
 related_tokens related =
     object (key (codes "message") ∷ text_tokens related.message
-    ++ key (codes "location") ∷ location_tokens related.location)
+    ++ key (codes "location") ∷ location_tokens related.location related.text)
 
 -- what it is
 abbrev pub kind_members : Diagnostic → List Token
@@ -34,7 +34,7 @@ kind_members diagnostic =
 -- where it is, and why
 abbrev pub cause_members : Diagnostic → List Token
 cause_members diagnostic =
-    key (codes "location") ∷ location_tokens diagnostic.location
+    key (codes "location") ∷ location_tokens diagnostic.location diagnostic.text
     ++ (key (codes "data") ∷ facts_tokens diagnostic.data.list.items
     ++ (key (codes "related") ∷ array (flat_map related_tokens diagnostic.related.items)
     ++ key (codes "omitted") ∷ number_tokens diagnostic.omitted))
@@ -56,6 +56,10 @@ pub record IsError (kind : Code) (place : Location) (diagnostic : Diagnostic) : 
 
 -- it has nothing besides its message
 pub record IsPlain (diagnostic : Diagnostic) : Type 0 where
+  pub end : diagnostic.end ≡ None
+  pub text : diagnostic.text ≡ None
+  pub label : diagnostic.label ≡ None
+  pub field : diagnostic.field ≡ None
   pub «data» : diagnostic.data.list.items ≡ []
   pub related : diagnostic.related.items ≡ []
   pub omitted : diagnostic.omitted ≡ 0

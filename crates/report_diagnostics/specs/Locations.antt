@@ -16,23 +16,30 @@ function_members location =
     ++ (optional_member path_tokens (codes "statement") location.statement
     ++ optional_member number_tokens (codes "expression") location.expression))
 
--- where it is in the module
-abbrev pub module_members : Location → List Token
-module_members location =
-    optional_member number_tokens (codes "argument") location.argument
+-- the text of the expression, and where it is in the module
+abbrev pub module_members : Location → (text : Option (List ℕ)) → List Token
+module_members location text =
+    optional_member text_tokens (codes "text") text
     ++ (optional_member number_tokens (codes "type") location.ty
-    ++ optional_member text_tokens (codes "pointer") location.pointer)
+    ++ (optional_member text_tokens (codes "pointer") location.pointer
+    ++ optional_member number_tokens (codes "argument") location.argument))
+
+-- the way to a value of the JSON; the pointer to it is known in the module, or only in the JSON of an input that is none
+abbrev pub value_members : Location → List Token
+value_members location =
+    optional_member text_tokens (codes "path") location.path
+    ++ optional_member text_tokens (codes "pointer") location.input_pointer
 
 -- where it is in the text
 abbrev pub text_members : Location → List Token
 text_members location =
-    optional_member text_tokens (codes "path") location.path
-    ++ (optional_member number_tokens (codes "line") location.line
+    optional_member number_tokens (codes "line") location.line
     ++ (optional_member number_tokens (codes "column") location.column
-    ++ optional_member number_tokens (codes "byte") location.byte))
+    ++ optional_member number_tokens (codes "byte") location.byte)
 
-unfoldable pub location_tokens : Location → List Token
-location_tokens location = object (function_members location ++ (module_members location ++ text_members location))
+unfoldable pub location_tokens : Location → (text : Option (List ℕ)) → List Token
+location_tokens location text =
+    object (function_members location ++ (module_members location text ++ (value_members location ++ text_members location)))
 
 -- a place that is known in the module, and not in its text
 abbrev pub within_module : Option BodyPlace → (name : Option (List ℕ)) → Option StatementPath → (expression ty : Option ℕ) →
@@ -46,6 +53,7 @@ within_module body name statement expression ty pointer = record {
   ty = ty;
   pointer = Some pointer;
   path = None;
+  input_pointer = None;
   line = None;
   column = None;
   byte = None;

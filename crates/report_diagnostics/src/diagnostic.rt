@@ -5,11 +5,13 @@ ghost use Rattle.report_json.specs.Tokens.{text_tokens};
 
 use crate::codes::Code;
 use crate::facts::Facts;
-use crate::location::Location;
+use crate::location::{Located, Location};
 use crate::members::Word;
 use crate::text::Text;
 use json::Writer;
 use report_json::{Member, WriteJson, write_object};
+use shader_arena::Handle;
+use shader_ir::mark;
 use std::alloc::{AllocError, Global};
 
 /// How severe a diagnostic is. Only a diagnostic filter of a shader makes one a warning or an information.
@@ -49,6 +51,8 @@ impl WriteJson for Severity {
 pub struct Related {
     pub message: Text,
     pub location: Location,
+    /// The text of the expression at the place, if there is one.
+    pub text: Option<Text>,
 }
 
 impl WriteJson for Related {
@@ -56,12 +60,24 @@ impl WriteJson for Related {
 
     #[tactic(auto, unfolding(crate::specs::Diagnostics::related_tokens))]
     fn write_json(&self, alloc: Global, writer: &mut Writer) -> Result<(), AllocError> {
+        let located = Located {
+            location: &self.location,
+            text: &self.text,
+        };
         let members = (
             Member("message", &self.message),
-            Member("location", &self.location),
+            Member("location", &located),
         );
         write_object(alloc, writer, &members)
     }
+}
+
+/// What an excerpt says of the place of a diagnostic.
+#[derive(Drop)]
+pub struct Label {
+    /// The operand of the expression that is marked, or none if the place itself is.
+    pub operand: Option<Handle<mark::Expression>>,
+    pub words: Text,
 }
 
 /// Something that is wrong with an input or a module.
@@ -72,6 +88,14 @@ pub struct Diagnostic {
     /// What is wrong, in a sentence. Its wording may change in any release.
     pub message: Text,
     pub location: Location,
+    /// The byte behind what an excerpt of the JSON marks, if there is such an excerpt. It isn't written as JSON.
+    pub end: Option<usize>,
+    /// The text of the expression at the place, if there is one.
+    pub text: Option<Text>,
+    /// What an excerpt says of the place, or none if the code alone tells that. It isn't written as JSON.
+    pub label: Option<Label>,
+    /// The way from the pointer of the place to the field of the JSON that is at fault, as `.init`. A place in the JSON has it in its path.
+    pub field: Option<Text>,
     /// Facts of this kind of diagnostic.
     pub data: Facts,
     /// The causes, from the place back to the source.
@@ -95,6 +119,10 @@ impl Diagnostic {
             severity: Severity::Error,
             message,
             location,
+            end: None,
+            text: None,
+            label: None,
+            field: None,
             data: Facts::none(alloc),
             related: Vec::new(alloc),
             omitted: 0,
@@ -117,8 +145,12 @@ impl WriteJson for Diagnostic {
             Member("severity", &self.severity),
             Member("message", &self.message),
         );
+        let located = Located {
+            location: &self.location,
+            text: &self.text,
+        };
         let causes = (
-            Member("location", &self.location),
+            Member("location", &located),
             Member("data", &self.data),
             Member("related", &self.related),
             Member("omitted", &self.omitted),

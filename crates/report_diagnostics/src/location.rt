@@ -30,6 +30,8 @@ pub struct Location {
     pub pointer: Option<Text>,
     /// The way to a value in the JSON, as `entry_points[0].stage`.
     pub path: Option<Text>,
+    /// The JSON pointer to that value of an input that is no module. It is written as `pointer`, which is then none, behind the path.
+    pub input_pointer: Option<Text>,
     /// The line of that value, from 1.
     pub line: Option<usize>,
     /// The column in that line, from 1, in characters.
@@ -59,6 +61,7 @@ impl Location {
             ty,
             pointer: Some(pointer),
             path: None,
+            input_pointer: None,
             line: None,
             column: None,
             byte: None,
@@ -66,28 +69,40 @@ impl Location {
     }
 }
 
-impl WriteJson for Location {
-    ghost tokens = { λ location. location_tokens location };
+/// A place, with the text of its expression.
+#[derive(Clone, Copy)]
+pub struct Located<'a> {
+    pub location: &'a Location,
+    pub text: &'a Option<Text>,
+}
+
+impl WriteJson for Located<'_> {
+    ghost tokens = { λ located. location_tokens located.location.now located.text.now };
 
     #[tactic(auto, unfolding(crate::specs::Locations::location_tokens))]
     fn write_json(&self, alloc: Global, writer: &mut Writer) -> Result<(), AllocError> {
+        let location = self.location;
         let in_function = (
-            Member("body", &self.body),
-            OptionalMember("name", &self.name),
-            OptionalMember("statement", &self.statement),
-            OptionalMember("expression", &self.expression),
+            Member("body", &location.body),
+            OptionalMember("name", &location.name),
+            OptionalMember("statement", &location.statement),
+            OptionalMember("expression", &location.expression),
         );
         let in_module = (
-            OptionalMember("argument", &self.argument),
-            OptionalMember("type", &self.ty),
-            OptionalMember("pointer", &self.pointer),
+            OptionalMember("text", self.text),
+            OptionalMember("type", &location.ty),
+            OptionalMember("pointer", &location.pointer),
+            OptionalMember("argument", &location.argument),
+        );
+        let in_json = (
+            OptionalMember("path", &location.path),
+            OptionalMember("pointer", &location.input_pointer),
         );
         let in_text = (
-            OptionalMember("path", &self.path),
-            OptionalMember("line", &self.line),
-            OptionalMember("column", &self.column),
-            OptionalMember("byte", &self.byte),
+            OptionalMember("line", &location.line),
+            OptionalMember("column", &location.column),
+            OptionalMember("byte", &location.byte),
         );
-        write_object(alloc, writer, &(in_function, in_module, in_text))
+        write_object(alloc, writer, &(in_function, in_module, in_json, in_text))
     }
 }

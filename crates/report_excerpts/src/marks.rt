@@ -11,6 +11,8 @@ pub struct Mark<'a> {
     pub way: &'a [PathStep],
     /// The expression, or none if the statement or the argument itself is marked.
     pub expression: Option<Handle<mark::Expression>>,
+    /// The operand of the expression that is marked where the expression stands, or none if all of it is.
+    pub operand: Option<Handle<mark::Expression>>,
     pub argument: Option<u32>,
     pub label: String,
     /// True of the place that a diagnostic is about, false of its causes.

@@ -10,8 +10,11 @@ use std::alloc::{AllocError, Global};
 /// The most columns of a line beside its indentation and labels.
 pub const MOST_COLUMNS: usize = 100;
 
+/// The most levels at which heads without marks are printed.
+const MOST_HEADS: usize = 8;
+
 /// The most levels that are indented.
-const MOST_LEVELS: usize = 10;
+const MOST_LEVELS: usize = 9;
 
 /// The rows of an excerpt, as they are printed.
 #[derive(Drop)]
@@ -98,6 +101,7 @@ impl Rows {
 fn copy_of<'a>(line: &Line<'a>) -> Line<'a> {
     match line {
         Line::Expression(value) => Line::Expression(*value),
+        Line::Place(value) => Line::Place(*value),
         Line::Let(value) => Line::Let(*value),
         Line::Statement(statement) => Line::Statement(*statement),
         Line::While(condition) => Line::While(*condition),
@@ -134,6 +138,34 @@ fn is_last(last: &Option<MarkedText>, marked: &MarkedText) -> bool {
     }
 }
 
+/// Returns the first marked column, behind a sign.
+fn behind_sign(marked: &MarkedText, sign: Option<char>) -> usize {
+    let first = marked.text.as_str().chars().skip(marked.begin).next();
+    if sign.is_some() && first == sign {
+        marked.begin.saturating_add(1)
+    } else {
+        marked.begin
+    }
+}
+
+/// Prints a line without marks, as the head of a block. Of many blocks within one another the inner ones are left out.
+fn add_unmarked<'a>(
+    body: &Body<'a>,
+    rows: &mut Rows,
+    level: usize,
+    line: &Line<'a>,
+) -> Result<(), AllocError> {
+    if rows.is_brief {
+        return Ok(());
+    }
+    if level > MOST_HEADS {
+        rows.leave_out(level);
+        return Ok(());
+    }
+    let shown = text_of(rows.alloc, body, line, &[])?;
+    rows.add_line(level, shown.text.as_str())
+}
+
 /// Prints a line with the marks of the chosen sites, or as a head if there are none. It is printed again for a mark to which other operands
 /// have to be shown.
 pub fn add_row<'a>(
@@ -153,13 +185,13 @@ pub fn add_row<'a>(
                 rows.add_line(level, marked.text.as_str())?;
             }
             let label = site.label.as_str();
-            rows.add_mark(level, marked.begin, marked.end, site.is_main, label)?;
+            let begin = behind_sign(&marked, site.sign);
+            rows.add_mark(level, begin, marked.end, site.is_main, label)?;
             last = Some(marked);
         }
     }
-    if last.is_none() && !rows.is_brief {
-        let shown = text_of(alloc, body, line, &[])?;
-        rows.add_line(level, shown.text.as_str())?;
+    if last.is_none() {
+        add_unmarked(body, rows, level, line)?;
     }
     Ok(())
 }

@@ -1,6 +1,7 @@
 //! The first line of a function: stage, name, arguments and the type of the result.
 
 use crate::body::Body;
+use report_columns::columns_of;
 use report_names::{ItemKind, MOST_NESTED, item_text, name_text, type_text};
 use report_places::{BodyPlace, stage_word};
 use shader_builtins::wgsl_name;
@@ -21,11 +22,6 @@ struct Shortened {
     arguments: bool,
     result: bool,
     name: bool,
-}
-
-/// Returns the number of characters of a text.
-fn columns_of(text: &str) -> usize {
-    text.chars().count()
 }
 
 /// Returns what stands in front of the arguments.

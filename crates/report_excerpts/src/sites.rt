@@ -9,7 +9,7 @@ use report_expressions::result_of;
 use report_places::{PathStep, Wanted, find_statement};
 use shader_arena::Handle;
 use shader_ir::proc::statement_operands;
-use shader_ir::{Statement, mark};
+use shader_ir::{Expression, Statement, mark};
 use std::alloc::{AllocError, Global};
 
 /// A mark in a line of the function.
@@ -21,6 +21,8 @@ pub struct Site {
     pub value: Option<Handle<mark::Expression>>,
     /// The operands on the way to the marked one. If there are none, the whole line is marked.
     pub operands: Vec<Handle<mark::Expression>>,
+    /// The sign in front of the marked operand that isn't marked, if there is one.
+    pub sign: Option<char>,
     pub label: String,
     pub is_main: bool,
 }
@@ -126,6 +128,18 @@ fn in_user(
     }
 }
 
+/// Returns the line in which an operand of a statement stands that makes a result, where the result has no name.
+fn in_maker(
+    alloc: Global,
+    body: &Body<'_>,
+    made: Handle<mark::Expression>,
+    operand: Handle<mark::Expression>,
+) -> Result<Shown, AllocError> {
+    let mut shown = in_user(alloc, body, made)?;
+    shown.operands.push(operand)?;
+    Ok(shown)
+}
+
 /// Returns the line in which an expression stands.
 fn shown_of_expression(
     alloc: Global,
@@ -134,7 +148,12 @@ fn shown_of_expression(
     expression: Handle<mark::Expression>,
 ) -> Result<Shown, AllocError> {
     if let Some(statement) = statement_on(&body.function.body, mark.way) {
-        if is_operand(statement, expression) && !is_shown_elsewhere(body, statement) {
+        if is_operand(statement, expression) {
+            if is_shown_elsewhere(body, statement) {
+                if let Some(result) = result_of(statement) {
+                    return in_maker(alloc, body, result, expression);
+                }
+            }
             let mut operands = Vec::new(alloc);
             operands.push(expression)?;
             let way = copy_way(alloc, mark.way)?;
@@ -170,14 +189,30 @@ fn shown_of(alloc: Global, body: &Body<'_>, mark: &Mark<'_>) -> Result<Shown, Al
     })
 }
 
+/// Returns the sign in front of a marked operand: that of the load of a pointer, or that a variable is meant as a pointer. Of a cause it is
+/// the place that differs, and not the pointer to it.
+fn sign_of(body: &Body<'_>, mark: &Mark<'_>) -> Option<char> {
+    if mark.operand.is_none() {
+        return if mark.is_main { None } else { Some('&') };
+    }
+    match body.function.expressions.try_get(mark.expression?) {
+        Some(Expression::Load { .. }) => Some('*'),
+        _ => Some('&'),
+    }
+}
+
 /// Returns the site of a mark that isn't on an argument.
 pub fn site_of(alloc: Global, body: &Body<'_>, mark: &Mark<'_>) -> Result<Site, AllocError> {
-    let shown = shown_of(alloc, body, mark)?;
+    let mut shown = shown_of(alloc, body, mark)?;
+    if let Some(operand) = mark.operand {
+        shown.operands.push(operand)?;
+    }
     let label = String::from_str(alloc, mark.label.as_str())?;
     Ok(Site {
         way: shown.way,
         value: shown.value,
         operands: shown.operands,
+        sign: sign_of(body, mark),
         label,
         is_main: mark.is_main,
     })

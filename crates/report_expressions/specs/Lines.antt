@@ -9,6 +9,7 @@ use Rattle.report_expressions.specs.declared.line.Line.TheVariants as lines
 
 abbrev pub line_operands : Line → List (ℕ × Label)
 line_operands (lines.Expression e) = (e, Read) ∷ []
+line_operands (lines.Place e) = (e, Read) ∷ []
 line_operands (lines.Let e) = (e, Read) ∷ []
 line_operands (lines.Statement statement) = statement_operands (step_of statement.now)
 line_operands (lines.While condition) = (condition, Read) ∷ []

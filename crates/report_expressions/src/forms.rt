@@ -20,7 +20,7 @@ use std::alloc::AllocError;
 /// memory does.
 pub fn opening(role: Role, is_reference: bool) -> &'static str {
     match role {
-        Role::Place => { if is_reference { "" } else { "*" } }
+        Role::RootPlace | Role::Place => { if is_reference { "" } else { "*" } }
         Role::PlaceBase => { if is_reference { "" } else { "(*" } }
         _ => { if is_reference { "&" } else { "" } }
     }

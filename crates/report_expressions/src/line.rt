@@ -9,6 +9,8 @@ use shader_ir::{Function, Module, Statement, SwitchValue, mark};
 pub enum Line<'a> {
     /// An expression alone.
     Expression(Handle<mark::Expression>),
+    /// An expression alone; a pointer as the memory that it points to, as `a[i]`.
+    Place(Handle<mark::Expression>),
     /// An expression whose value gets its name, as `let x = a + b;`, or `_ = a + b;` if it has none.
     Let(Handle<mark::Expression>),
     /// A statement, or its head if it contains blocks.

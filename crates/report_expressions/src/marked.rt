@@ -13,6 +13,7 @@ use crate::says::say;
 use crate::statements::{add_core, add_start, line_end};
 use crate::texts::word_text;
 use crate::writing::{Shown, write_parts};
+use report_columns::columns_of;
 use std::alloc::{AllocError, Global};
 
 /// A text, and the columns of what is marked in it. A column is one character.
@@ -30,14 +31,6 @@ const MOST_DEPTH: u32 = 6;
 
 /// The number of handles.
 const ALL: usize = 4_294_967_296;
-
-/// Returns the columns of a text.
-#[tactic(auto, using(std::proofs::lemmas::Str::chars_from_encodes))]
-fn columns_of(text: &str) -> usize
-    ensures { result ≡ length (chars text.now) }
-{
-    text.chars().count()
-}
 
 /// Adds the pieces of some parts of the line.
 #[tactic(auto, using(crate::proofs::ReachLemmas::are_reached_from))]

@@ -59,6 +59,7 @@ fn line_operand(line: &Line, position: usize) -> Option<Handle<mark::Expression>
 {
     match line {
         Line::Expression(operand)
+        | Line::Place(operand)
         | Line::Let(operand)
         | Line::While(operand)
         | Line::BreakIf(operand) => { if position == 0 { Some(*operand) } else { None } }

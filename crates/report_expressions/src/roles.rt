@@ -7,6 +7,8 @@ use shader_ir::BinaryOperator;
 pub enum Role {
     /// Alone, shown as it is computed even if it has a name.
     Root,
+    /// Alone, a pointer that stands for the memory that it points to.
+    RootPlace,
     /// Between brackets or commas.
     Whole,
     /// To the left of an operator.
@@ -80,7 +82,7 @@ fn takes_sums(outer: Level, inner: Level) -> bool {
 pub fn brackets_operation(role: Role, op: BinaryOperator) -> bool {
     let inner = level_of(op);
     match role {
-        Role::Root | Role::Whole => false,
+        Role::Root | Role::RootPlace | Role::Whole => false,
         Role::Left(outer) => {
             let outer = level_of(outer);
             let chains = outer == inner && outer != Level::Comparison && outer != Level::Shift;

@@ -10,6 +10,7 @@ use crate::makers::result_of;
 use crate::operands::Parent;
 use crate::parts::{Part, add_fixed, add_operand, add_word};
 use crate::pieces::{Word, number_of};
+use crate::references::is_reference;
 use crate::roles::Role;
 use crate::writing::has_name;
 use shader_arena::Handle;
@@ -61,7 +62,7 @@ pub fn add_start(source: &Source, parts: &mut Vec<Part>) -> Result<(), AllocErro
     ensures { OnOk result (AreParts source.now None parts.new.items) }
 {
     match source.line {
-        Line::Expression(_) | Line::Else | Line::Continuing => Ok(()),
+        Line::Expression(_) | Line::Place(_) | Line::Else | Line::Continuing => Ok(()),
         Line::Let(handle) => {
             if has_name(source, handle) {
                 add_let(source, parts, handle)
@@ -150,6 +151,20 @@ fn add_statement(
     }
 }
 
+/// Returns where an expression stands that is shown as the memory that it points to, if it is a pointer by its form.
+fn place_role(source: &Source, handle: Handle<mark::Expression>) -> Role {
+    match source.function.expressions.try_get(handle) {
+        Some(expression) => {
+            if is_reference(source, expression) {
+                Role::RootPlace
+            } else {
+                Role::Root
+            }
+        }
+        None => Role::Root,
+    }
+}
+
 /// Adds what a mark on the line underlines.
 pub fn add_core(alloc: Global, source: &Source, parts: &mut Vec<Part>) -> Result<(), AllocError>
     requires { AreParts source.now None parts.old.items }
@@ -157,6 +172,7 @@ pub fn add_core(alloc: Global, source: &Source, parts: &mut Vec<Part>) -> Result
 {
     match source.line {
         Line::Expression(_) | Line::Let(_) => add_operand(source, None, parts, 0, Role::Root),
+        Line::Place(handle) => add_operand(source, None, parts, 0, place_role(source, handle)),
         Line::Statement(statement) => add_statement(alloc, source, parts, statement),
         Line::While(_) | Line::BreakIf(_) => add_operand(source, None, parts, 0, Role::Whole),
         Line::For(..) => {
@@ -173,7 +189,7 @@ pub fn add_core(alloc: Global, source: &Source, parts: &mut Vec<Part>) -> Result
 /// Returns what ends a line.
 pub fn line_end(line: &Line) -> &'static str {
     match line {
-        Line::Expression(_) => "",
+        Line::Expression(_) | Line::Place(_) => "",
         Line::Let(_) => ";",
         Line::Statement(statement) => match statement {
             Statement::If { .. } | Statement::Switch { .. } => ") {",

@@ -40,20 +40,30 @@ pub fn has_name(source: &Source, handle: Handle<mark::Expression>) -> bool {
     }
 }
 
-/// Returns whether an expression is on the way to the marked operand.
-fn is_on_way(source: &Source, handle: Handle<mark::Expression>) -> bool {
-    for on_way in source.way {
-        if *on_way == handle {
+/// Returns whether the marked operand is written.
+fn has_mark(pieces: &[Piece]) -> bool {
+    for piece in pieces {
+        if piece.is_marked {
             return true;
         }
     }
     false
 }
 
+/// Returns whether an expression is on the way to the marked operand, which is the first of those that are the same expression.
+fn is_on_way(source: &Source, pieces: &[Piece], handle: Handle<mark::Expression>) -> bool {
+    for on_way in source.way {
+        if *on_way == handle {
+            return !has_mark(pieces);
+        }
+    }
+    false
+}
+
 /// Returns whether an expression is the marked operand.
-fn is_marked_operand(source: &Source, handle: Handle<mark::Expression>) -> bool {
+fn is_marked_operand(source: &Source, pieces: &[Piece], handle: Handle<mark::Expression>) -> bool {
     match source.way.last() {
-        Some(last) => *last == handle,
+        Some(last) => *last == handle && !has_mark(pieces),
         None => false,
     }
 }
@@ -245,7 +255,7 @@ fn parts_of(
 {
     let mut parts = Vec::new(alloc);
     let of = Some(e);
-    if has_name(source, Handle::from_index(e)) && !matches!(role, Role::Root) {
+    if has_name(source, Handle::from_index(e)) && !matches!(role, Role::Root | Role::RootPlace) {
         let word = Word::Named(e);
         add_signed(source, of, &mut parts, word, role, false)?;
         return Ok(parts);
@@ -302,13 +312,13 @@ fn write_operand(
 {
     let e = number_of(handle);
     let of = Some(e);
-    let is_marked = shown.is_marked || is_marked_operand(source, handle);
+    let is_marked = shown.is_marked || is_marked_operand(source, pieces.as_slice(), handle);
     let Some(expression) = source.function.expressions.try_get(handle) else {
         return say(source, pieces, of, Word::Numbered(e), is_marked);
     };
     let is_short = is_short(source, expression);
     let is_full = shown.depth == 0 || pieces.len() >= MOST_PIECES;
-    let is_left_out = is_full && !is_short && !is_on_way(source, handle);
+    let is_left_out = is_full && !is_short && !is_on_way(source, pieces.as_slice(), handle);
     let parts = parts_of(alloc, source, e, expression, role, is_left_out)?;
     let inside = Shown {
         depth: depth_inside(expression, shown.depth),

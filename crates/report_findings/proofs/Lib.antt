@@ -1,3 +1,4 @@
 mod AcceptedLemmas
+mod CallLemmas
 mod CollectLemmas
 mod SteadyLemmas

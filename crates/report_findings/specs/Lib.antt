@@ -1,8 +1,12 @@
+pub mod Bodies
+pub mod Calls
 pub mod Changes
 pub mod Collected
+pub mod Effects
 pub mod Flow
 pub mod Help
 pub mod ModuleFaults
 pub mod Refusals
+pub mod Results
 pub mod Sites
 pub mod Steady

@@ -1,5 +1,7 @@
 //! The diagnostics of a module.
 ghost use Rattle.std.specs.Prelude.{◌≡◌, [], ◌∷◌, IfOk, OnOk, option_to_list};
+ghost use Rattle.report_places.specs.Sites.{place_of_body};
+ghost use Rattle.report_findings.specs.Bodies.{IsOutlined};
 ghost use Rattle.report_findings.specs.Collected.{AddsEach, AddsFlow, AddsViolations, AreAnalysisDiagnostics, AreDiagnostics};
 ghost use Rattle.report_findings.specs.Collected.{HasNoneIfAccepted};
 ghost use Rattle.report_findings.specs.Flow.{IsFlowDiagnostic};
@@ -8,24 +10,40 @@ ghost use Rattle.shader_uniformity_causes.specs.Callers.{AreCallers};
 ghost use Rattle.report_findings.specs.Refusals.{IsLayoutDiagnostic, IsRefusalDiagnostic};
 
 use crate::advice::advised;
+use crate::bodies::OutlinedBody;
 use crate::flow::flow_diagnostic;
 use crate::help::need_help;
 use crate::module_faults::fault_diagnostic;
 use crate::refusals::{layout_diagnostic, refusal_diagnostic};
 use crate::related::causes_of_need;
+use crate::roots::others_note;
+use crate::sites::expression_text_at;
+use crate::words::need_label;
 use report_diagnostics::{Diagnostic, Text};
 use report_model::{Analysis, Analyzed};
+use report_places::{BodyPlace, place_of_body};
 use shader_info::AnalysisError;
 use shader_ir::proc::LayoutError;
 use shader_ir::{Items, Module};
 use shader_resolve::FaultAt;
 use shader_uniformity::{Rule, Uniformity};
-use shader_uniformity_causes::{PassedBy, find_callers};
+use shader_uniformity_causes::{Cause, PassedBy, find_callers};
 use shader_uniformity_needs::{Violation, find_violations};
 use std::alloc::{AllocError, Global};
 
-/// The most diagnostics with causes. The causes of one cost time in the size of a function.
+/// The most diagnostics with causes, unless all have them. Causes of one cost time in the size of a function.
 const MOST_EXPLAINED: usize = 100;
+
+/// How many causes of a violated need are kept.
+#[derive(Clone, Copy)]
+enum Kept {
+    /// None is looked for.
+    None,
+    /// The first ones and the last ones.
+    Ends,
+    /// All.
+    All,
+}
 
 /// Adds the diagnostic of a module that isn't well formed.
 fn add_fault(
@@ -44,6 +62,7 @@ fn add_fault(
 /// Adds the diagnostic of a type without a layout, if there is one.
 fn add_layout(
     alloc: Global,
+    module: &Module,
     diagnostics: &mut Vec<Diagnostic>,
     error: &Option<LayoutError>,
 ) -> Result<(), AllocError>
@@ -51,7 +70,7 @@ fn add_layout(
 {
     match error {
         Some(error) => {
-            let diagnostic = layout_diagnostic(alloc, error)?;
+            let diagnostic = layout_diagnostic(alloc, module, error)?;
             diagnostics.push(diagnostic)?;
             Ok(())
         }
@@ -73,22 +92,75 @@ fn add_refusal(
     Ok(())
 }
 
+/// Returns the diagnostic of a violated need, with what is said of its place.
+fn labelled_diagnostic(
+    alloc: Global,
+    module: &Module,
+    body: &OutlinedBody<'_>,
+    violation: &Violation,
+) -> Result<Diagnostic, AllocError>
+    requires outlined { IsOutlined «module».now body.now }
+    requires place { body.now.place ≡ place_of_body violation.now.place }
+    ensures { IfOk result (IsFlowDiagnostic «module».now violation.now) }
+{
+    let diagnostic = flow_diagnostic(alloc, module, body, violation)?;
+    let text = expression_text_at(alloc, module, &diagnostic.location)?;
+    let label = need_label(alloc, &violation.need)?;
+    Ok(Diagnostic {
+        text,
+        label,
+        ..diagnostic
+    })
+}
+
+/// Returns the notes on a violated need, of which a chain of causes shows one function or entry point in which it is violated.
+fn need_notes(
+    alloc: Global,
+    module: &Module,
+    known: &[Items<Rule>],
+    violation: &Violation,
+    chain: &[Cause],
+) -> Result<Vec<Text>, AllocError> {
+    let shown = match chain.last() {
+        Some(cause) => cause.place,
+        None => violation.place,
+    };
+    let mut notes = Vec::new(alloc);
+    if let Some(note) = others_note(alloc, module, known, violation, shown)? {
+        notes.push(Text::from(note))?;
+    }
+    Ok(notes)
+}
+
 /// Returns the diagnostic of a violated need, with its causes.
 fn explained(
     alloc: Global,
     module: &Module,
     known: &[Items<Rule>],
     callers: &[Vec<PassedBy>],
+    body: &OutlinedBody<'_>,
     violation: &Violation,
+    keeps_all: bool,
 ) -> Result<Diagnostic, AllocError>
-    requires { AreCallers «module».now known.now callers.now }
+    requires callers { AreCallers «module».now known.now callers.now }
+    requires outlined { IsOutlined «module».now body.now }
+    requires place { body.now.place ≡ place_of_body violation.now.place }
     ensures { IfOk result (IsFlowDiagnostic «module».now violation.now) }
 {
-    let causes = causes_of_need(alloc, module, known, callers, violation)?;
-    let diagnostic = flow_diagnostic(alloc, module, violation)?;
+    let causes = causes_of_need(alloc, module, known, callers, violation, keeps_all)?;
+    let diagnostic = labelled_diagnostic(alloc, module, body, violation)?;
     let chain = causes.chain.as_slice();
-    let help = need_help(alloc, module, known, violation, &diagnostic.location, chain)?;
-    let advised = advised(diagnostic, causes.related, Vec::new(alloc), help);
+    let notes = need_notes(alloc, module, known, violation, chain)?;
+    let help = need_help(
+        alloc,
+        module,
+        known,
+        callers,
+        violation,
+        &diagnostic.location,
+        chain,
+    )?;
+    let advised = advised(diagnostic, causes.related, notes, help);
     Ok(Diagnostic {
         omitted: causes.omitted,
         ..advised
@@ -99,33 +171,39 @@ fn explained(
 fn unexplained(
     alloc: Global,
     module: &Module,
+    body: &OutlinedBody<'_>,
     violation: &Violation,
 ) -> Result<Diagnostic, AllocError>
+    requires outlined { IsOutlined «module».now body.now }
+    requires place { body.now.place ≡ place_of_body violation.now.place }
     ensures { IfOk result (IsFlowDiagnostic «module».now violation.now) }
 {
-    let diagnostic = flow_diagnostic(alloc, module, violation)?;
-    let note = format!(in alloc; "causes are told of the first {MOST_EXPLAINED} errors")?;
+    let diagnostic = labelled_diagnostic(alloc, module, body, violation)?;
+    let note = format!(in alloc; "causes are given for the first {MOST_EXPLAINED} errors only")?;
     let mut notes = Vec::new(alloc);
     notes.push(Text::from(note))?;
     Ok(advised(diagnostic, Vec::new(alloc), notes, Vec::new(alloc)))
 }
 
-/// Returns the diagnostic of a violated need, with its causes if they are looked for.
+/// Returns the diagnostic of a violated need, with as many of its causes.
 fn diagnostic_of(
     alloc: Global,
     module: &Module,
     known: &[Items<Rule>],
     callers: &[Vec<PassedBy>],
+    body: &OutlinedBody<'_>,
     violation: &Violation,
-    is_explained: bool,
+    kept: Kept,
 ) -> Result<Diagnostic, AllocError>
-    requires { AreCallers «module».now known.now callers.now }
+    requires callers { AreCallers «module».now known.now callers.now }
+    requires outlined { IsOutlined «module».now body.now }
+    requires place { body.now.place ≡ place_of_body violation.now.place }
     ensures { IfOk result (IsFlowDiagnostic «module».now violation.now) }
 {
-    if is_explained {
-        explained(alloc, module, known, callers, violation)
-    } else {
-        unexplained(alloc, module, violation)
+    match kept {
+        Kept::None => unexplained(alloc, module, body, violation),
+        Kept::Ends => explained(alloc, module, known, callers, body, violation, false),
+        Kept::All => explained(alloc, module, known, callers, body, violation, true),
     }
 }
 
@@ -138,13 +216,22 @@ fn add_each(
     known: &[Items<Rule>],
     callers: &[Vec<PassedBy>],
     violations: &[Violation],
+    keeps_all: bool,
 ) -> Result<(), AllocError>
     requires { AreCallers «module».now known.now callers.now }
     ensures { OnOk result (AddsEach (IsFlowDiagnostic «module».now) violations.now diagnostics.old.items diagnostics.new.items) }
 {
+    let mut body = OutlinedBody::at(alloc, module, BodyPlace::ConstExpression(0))?;
     for violation in violations {
-        let is_explained = diagnostics.len() < MOST_EXPLAINED;
-        let diagnostic = diagnostic_of(alloc, module, known, callers, violation, is_explained)?;
+        body = body.moved_to(alloc, module, place_of_body(violation.place))?;
+        let kept = if keeps_all {
+            Kept::All
+        } else if diagnostics.len() < MOST_EXPLAINED {
+            Kept::Ends
+        } else {
+            Kept::None
+        };
+        let diagnostic = diagnostic_of(alloc, module, known, callers, &body, violation, kept)?;
         diagnostics.push(diagnostic)?;
     }
     Ok(())
@@ -156,6 +243,7 @@ fn add_violations(
     module: &Module,
     diagnostics: &mut Vec<Diagnostic>,
     known: &[Items<Rule>],
+    keeps_all: bool,
 ) -> Result<(), AllocError>
     ensures { OnOk result (AddsViolations «module».now known.now diagnostics.old.items diagnostics.new.items) }
 {
@@ -168,6 +256,7 @@ fn add_violations(
         known,
         &callers,
         violations.as_slice(),
+        keeps_all,
     )?;
     Ok(())
 }
@@ -178,12 +267,16 @@ fn add_flow(
     module: &Module,
     diagnostics: &mut Vec<Diagnostic>,
     uniformity: &Option<Uniformity>,
+    keeps_all: bool,
 ) -> Result<(), AllocError>
     ensures { OnOk result (AddsFlow «module».now uniformity.now diagnostics.old.items diagnostics.new.items) }
 {
     match uniformity {
         Some(found) => match found.fault {
-            Some(_) => add_violations(alloc, module, diagnostics, found.functions.as_slice()),
+            Some(_) => {
+                let known = found.functions.as_slice();
+                add_violations(alloc, module, diagnostics, known, keeps_all)
+            }
             None => Ok(()),
         },
         None => Ok(()),
@@ -195,15 +288,22 @@ fn analysis_diagnostics(
     alloc: Global,
     module: &Module,
     analysis: &Analysis,
+    keeps_all: bool,
 ) -> Result<Vec<Diagnostic>, AllocError>
     ensures { IfOk result (λ diagnostics. AreAnalysisDiagnostics «module».now analysis.now diagnostics.items) }
 {
     let mut diagnostics = Vec::new(alloc);
-    add_layout(alloc, &mut diagnostics, &analysis.layout_error)?;
+    add_layout(alloc, module, &mut diagnostics, &analysis.layout_error)?;
     if let Err(refusal) = &analysis.info {
         add_refusal(alloc, module, &mut diagnostics, refusal)?;
     }
-    add_flow(alloc, module, &mut diagnostics, &analysis.uniformity)?;
+    add_flow(
+        alloc,
+        module,
+        &mut diagnostics,
+        &analysis.uniformity,
+        keeps_all,
+    )?;
     Ok(diagnostics)
 }
 
@@ -212,6 +312,7 @@ fn list_diagnostics(
     alloc: Global,
     module: &Module,
     found: &Analyzed,
+    keeps_all: bool,
 ) -> Result<Vec<Diagnostic>, AllocError>
     ensures { IfOk result (λ diagnostics. AreDiagnostics «module».now found.now diagnostics.items) }
 {
@@ -221,13 +322,13 @@ fn list_diagnostics(
             add_fault(alloc, module, &mut diagnostics, fault)?;
             Ok(diagnostics)
         }
-        Analyzed::WellFormed(analysis) => analysis_diagnostics(alloc, module, analysis),
+        Analyzed::WellFormed(analysis) => analysis_diagnostics(alloc, module, analysis, keeps_all),
     }
 }
 
 /// Returns what is wrong with a module, in the order in which it was checked: a fault of a module that isn't well formed; or else the first
 /// type without a layout, the refused expression, and each violated need of uniform control flow in the order of the module. An accepted
-/// module has no diagnostics.
+/// module has no diagnostics. Of more than 100 causes of one need those at both ends are kept, or all.
 ///
 /// # Errors
 ///
@@ -238,10 +339,11 @@ pub fn diagnostics_of(
     alloc: Global,
     module: &Module,
     found: &Analyzed,
+    keeps_all: bool,
 ) -> Result<Vec<Diagnostic>, AllocError>
     ensures diagnostics { IfOk result (λ diagnostics. AreDiagnostics «module».now found.now diagnostics.items) }
     ensures accepted { IfOk result (λ diagnostics. HasNoneIfAccepted «module».now found.now diagnostics.items) }
 {
-    let diagnostics = list_diagnostics(alloc, module, found)?;
+    let diagnostics = list_diagnostics(alloc, module, found, keeps_all)?;
     Ok(diagnostics)
 }

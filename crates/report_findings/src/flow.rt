@@ -1,14 +1,16 @@
 //! Diagnostics of violated needs of uniform control flow.
 ghost use Rattle.std.specs.Prelude.{◌≡◌, IfOk};
 ghost use Rattle.std.specs.Option.{option_map};
+ghost use Rattle.report_places.specs.Sites.{place_of_body};
+ghost use Rattle.report_findings.specs.Bodies.{IsOutlined};
 ghost use Rattle.report_findings.specs.Flow.{IsFlowDiagnostic, flow_code, need_location, need_pointer};
 
+use crate::bodies::OutlinedBody;
 use crate::sites::{path_of, text_of};
 use crate::words::need_message;
 use report_diagnostics::{Code, Diagnostic, FlowCode, Location, Text};
 use report_places::{
-    BodyPlace, StatementAt, Wanted, body_pointer, expression_pointer, name_at, place_of_body,
-    statement_at, statement_pointer,
+    BodyPlace, StatementAt, body_pointer, expression_pointer, name_at, statement_pointer,
 };
 use shader_arena::Handle;
 use shader_ir::{Module, mark};
@@ -71,7 +73,7 @@ fn need_location(
     ))
 }
 
-/// Returns the diagnostic of a violated need.
+/// Returns the diagnostic of a violated need of a body.
 ///
 /// # Errors
 ///
@@ -79,16 +81,18 @@ fn need_location(
 pub fn flow_diagnostic(
     alloc: Global,
     module: &Module,
+    body: &OutlinedBody<'_>,
     violation: &Violation,
 ) -> Result<Diagnostic, AllocError>
+    requires outlined { IsOutlined «module».now body.now }
+    requires place { body.now.place ≡ place_of_body violation.now.place }
     ensures { IfOk result (IsFlowDiagnostic «module».now violation.now) }
 {
-    let place = place_of_body(violation.place);
+    let place = &body.place;
     let need = &violation.need;
-    let wanted = Wanted::At(need.position);
-    let found = statement_at(alloc, module, &place, &wanted)?;
-    let message = need_message(alloc, module, &place, need, &found)?;
-    let location = need_location(alloc, module, &place, need, found)?;
+    let found = body.outline.get(alloc, need.position)?;
+    let message = need_message(alloc, module, place, need, &found)?;
+    let location = need_location(alloc, module, place, need, found)?;
     let code = Code::Flow(flow_code(need.kind));
     Ok(Diagnostic::error(alloc, code, message, location))
 }

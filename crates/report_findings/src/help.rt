@@ -1,13 +1,19 @@
 //! What to do about a diagnostic. Each help removes it if it is followed.
+ghost use Rattle.std.specs.Prelude.{◌≡◌, IfOk, IfSome};
+ghost use Rattle.shader_uniformity_causes.specs.Callers.{AreCallers};
+ghost use Rattle.report_findings.specs.Help.{IfAcceptedByRules};
 
-use crate::point_help::PointNeed;
+use crate::call_help::call_help;
+use crate::point_help::BodyNeed;
 use report_diagnostics::{Code, FlowCode, Location, ResourceCode, Text};
+use report_messages::Wording;
 use report_names::{ItemKind, item_text, name_text};
-use report_places::{BodyPlace, Wanted, function_of, statement_at};
+use report_places::{BodyPlace, Wanted, function_of, place_of_body, statement_at};
 use shader_arena::Handle;
+use shader_info::FunctionError;
 use shader_ir::{Expression, Function, Items, Module, SampleLevel, mark};
-use shader_uniformity::{BodyLocation, Rule, function_at, rules_at};
-use shader_uniformity_causes::Cause;
+use shader_uniformity::{BodyLocation, Rule, find_divergence, function_at, rules_at};
+use shader_uniformity_causes::{Cause, PassedBy};
 use shader_uniformity_needs::{NeedKind, Violation};
 use std::alloc::{AllocError, Global};
 
@@ -73,17 +79,18 @@ fn add_help(alloc: Global, all: &mut Vec<Text>, help: Option<String>) -> Result<
     Ok(())
 }
 
-/// Returns what to do about a refusal.
+/// Adds what to do about a refusal.
 ///
 /// # Errors
 ///
 /// `AllocError` if an allocation fails.
-pub fn help_of(
+pub fn add_help_of(
     alloc: Global,
     module: &Module,
+    wording: &mut Wording,
     code: Code,
     place: BodyPlace,
-) -> Result<Vec<Text>, AllocError> {
+) -> Result<(), AllocError> {
     let help = match code {
         Code::Flow(FlowCode::Derivative | FlowCode::ImplicitLevel) => {
             filter_help(alloc, module, place)?
@@ -94,9 +101,48 @@ pub fn help_of(
         }
         _ => None,
     };
-    let mut all = Vec::new(alloc);
-    add_help(alloc, &mut all, help)?;
-    Ok(all)
+    add_help(alloc, &mut wording.help, help)
+}
+
+/// Returns the help to decide by WGSL's rules, if these accept the control flow of the module.
+///
+/// # Errors
+///
+/// `AllocError` if an allocation fails, or a function has 2^32 statements.
+fn rules_help(alloc: Global, module: &Module) -> Result<Option<String>, AllocError>
+    ensures { IfOk result (IfAcceptedByRules «module».now) }
+{
+    let found = find_divergence(alloc, module)?;
+    if found.is_accepted() {
+        let help =
+            "decide by WGSL's rules, which accept it: leave out `--uniformity=naga`".to_string(
+                alloc,
+            )?;
+        Ok(Some(help))
+    } else {
+        Ok(None)
+    }
+}
+
+/// Adds the help to decide by WGSL's rules about an expression that naga's rules refuse, if the former accept the control flow of the
+/// module.
+///
+/// # Errors
+///
+/// `AllocError` if an allocation fails, or a function has 2^32 statements.
+pub fn add_rules_help(
+    alloc: Global,
+    module: &Module,
+    wording: &mut Wording,
+    cause: &FunctionError,
+) -> Result<(), AllocError> {
+    match cause {
+        FunctionError::NonUniformControlFlow(..) => {
+            let help = rules_help(alloc, module)?;
+            add_help(alloc, &mut wording.help, help)
+        }
+        _ => Ok(()),
+    }
 }
 
 /// Returns the help for a sample that has a counterpart with an explicit level.
@@ -123,46 +169,46 @@ fn level_help(
     }
 }
 
-/// Returns the need of an entry point with what follows in it, if it is one of an entry point.
-fn point_need<'a>(
+/// Returns a violated need with what follows in its function or entry point, if that is there.
+fn body_need<'a>(
     alloc: Global,
     module: &'a Module,
     known: &[Items<Rule>],
     violation: &Violation,
-) -> Result<Option<PointNeed<'a>>, AllocError> {
-    let BodyLocation::EntryPoint(index) = violation.place else {
-        return Ok(None);
-    };
-    let Some(point) = module.entry_points.as_slice().get(index) else {
+) -> Result<Option<BodyNeed<'a>>, AllocError> {
+    let place = place_of_body(violation.place);
+    let Some(function) = function_of(module, &place) else {
         return Ok(None);
     };
     let wanted = Wanted::At(violation.need.position);
-    let found = statement_at(alloc, module, &BodyPlace::EntryPoint(index), &wanted)?;
+    let found = statement_at(alloc, module, &place, &wanted)?;
     let statement = match found {
         Some(at) => Some(at.statement),
         None => None,
     };
     let rules = rules_at(alloc, module, known, violation.place)?;
-    Ok(Some(PointNeed {
+    Ok(Some(BodyNeed {
         module,
-        point,
+        function,
+        place: violation.place,
         rules,
         need: violation.need,
         statement,
     }))
 }
 
-/// Adds what to do about a violated need of an entry point.
+/// Adds what to do about a violated need of an entry point with this name.
 fn add_point_help(
     alloc: Global,
     all: &mut Vec<Text>,
-    found: &PointNeed<'_>,
+    found: &BodyNeed<'_>,
+    name: &str,
     location: &Location,
     chain: &[Cause],
 ) -> Result<(), AllocError> {
     match found.need.kind {
         NeedKind::Derivative | NeedKind::ImplicitLevel => {
-            add_help(alloc, all, found.start_help(alloc)?)
+            add_help(alloc, all, found.start_help(alloc, name)?)
         }
         _ => {
             if let Some(path) = &location.statement {
@@ -171,6 +217,71 @@ fn add_point_help(
             add_help(alloc, all, found.jump_help(alloc, chain)?)?;
             add_help(alloc, all, found.load_help(alloc, chain)?)
         }
+    }
+}
+
+/// Adds what to do about a violated need of a function.
+fn add_function_help(
+    alloc: Global,
+    all: &mut Vec<Text>,
+    module: &Module,
+    known: &[Items<Rule>],
+    callers: &[Vec<PassedBy>],
+    found: &BodyNeed<'_>,
+    location: &Location,
+) -> Result<(), AllocError>
+    requires { AreCallers «module».now known.now callers.now }
+{
+    match found.need.kind {
+        NeedKind::Derivative | NeedKind::ImplicitLevel => {
+            let violation = Violation {
+                place: found.place,
+                need: found.need,
+            };
+            add_help(
+                alloc,
+                all,
+                call_help(alloc, module, known, callers, &violation)?,
+            )
+        }
+        _ => match &location.statement {
+            Some(path) => {
+                let way = path.steps.as_slice();
+                add_help(
+                    alloc,
+                    all,
+                    found.move_in_calls_help(alloc, module, known, callers, way)?,
+                )
+            }
+            None => Ok(()),
+        },
+    }
+}
+
+/// Adds what to do about a violated need by what follows in its function or entry point, and in the calls of it.
+fn add_body_help(
+    alloc: Global,
+    all: &mut Vec<Text>,
+    module: &Module,
+    known: &[Items<Rule>],
+    callers: &[Vec<PassedBy>],
+    found: &BodyNeed<'_>,
+    location: &Location,
+    chain: &[Cause],
+) -> Result<(), AllocError>
+    requires { AreCallers «module».now known.now callers.now }
+{
+    match found.place {
+        BodyLocation::Function(_) => {
+            add_function_help(alloc, all, module, known, callers, found, location)
+        }
+        BodyLocation::EntryPoint(index) => match module.entry_points.as_slice().get(index) {
+            Some(point) => {
+                let name = name_text(alloc, point.name.as_str())?;
+                add_point_help(alloc, all, found, name.as_str(), location, chain)
+            }
+            None => Ok(()),
+        },
     }
 }
 
@@ -199,13 +310,18 @@ pub fn need_help(
     alloc: Global,
     module: &Module,
     known: &[Items<Rule>],
+    callers: &[Vec<PassedBy>],
     violation: &Violation,
     location: &Location,
     chain: &[Cause],
-) -> Result<Vec<Text>, AllocError> {
+) -> Result<Vec<Text>, AllocError>
+    requires { AreCallers «module».now known.now callers.now }
+{
     let mut all = Vec::new(alloc);
-    if let Some(found) = point_need(alloc, module, known, violation)? {
-        add_point_help(alloc, &mut all, &found, location, chain)?;
+    if let Some(found) = body_need(alloc, module, known, violation)? {
+        add_body_help(
+            alloc, &mut all, module, known, callers, &found, location, chain,
+        )?;
     }
     match violation.need.kind {
         NeedKind::Derivative | NeedKind::ImplicitLevel => {

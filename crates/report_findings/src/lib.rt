@@ -2,10 +2,15 @@
 #![tactic(auto)]
 
 mod advice;
+mod bodies;
+mod call_help;
 mod changes;
 mod collect;
+mod effects;
 mod flow;
 mod help;
+mod indexes;
+mod leaving;
 mod messages;
 mod module_faults;
 mod owners;
@@ -13,10 +18,13 @@ mod point_help;
 mod reasons;
 mod refusals;
 mod related;
+mod results;
+mod roots;
 mod said;
-mod shown;
 mod sites;
 mod steady;
+mod stores;
 mod words;
 
 pub use collect::diagnostics_of;
+pub use results::{causes_of_result, source_of_result};

@@ -1,11 +1,12 @@
 //! What is wrong, in a sentence. No clause says the words: they may change in any release.
 
 use crate::words::naga_message;
-use report_diagnostics::{Code, LayoutCode, ModuleCode, ResourceCode, Text, TypeCode};
+use report_diagnostics::{Code, LayoutCode, ModuleCode, ResourceCode, TypeCode};
+use report_messages::{Misuse, Wording, resource_wording, type_wording};
 use report_places::BodyPlace;
+use shader_arena::Handle;
 use shader_info::{ExpressionError, FunctionError};
-use shader_ir::Module;
-use shader_resolve::ResolveError;
+use shader_ir::{Module, mark};
 use std::alloc::{AllocError, Global};
 
 /// Returns the sentence of a module that isn't well formed.
@@ -77,44 +78,42 @@ pub fn message_of(code: Code) -> &'static str {
     }
 }
 
-/// Returns the sentence of an expression without a type, with what the error names.
-fn resolve_message(alloc: Global, code: Code, error: &ResolveError) -> Result<String, AllocError> {
-    match error {
-        ResolveError::OutOfBoundsIndex { index, .. } => {
-            format!(in alloc; "index {index} is past the end of what it indexes")
+/// Returns what is said of a refused expression.
+fn expression_wording(
+    alloc: Global,
+    module: &Module,
+    place: &BodyPlace,
+    handle: Handle<mark::Expression>,
+    error: &ExpressionError,
+    general: &str,
+) -> Result<Wording, AllocError> {
+    let misuse = match error {
+        ExpressionError::Resolve(error) => {
+            return type_wording(alloc, module, place, handle, error, general);
         }
-        ResolveError::IncompatibleOperands(name) => {
-            format!(in alloc; "`{name}` can't take these operands")
-        }
-        ResolveError::BuiltinArgumentsInvalid(name) => {
-            format!(in alloc; "no overload of `{name}` takes these arguments")
-        }
-        ResolveError::FunctionNotDefined { name } => {
-            format!(in alloc; "there is no function `{name}`")
-        }
-        ResolveError::FunctionArgumentNotFound(index) => {
-            format!(in alloc; "`argument#{index}` doesn't exist")
-        }
-        _ => message_of(code).to_string(alloc),
-    }
+        ExpressionError::MissingCapabilities(_) => Misuse::DifferingIndex,
+        ExpressionError::ExpectedGlobalOrArgument => Misuse::Unbound,
+        ExpressionError::BindingArrayElement => Misuse::Element,
+    };
+    resource_wording(alloc, module, place, handle, misuse, general)
 }
 
-/// Returns the sentence of the refusal of the function, entry point or global expression at a place.
-pub fn refusal_message(
+/// Returns what is said of the refusal of the function, entry point or global expression at a place.
+pub fn refusal_wording(
     alloc: Global,
     module: &Module,
     place: &BodyPlace,
     code: Code,
     cause: &FunctionError,
-) -> Result<Text, AllocError> {
+) -> Result<Wording, AllocError> {
     match cause {
-        FunctionError::Expression {
-            source: ExpressionError::Resolve(error),
-            ..
-        } => Ok(Text::from(resolve_message(alloc, code, error)?)),
-        FunctionError::NonUniformControlFlow(_, expression, _) => {
-            naga_message(alloc, module, place, *expression)
+        FunctionError::Expression { handle, source } => {
+            expression_wording(alloc, module, place, *handle, source, message_of(code))
         }
-        _ => Ok(Text::from(message_of(code).to_string(alloc)?)),
+        FunctionError::NonUniformControlFlow(_, expression, _) => {
+            let message = naga_message(alloc, module, place, *expression)?;
+            Ok(Wording::of(alloc, message))
+        }
+        _ => Ok(Wording::of(alloc, message_of(code).to_string(alloc)?)),
     }
 }

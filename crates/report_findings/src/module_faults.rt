@@ -3,9 +3,11 @@ ghost use Rattle.std.specs.Prelude.{◌≡◌, IfOk, string_bytes};
 ghost use Rattle.report_findings.specs.ModuleFaults.{IsFaultDiagnostic, fault_code, fault_expression, fault_location, fault_place};
 ghost use Rattle.report_findings.specs.ModuleFaults.{fault_pointer, fault_type, place_pointer};
 
+use crate::advice::worded;
 use crate::messages::message_of;
 use crate::sites::text_of;
 use report_diagnostics::{Code, Diagnostic, Location, ModuleCode, Text};
+use report_messages::fault_wording;
 use report_places::{
     BodyPlace, body_pointer, expression_pointer, item_pointer, named_at, statement_pointer,
 };
@@ -154,7 +156,8 @@ pub fn fault_diagnostic(
     ensures { IfOk result (IsFaultDiagnostic «module».now found.now) }
 {
     let code = Code::Module(fault_code(found.fault));
-    let message = Text::from(message_of(code).to_string(alloc)?);
+    let body = fault_place(&found.location);
+    let wording = fault_wording(alloc, module, &body, found, message_of(code))?;
     let location = fault_location(alloc, module, &found.location)?;
-    Ok(Diagnostic::error(alloc, code, message, location))
+    Ok(worded(alloc, code, wording, location))
 }

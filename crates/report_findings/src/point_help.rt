@@ -1,27 +1,30 @@
-//! What to do about a violated need of an entry point, by what would follow after a change of it.
-ghost use Rattle.std.specs.Prelude.{IfOk};
+//! What to do about a violated need, by what would follow after a change of its function or entry point.
+ghost use Rattle.std.specs.Prelude.{◌≡◌, false, IfOk};
 ghost use Rattle.report_findings.specs.Changes.{Follows, remaining};
-ghost use Rattle.report_findings.specs.Help.{IfBehind, IfMoved, IfNoJump, IfOneValue};
+ghost use Rattle.report_findings.specs.Help.{IfBehind, IfBehindInCalls, IfMoved, IfNoJump, IfOneValue};
+ghost use Rattle.shader_uniformity_causes.specs.Callers.{AreCallers};
+ghost use Rattle.shader_uniformity_needs.specs.Violations.{MayHold};
 
 use crate::changes::{Change, follows, follows_after};
 use crate::owners::positions_of;
-use crate::shown::{expression_text, result_text};
 use crate::steady::is_steady;
-use report_names::{barrier_text, global_text, memory_barrier_text, name_text};
+use report_messages::{expression_text, result_text};
+use report_names::{barrier_text, global_text, memory_barrier_text};
 use report_places::PathStep;
 use shader_arena::Handle;
-use shader_ir::{AddressSpace, EntryPoint, Expression, Module, Statement, mark};
-use shader_uniformity::{Fact, Jump, Place, Rule};
-use shader_uniformity_causes::Cause;
+use shader_ir::{AddressSpace, Expression, Function, Items, Module, Statement, mark};
+use shader_uniformity::{BodyLocation, Fact, Jump, Place, Rule};
+use shader_uniformity_causes::{Cause, PassedBy, causes_of};
 use shader_uniformity_needs::{Need, NeedKind};
 use std::alloc::{AllocError, Global};
 
-/// A violated need of an entry point.
+/// A violated need of a function or an entry point.
 #[derive(Drop)]
-pub struct PointNeed<'a> {
+pub struct BodyNeed<'a> {
     pub module: &'a Module,
-    pub point: &'a EntryPoint,
-    /// The implications of the entry point.
+    pub function: &'a Function,
+    pub place: BodyLocation,
+    /// The implications of the function.
     pub rules: Vec<Rule>,
     pub need: Need,
     /// The statement that has the need, if it was found.
@@ -61,10 +64,52 @@ fn first_load(chain: &[Cause]) -> Option<Handle<mark::Expression>> {
     None
 }
 
-impl PointNeed<'_> {
+/// Returns the help to compute something at the start of an entry point. A text that is abbreviated says less than the other words.
+pub fn start_words(
+    alloc: Global,
+    text: &str,
+    other: &str,
+    name: &str,
+) -> Result<String, AllocError> {
+    let what = if text.contains("...") {
+        other.to_string(alloc)?
+    } else {
+        format!(in alloc; "`{text}`")?
+    };
+    let start = format!(in alloc; "compute {what} at the start of `{name}`")?;
+    format!(in alloc; "{start}, before control flow diverges: it reads nothing that changes")
+}
+
+/// Returns a need of a derivative or a sample in words.
+fn kind_words(kind: NeedKind) -> &'static str {
+    match kind {
+        NeedKind::ImplicitLevel => "the sample",
+        _ => "the derivative",
+    }
+}
+
+/// Checks whether control flow may diverge at a position in a call of the function or entry point at a place.
+fn may_diverge(
+    alloc: Global,
+    module: &Module,
+    known: &[Items<Rule>],
+    callers: &[Vec<PassedBy>],
+    place: BodyLocation,
+    position: u32,
+) -> Result<bool, AllocError>
+    requires { AreCallers «module».now known.now callers.now }
+    ensures { IfOk result (λ may. may ≡ false → MayHold «module».now known.now place (Fact.Apart position) → ⊥) }
+{
+    match causes_of(alloc, module, known, callers, place, &Fact::Apart(position))? {
+        Some(_) => Ok(true),
+        None => Ok(false),
+    }
+}
+
+impl BodyNeed<'_> {
     /// Returns the text of what needs uniform control flow.
     fn text(&self, alloc: Global) -> Result<String, AllocError> {
-        let function = &self.point.function;
+        let function = self.function;
         match self.statement {
             Some(Statement::ControlBarrier(barrier)) => barrier_text(alloc, *barrier),
             Some(Statement::MemoryBarrier(barrier)) => memory_barrier_text(alloc, *barrier),
@@ -98,29 +143,23 @@ impl PointNeed<'_> {
     }
 
     /// Returns the help for an expression that may as well be computed at the start, where all invocations are.
-    pub fn start_help(&self, alloc: Global) -> Result<Option<String>, AllocError>
+    pub fn start_help(&self, alloc: Global, name: &str) -> Result<Option<String>, AllocError>
         ensures { IfOk result (IfMoved self.now) }
     {
         let Some(expression) = self.need.expression else {
             return Ok(None);
         };
-        let function = &self.point.function;
+        let function = self.function;
         if !is_steady(alloc, self.module, function, expression)? {
             return Ok(None);
         }
         let text = expression_text(alloc, self.module, function, expression)?;
-        let name = name_text(alloc, self.point.name.as_str())?;
-        let start = format!(in alloc; "compute `{text}` at the start of `{name}`")?;
-        let help = format!(in alloc;
-            "{start}, before control flow diverges: it reads nothing that changes"
-        )?;
+        let help = start_words(alloc, text.as_str(), kind_words(self.need.kind), name)?;
         Ok(Some(help))
     }
 
-    /// Returns the help for a barrier in an `if` of the entry point's own statements, at which and after which all invocations are.
-    pub fn move_help(&self, alloc: Global, way: &[PathStep]) -> Result<Option<String>, AllocError>
-        ensures { IfOk result (IfBehind self.now) }
-    {
+    /// Returns the positions of the `if` of the function's own statements in which a barrier stands, and of what is behind it.
+    fn around(&self, way: &[PathStep]) -> Option<(u32, u32)> {
         let index = match (self.need.kind, way) {
             (
                 NeedKind::Barrier | NeedKind::MemoryBarrier,
@@ -130,19 +169,53 @@ impl PointNeed<'_> {
                     PathStep::Statement(_),
                 ],
             ) => *index,
-            _ => return Ok(None),
+            _ => return None,
         };
-        let Some((begin, end)) = positions_of(&self.point.function.body, index) else {
+        positions_of(&self.function.body, index)
+    }
+
+    /// Returns the help to move a barrier behind an `if`.
+    fn behind_words(&self, alloc: Global) -> Result<String, AllocError> {
+        let text = self.text(alloc)?;
+        format!(in alloc; "move `{text}` after the `if`, so that all invocations reach it")
+    }
+
+    /// Returns the help for a barrier in an `if` of the entry point's own statements, at which and after which all invocations are.
+    pub fn move_help(&self, alloc: Global, way: &[PathStep]) -> Result<Option<String>, AllocError>
+        ensures { IfOk result (IfBehind self.now) }
+    {
+        let Some((begin, end)) = self.around(way) else {
             return Ok(None);
         };
         if self.diverges_at(alloc, begin)? || self.diverges_at(alloc, end)? {
             return Ok(None);
         }
-        let text = self.text(alloc)?;
-        let help = format!(in alloc;
-            "move `{text}` after the `if`, so that all invocations reach it"
-        )?;
-        Ok(Some(help))
+        Ok(Some(self.behind_words(alloc)?))
+    }
+
+    /// Returns the help for a barrier in an `if` of the function's own statements, at which and after which all invocations are in each
+    /// call of the function.
+    pub fn move_in_calls_help(
+        &self,
+        alloc: Global,
+        module: &Module,
+        known: &[Items<Rule>],
+        callers: &[Vec<PassedBy>],
+        way: &[PathStep],
+    ) -> Result<Option<String>, AllocError>
+        requires { AreCallers «module».now known.now callers.now }
+        ensures { IfOk result (IfBehindInCalls «module».now known.now self.now.place) }
+    {
+        let Some((begin, end)) = self.around(way) else {
+            return Ok(None);
+        };
+        if may_diverge(alloc, module, known, callers, self.place, begin)? {
+            return Ok(None);
+        }
+        if may_diverge(alloc, module, known, callers, self.place, end)? {
+            return Ok(None);
+        }
+        Ok(Some(self.behind_words(alloc)?))
     }
 
     /// Returns the help for a need that isn't violated without a statement that exits blocks.
@@ -186,7 +259,7 @@ impl PointNeed<'_> {
 
     /// Returns the variable of the workgroup that an expression loads, if it loads one as a whole.
     fn loaded(&self, load: Handle<mark::Expression>) -> Option<Handle<mark::GlobalVariable>> {
-        let expressions = &self.point.function.expressions;
+        let expressions = &self.function.expressions;
         let Some(Expression::Load { pointer }) = expressions.try_get(load) else {
             return None;
         };

@@ -5,6 +5,8 @@
 pub enum Reason {
     /// Some invocations may return at the statement.
     Returns,
+    /// Some invocations may be discarded at the statement.
+    Discards,
     /// Some invocations may leave a switch at the statement.
     LeavesSwitch,
     /// Some invocations may leave a loop at the statement.
@@ -66,6 +68,7 @@ impl Reason {
     fn statement_words(self) -> &'static str {
         match self {
             Reason::Returns => "some invocations may return here, and others not",
+            Reason::Discards => "some invocations may be discarded here, and others not",
             Reason::LeavesSwitch => "some invocations may leave the switch here, and others not",
             Reason::LeavesLoop =>
                 "some invocations may leave the loop here, and others go on to the next round",

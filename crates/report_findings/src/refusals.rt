@@ -5,13 +5,14 @@ ghost use Rattle.report_findings.specs.Refusals.{cause_expression, expression_co
 ghost use Rattle.report_findings.specs.Refusals.{place_of};
 ghost use Rattle.report_json.specs.Flags.{is_set};
 
-use crate::advice::{advised, refusal_causes, refusal_notes};
-use crate::help::help_of;
-use crate::messages::{message_of, refusal_message};
-use crate::sites::expression_location;
+use crate::advice::{add_refusal_notes, refusal_causes, worded};
+use crate::help::{add_help_of, add_rules_help};
+use crate::messages::{message_of, refusal_wording};
+use crate::sites::{expression_location, expression_text_at};
 use report_diagnostics::{
     Code, Diagnostic, FlowCode, LayoutCode, Location, ModuleCode, ResourceCode, Text, TypeCode,
 };
+use report_messages::layout_wording;
 use report_places::{BodyPlace, item_pointer};
 use shader_arena::Handle;
 use shader_info::{
@@ -36,14 +37,18 @@ fn layout_code_of(error: &LayoutErrorInner) -> Code
 }
 
 /// Returns the diagnostic of a type without a layout.
-pub fn layout_diagnostic(alloc: Global, error: &LayoutError) -> Result<Diagnostic, AllocError>
+pub fn layout_diagnostic(
+    alloc: Global,
+    module: &Module,
+    error: &LayoutError,
+) -> Result<Diagnostic, AllocError>
     ensures { IfOk result (IsLayoutDiagnostic error.now) }
 {
     let code = layout_code_of(&error.inner);
-    let message = Text::from(message_of(code).to_string(alloc)?);
+    let wording = layout_wording(alloc, module, error, message_of(code))?;
     let pointer = Text::from(item_pointer(alloc, "types", error.ty.index())?);
     let location = Location::within_module(None, None, None, None, Some(error.ty), pointer);
-    Ok(Diagnostic::error(alloc, code, message, location))
+    Ok(worded(alloc, code, wording, location))
 }
 
 /// Returns the code of an expression without a type, or `None` of an allocation failure.
@@ -177,11 +182,17 @@ pub fn refusal_diagnostic(
         return Err(AllocError);
     };
     let place = place_of(&refusal.place);
-    let message = refusal_message(alloc, module, &place, code, &refusal.cause)?;
+    let mut wording = refusal_wording(alloc, module, &place, code, &refusal.cause)?;
     let location = expression_location(alloc, module, &place, expression)?;
     let related = refusal_causes(alloc, module, &place, &refusal.cause)?;
-    let notes = refusal_notes(alloc, &refusal.cause)?;
-    let help = help_of(alloc, module, code, place)?;
-    let diagnostic = Diagnostic::error(alloc, code, message, location);
-    Ok(advised(diagnostic, related, notes, help))
+    add_refusal_notes(alloc, &mut wording, &refusal.cause, !related.is_empty())?;
+    add_help_of(alloc, module, &mut wording, code, place)?;
+    add_rules_help(alloc, module, &mut wording, &refusal.cause)?;
+    let text = expression_text_at(alloc, module, &location)?;
+    let diagnostic = worded(alloc, code, wording, location);
+    Ok(Diagnostic {
+        text,
+        related,
+        ..diagnostic
+    })
 }

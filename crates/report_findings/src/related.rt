@@ -1,11 +1,12 @@
 //! The causes of a violated need, as related places of its diagnostic.
 
-ghost use Rattle.std.specs.Prelude.{IfOk};
+ghost use Rattle.std.specs.Prelude.{◌≡◌, IfOk};
 ghost use Rattle.shader_uniformity_causes.specs.Callers.{AreCallers};
 
 use crate::reasons::Reason;
 use crate::said::{Said, is_named, passed, said_of};
-use crate::sites::{expression_location, path_of, text_of};
+use crate::sites::{expression_location, expression_text_at, path_of, text_of};
+use crate::stores::{call_position, passing_position, store_position, stored_text};
 use report_diagnostics::{Location, Related, Text};
 use report_names::{argument_text, local_text, name_text};
 use report_places::{
@@ -22,6 +23,9 @@ use std::alloc::{AllocError, Global};
 /// How many causes are kept at each end of a long chain.
 const KEPT_AT_AN_END: usize = 50;
 
+/// The most calls within one another through which what a call gives back is followed.
+const MOST_CALLS: u32 = 64;
+
 /// The causes of a violated need, from the place back to the source.
 #[derive(Drop)]
 pub struct Causes {
@@ -33,7 +37,7 @@ pub struct Causes {
 }
 
 /// Returns the place of a statement at a position.
-fn statement_location(
+pub fn statement_location(
     alloc: Global,
     module: &Module,
     place: &BodyPlace,
@@ -49,7 +53,7 @@ fn statement_location(
     Ok(Location::within_module(Some(*place), name, path_of(found), None, None, pointer))
 }
 
-/// Returns the place of an expression by which the statement at a position decides.
+/// Returns the place of an expression in the statement at a position, as that by which it decides.
 fn condition_location(
     alloc: Global,
     module: &Module,
@@ -86,6 +90,23 @@ pub fn argument_location(
     })
 }
 
+/// Returns a cause at a place, with the text of the expression there.
+pub fn related_at(
+    alloc: Global,
+    module: &Module,
+    message: Text,
+    location: Location,
+) -> Result<Related, AllocError>
+    ensures { IfOk result (λ related. related.location ≡ location) }
+{
+    let text = expression_text_at(alloc, module, &location)?;
+    Ok(Related {
+        message,
+        location,
+        text,
+    })
+}
+
 /// What is said of a place in a function or an entry point.
 #[derive(Clone, Copy)]
 struct Remark {
@@ -105,16 +126,57 @@ fn memory_text(alloc: Global, function: &Function, place: Place) -> Result<Strin
     }
 }
 
+/// Returns the text of the memory that a value is stored to, as the store names it.
+fn named_memory(
+    alloc: Global,
+    module: &Module,
+    place: &BodyPlace,
+    function: &Function,
+    value: Handle<mark::Expression>,
+    memory: Place,
+) -> Result<String, AllocError> {
+    if let Some(position) = store_position(alloc, module, function, value, memory)? {
+        if let Some(text) = stored_text(alloc, module, place, function, position)? {
+            return Ok(text);
+        }
+    }
+    memory_text(alloc, function, memory)
+}
+
+/// Returns the place of a value that is stored: in the store, or else where it is evaluated.
+fn stored_location(
+    alloc: Global,
+    module: &Module,
+    place: &BodyPlace,
+    value: Handle<mark::Expression>,
+    memory: Place,
+) -> Result<Location, AllocError> {
+    let position = match function_of(module, place) {
+        Some(function) => store_position(alloc, module, function, value, memory)?,
+        None => None,
+    };
+    match position {
+        Some(position) => condition_location(alloc, module, place, position, value),
+        None => expression_location(alloc, module, place, value),
+    }
+}
+
 /// Returns what is said as a text.
-fn said_text(alloc: Global, function: &Function, said: &Said) -> Result<String, AllocError> {
+fn said_text(
+    alloc: Global,
+    module: &Module,
+    place: &BodyPlace,
+    function: &Function,
+    said: &Said,
+) -> Result<String, AllocError> {
     match said {
         Said::Nothing => Ok(String::new(alloc)),
         Said::Statement(_, reason)
         | Said::Condition(_, _, reason)
         | Said::Expression(_, reason)
         | Said::Argument(_, reason) => String::from_str(alloc, reason.words()),
-        Said::Stored(_, place) => {
-            let memory = memory_text(alloc, function, *place)?;
+        Said::Stored(value, memory) => {
+            let memory = named_memory(alloc, module, place, function, *value, *memory)?;
             format!(in alloc; "`{memory}` may be given different values")
         }
         Said::Store(_, place) => {
@@ -146,8 +208,10 @@ fn said_location(
         Said::Condition(position, condition, _) => {
             condition_location(alloc, module, place, *position, *condition)?
         }
-        Said::Expression(expression, _) | Said::Stored(expression, _) | Said::Let(expression) =>
-            expression_location(alloc, module, place, *expression)?,
+        Said::Stored(value, memory) => stored_location(alloc, module, place, *value, *memory)?,
+        Said::Expression(expression, _) | Said::Let(expression) => {
+            expression_location(alloc, module, place, *expression)?
+        }
         Said::Argument(index, _) => argument_location(alloc, module, place, *index)?,
     };
     Ok(Some(location))
@@ -164,8 +228,8 @@ fn add_related(
         return Ok(());
     };
     if let Some(location) = said_location(alloc, module, &remark.place, &remark.said)? {
-        let message = Text::from(said_text(alloc, function, &remark.said)?);
-        related.push(Related { message, location })?;
+        let message = Text::from(said_text(alloc, module, &remark.place, function, &remark.said)?);
+        related.push(related_at(alloc, module, message, location)?)?;
     }
     Ok(())
 }
@@ -197,51 +261,108 @@ fn may_come_from_a_call(function: &Function, rule: &Rule) -> bool {
     }
 }
 
-/// Adds the causes in the called function of what a call gives back, and then what the call is passed.
-fn add_origin(
+/// The implications in a called function behind what a call gives back.
+#[derive(Drop)]
+struct CalleeTrace {
+    place: BodyLocation,
+    rules: Vec<Rule>,
+}
+
+/// Returns what is behind a cause in a called function, if a call gives it.
+fn callee_trace(
     alloc: Global,
     module: &Module,
     known: &[Items<Rule>],
-    remarks: &mut Vec<Remark>,
     cause: &Cause,
-) -> Result<(), AllocError> {
+) -> Result<Option<CalleeTrace>, AllocError> {
+    match function_of(module, &place_of_body(cause.place)) {
+        Some(function) if may_come_from_a_call(function, &cause.rule) => {}
+        _ => return Ok(None),
+    }
     let Some(origin) = origin_of(alloc, module, known, cause.place, &cause.rule)? else {
-        return Ok(());
+        return Ok(None);
     };
     let place = BodyLocation::Function(origin.function.index());
     let (first, last) = (origin.rule.cause, origin.rule.effect);
-    let Some(rules) = trace(alloc, module, known, place, &first, &last)? else {
-        return Ok(());
-    };
-    for rule in rules.as_slice() {
-        add_cause(module, remarks, &Cause { place, rule: *rule })?;
-    }
-    match passed(&cause.rule.cause) {
-        Said::Expression(argument, reason) => {
-            remarks.push(Remark {
-                place: place_of_body(cause.place),
-                said: Said::Expression(argument, reason),
-            })?;
-            Ok(())
-        }
-        _ => Ok(()),
+    match trace(alloc, module, known, place, &first, &last)? {
+        Some(rules) => Ok(Some(CalleeTrace { place, rules })),
+        None => Ok(None),
     }
 }
 
-/// Adds what is said of a cause, and of what it comes from in a called function.
+/// Adds what is said of a cause, and of what it comes from in called functions, so many calls deep. What the call is passed comes last.
 fn add_with_origin(
     alloc: Global,
     module: &Module,
     known: &[Items<Rule>],
     remarks: &mut Vec<Remark>,
     cause: &Cause,
+    calls: u32,
 ) -> Result<(), AllocError> {
     add_cause(module, remarks, cause)?;
-    match function_of(module, &place_of_body(cause.place)) {
-        Some(function) if may_come_from_a_call(function, &cause.rule) => {
-            add_origin(alloc, module, known, remarks, cause)
+    if calls == 0 {
+        return Ok(());
+    }
+    let Some(behind) = callee_trace(alloc, module, known, cause)? else {
+        return Ok(());
+    };
+    let place = behind.place;
+    for rule in behind.rules.as_slice() {
+        let inner = Cause { place, rule: *rule };
+        add_with_origin(alloc, module, known, remarks, &inner, calls - 1)?;
+    }
+    add_passed(module, remarks, cause)
+}
+
+/// Returns what is said of a value that a call at a position is passed. A value without a name is found by its own.
+fn said_of_passed(
+    function: &Function,
+    argument: Handle<mark::Expression>,
+    reason: Reason,
+    position: Option<u32>,
+) -> Said {
+    match position {
+        Some(position) if is_named(function, argument) => {
+            Said::Condition(position, argument, reason)
         }
-        _ => Ok(()),
+        _ => Said::Expression(argument, reason),
+    }
+}
+
+/// Adds what is said of a value that a call is passed, where that is a cause of what it gives back.
+fn add_passed(module: &Module, remarks: &mut Vec<Remark>, cause: &Cause) -> Result<(), AllocError> {
+    let place = place_of_body(cause.place);
+    let Some(function) = function_of(module, &place) else {
+        return Ok(());
+    };
+    if let Said::Expression(argument, reason) = passed(&cause.rule.cause) {
+        let position = match cause.rule.effect {
+            Fact::Differs(result) => call_position(function, result),
+            _ => None,
+        };
+        let said = said_of_passed(function, argument, reason, position);
+        remarks.push(Remark { place, said })?;
+    }
+    Ok(())
+}
+
+/// Returns what is said of what a caller passes on to a function.
+fn passed_on(module: &Module, callee: BodyLocation, cause: &Cause) -> Said {
+    let said = passed(&cause.rule.effect);
+    let BodyLocation::Function(index) = callee else {
+        return said;
+    };
+    match said {
+        Said::Expression(argument, reason) => {
+            match function_of(module, &place_of_body(cause.place)) {
+                Some(function) => {
+                    let position = passing_position(function, index, argument);
+                    said_of_passed(function, argument, reason, position)
+                }
+                None => said,
+            }
+        }
+        other => other,
     }
 }
 
@@ -257,13 +378,12 @@ fn add_chain(
     let mut last = place;
     for cause in chain {
         if cause.place != last {
+            let said = passed_on(module, last, cause);
             last = cause.place;
-            remarks.push(Remark {
-                place: place_of_body(last),
-                said: passed(&cause.rule.effect),
-            })?;
+            let place = place_of_body(last);
+            remarks.push(Remark { place, said })?;
         }
-        add_with_origin(alloc, module, known, remarks, cause)?;
+        add_with_origin(alloc, module, known, remarks, cause, MOST_CALLS)?;
     }
     Ok(())
 }
@@ -280,18 +400,26 @@ fn remarks_on_need(alloc: Global, violation: &Violation) -> Result<Vec<Remark>, 
     Ok(remarks)
 }
 
-/// Checks whether a remark on a `let` can be left out, since the next one is on an expression within its line.
-fn is_in_line(module: &Module, remark: &Remark, next: Option<&Remark>) -> bool {
-    let Some(next) = next else {
-        return false;
-    };
-    match (&remark.said, &next.said) {
-        (Said::Let(_), Said::Expression(expression, _)) if next.place == remark.place => {
-            match function_of(module, &remark.place) {
-                Some(function) => !is_named(function, *expression),
-                None => false,
-            }
-        }
+/// Checks whether the next remark of a function tells what one does: of a `let` it is on an expression within its line, of a value that is
+/// returned on the value itself.
+fn is_told_by(function: &Function, said: &Said, next: &Said) -> bool {
+    match next {
+        Said::Expression(expression, _) => match said {
+            Said::Let(_) => !is_named(function, *expression),
+            Said::Expression(returned, Reason::ReturnedValues) => *returned == *expression,
+            _ => false,
+        },
+        _ => false,
+    }
+}
+
+/// Checks whether a remark can be left out, since the next one tells what it does.
+fn is_left_out(module: &Module, remark: &Remark, next: Option<&Remark>) -> bool {
+    match next {
+        Some(next) if next.place == remark.place => match function_of(module, &remark.place) {
+            Some(function) => is_told_by(function, &remark.said, &next.said),
+            None => false,
+        },
         _ => false,
     }
 }
@@ -300,19 +428,24 @@ fn is_in_line(module: &Module, remark: &Remark, next: Option<&Remark>) -> bool {
 fn related_of(alloc: Global, module: &Module, all: &[Remark]) -> Result<Vec<Related>, AllocError> {
     let mut related = Vec::new(alloc);
     for (index, remark) in all.iter().enumerate() {
-        if !is_in_line(module, remark, all.get(index.saturating_add(1))) {
+        if !is_left_out(module, remark, all.get(index.saturating_add(1))) {
             add_related(alloc, module, &mut related, remark)?;
         }
     }
     Ok(related)
 }
 
-/// Leaves the middle of many causes out.
-fn shortened(alloc: Global, all: Vec<Related>, chain: Vec<Cause>) -> Result<Causes, AllocError> {
+/// Leaves the middle of many causes out, unless all are kept.
+fn shortened(
+    alloc: Global,
+    all: Vec<Related>,
+    chain: Vec<Cause>,
+    keeps_all: bool,
+) -> Result<Causes, AllocError> {
     let count = all.len();
     let mut related = Vec::new(alloc);
     for (index, one) in all.into_iter().enumerate() {
-        if index < KEPT_AT_AN_END || count - index <= KEPT_AT_AN_END {
+        if keeps_all || index < KEPT_AT_AN_END || count - index <= KEPT_AT_AN_END {
             related.push(one)?;
         }
     }
@@ -324,7 +457,7 @@ fn shortened(alloc: Global, all: Vec<Related>, chain: Vec<Cause>) -> Result<Caus
     })
 }
 
-/// Returns the causes of a violated need.
+/// Returns the causes of a violated need: all, or of more than 100 those at both ends.
 ///
 /// # Errors
 ///
@@ -335,6 +468,7 @@ pub fn causes_of_need(
     known: &[Items<Rule>],
     callers: &[Vec<PassedBy>],
     violation: &Violation,
+    keeps_all: bool,
 ) -> Result<Causes, AllocError>
     requires { AreCallers «module».now known.now callers.now }
 {
@@ -343,7 +477,8 @@ pub fn causes_of_need(
         Some(chain) => {
             let mut remarks = remarks_on_need(alloc, violation)?;
             add_chain(alloc, module, known, &mut remarks, place, chain.as_slice())?;
-            shortened(alloc, related_of(alloc, module, &remarks)?, chain)
+            let related = related_of(alloc, module, &remarks)?;
+            shortened(alloc, related, chain, keeps_all)
         }
         None => Ok(Causes {
             related: Vec::new(alloc),
@@ -351,4 +486,24 @@ pub fn causes_of_need(
             chain: Vec::new(alloc),
         }),
     }
+}
+
+/// Returns why the result of an entry point differs, given the trace from the result back to a source.
+///
+/// # Errors
+///
+/// `AllocError` if an allocation fails, or a function has 2^32 statements.
+pub fn causes_of_trace(
+    alloc: Global,
+    module: &Module,
+    known: &[Items<Rule>],
+    place: BodyLocation,
+    rules: &[Rule],
+) -> Result<Vec<Related>, AllocError> {
+    let mut remarks = Vec::new(alloc);
+    for rule in rules {
+        let cause = Cause { place, rule: *rule };
+        add_with_origin(alloc, module, known, &mut remarks, &cause, MOST_CALLS)?;
+    }
+    related_of(alloc, module, &remarks)
 }

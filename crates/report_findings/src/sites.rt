@@ -4,8 +4,10 @@ ghost use Rattle.std.specs.Option.{option_map};
 ghost use Rattle.report_findings.specs.Sites.{expression_location, path_by};
 
 use report_diagnostics::{Location, Text};
+use report_messages::line_text;
 use report_places::{
-    BodyPlace, StatementAt, StatementPath, Wanted, expression_pointer, name_at, statement_at,
+    BodyPlace, StatementAt, StatementPath, Wanted, expression_pointer, function_of, name_at,
+    statement_at,
 };
 use shader_arena::Handle;
 use shader_ir::{Module, Name, mark};
@@ -52,4 +54,26 @@ pub fn expression_location(
         None,
         pointer,
     ))
+}
+
+/// Returns the text of the expression at a place as excerpts print it, if it is an expression of a function or an entry point.
+///
+/// # Errors
+///
+/// `AllocError` if an allocation fails.
+pub fn expression_text_at(
+    alloc: Global,
+    module: &Module,
+    location: &Location,
+) -> Result<Option<Text>, AllocError> {
+    let (Some(place), Some(expression)) = (location.body, location.expression) else {
+        return Ok(None);
+    };
+    match function_of(module, &place) {
+        Some(function) => {
+            let text = line_text(alloc, module, function, expression)?;
+            Ok(Some(Text::from(text)))
+        }
+        None => Ok(None),
+    }
 }

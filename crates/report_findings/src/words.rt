@@ -1,6 +1,6 @@
 //! The built-in functions of WGSL that need uniform control flow, and what is said of them.
 
-use report_diagnostics::Text;
+use report_diagnostics::{Label, Text};
 use report_places::{BodyPlace, StatementAt, expression_at};
 use shader_arena::Handle;
 use shader_ir::{
@@ -39,6 +39,11 @@ fn sample_word(level: &SampleLevel, compares: bool) -> &'static str {
     }
 }
 
+/// Returns the name of the load of a cooperative matrix.
+fn load_word(by_rows: bool) -> &'static str {
+    if by_rows { "coopLoadT" } else { "coopLoad" }
+}
+
 /// Returns the name of what makes an expression, if the expression needs uniform control flow.
 fn expression_word(expression: &Expression) -> Option<&'static str> {
     match expression {
@@ -48,7 +53,7 @@ fn expression_word(expression: &Expression) -> Option<&'static str> {
             depth_ref,
             ..
         } => Some(sample_word(level, depth_ref.is_some())),
-        Expression::CooperativeLoad { .. } => Some("coopLoad"),
+        Expression::CooperativeLoad { tile, .. } => Some(load_word(tile.row_major)),
         Expression::CooperativeMultiplyAdd { .. } => Some("coopMultiplyAdd"),
         _ => None,
     }
@@ -139,13 +144,27 @@ pub fn need_message(
     Ok(Text::from(text))
 }
 
+/// Returns what is said of the place of a violated need, if its kind alone doesn't tell that.
+pub fn need_label(alloc: Global, need: &Need) -> Result<Option<Label>, AllocError> {
+    match need.violated_by {
+        Fact::Differs(_) => {
+            let words = "needs the same pointer in all invocations of the workgroup";
+            Ok(Some(Label {
+                operand: None,
+                words: Text::from(String::from_str(alloc, words)?),
+            }))
+        }
+        _ => Ok(None),
+    }
+}
+
 /// Returns the sentence of an expression that naga's rules refuse.
 pub fn naga_message(
     alloc: Global,
     module: &Module,
     place: &BodyPlace,
     handle: Handle<mark::Expression>,
-) -> Result<Text, AllocError> {
+) -> Result<String, AllocError> {
     let word = match expression_at(module, place, handle) {
         Some(expression) => expression_word(expression),
         None => None,
@@ -154,8 +173,5 @@ pub fn naga_message(
         Some(word) => word,
         None => "a built-in function",
     };
-    let text = format!(in alloc;
-        "`{word}` needs uniform control flow, which naga's rules don't find here"
-    )?;
-    Ok(Text::from(text))
+    format!(in alloc; "`{word}` needs uniform control flow, which naga's rules don't find here")
 }

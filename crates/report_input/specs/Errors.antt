@@ -1,4 +1,4 @@
--- Errors of the input, as JSON and for people.
+-- Errors of the input as JSON.
 use Rattle.std.specs.Prelude.{◌≡◌, ℕ, List, [], ◌∷◌, ◌++◌, Some, codes, string_bytes}
 use Rattle.std.specs.Fmt.{decimal, signed_decimal}
 use Rattle.json.specs.Print.{print}
@@ -16,10 +16,6 @@ use Rattle.shader_json_reader.specs.declared.error.ReadError.TheVariants.{OutOfM
 use Rattle.shader_json_reader.specs.declared.error.Wanted.{Wanted}
 use Rattle.shader_json_reader.specs.declared.error.Wanted.TheVariants.{Value, Integer, Field}
 use Rattle.report_input.specs.Inputs.{IsOfError}
-use Rattle.report_input.specs.Forms.{form_in, form_text}
-use Rattle.report_input.specs.Places.{place_in, place_text}
-use Rattle.report_input.specs.declared.forms.Form.{Form}
-use Rattle.report_input.specs.declared.places.Place.{Place}
 
 -- an object with a location and with what is wanted there
 abbrev pub place_tokens : List ℕ → List Token → List ℕ → List Token
@@ -76,38 +72,3 @@ pub record IsNestingObject (text : List ℕ) : Type 0 where
   pub diagnostic : Diagnostic
   pub of : IsOfNesting diagnostic
   pub printed : text ≡ answer_text diagnostic (path_tokens [] (codes "blocks that nest at most 4,000 deep"))
-
--- how to get what is wanted stands in the second line
-abbrev pub not_json_text : Place → Form → List ℕ
-not_json_text place form =
-    place_text place ++ codes ": " ++ form_text form
-    ++ codes "\nwanted is a naga 30 module as JSON: serde_json::to_string(&module), where naga has the feature `serialize`\n"
-
-abbrev pub too_deep_text : Place → List ℕ
-too_deep_text place = place_text place ++ codes ": arrays and objects nest more than 128 deep\n"
-
-abbrev pub telling_text : Wanted → List ℕ → List ℕ
-telling_text wanted found = codes "wanted is " ++ wanted_text wanted ++ codes ", and found is " ++ found
-
-abbrev pub input_text : Wanted → List ℕ → List ℕ
-input_text wanted found = codes "the input: " ++ telling_text wanted found ++ codes "\n"
-
-abbrev pub value_text : List ℕ → Wanted → List ℕ → List ℕ
-value_text path wanted found = (codes "`" ++ path ++ codes "`: ") ++ (telling_text wanted found ++ codes "\n")
-
--- the path of the input itself is empty
-abbrev pub not_module_text : List ℕ → Wanted → List ℕ → List ℕ
-not_module_text [] wanted found = input_text wanted found
-not_module_text (byte ∷ path) wanted found = value_text (byte ∷ path) wanted found
-
--- the lines for people on an error of this input
-abbrev pub IsErrorText : List ℕ → ReadError → List ℕ → Type 0
-IsErrorText input OutOfMemory text = ⊥
-IsErrorText input TooLong text = text ≡ codes "the input has more than 268,435,456 bytes\n"
-IsErrorText input (NotJson byte) text = text ≡ not_json_text (place_in input byte) (form_in input byte)
-IsErrorText input (TooDeep byte) text = text ≡ too_deep_text (place_in input byte)
-IsErrorText input (NotModule path wanted found) text = text ≡ not_module_text (string_bytes path) wanted (string_bytes found)
-
--- the line for people on blocks that nest too deep
-abbrev pub nesting_text : List ℕ
-nesting_text = codes "the input: wanted are blocks that nest at most 4,000 deep\n"

@@ -59,15 +59,3 @@ rest_of text byte = drop (min byte (length text)) text
 -- what a text seems to be that is no JSON from the byte of this index on: by its start behind white space
 abbrev pub form_in : List ℕ → ℕ → Form
 form_in text byte = form_of (drop (prefix_len is_ascii_whitespace text) text) (rest_of text byte)
-
-abbrev pub form_text : Form → List ℕ
-form_text Blank = codes "the input is empty"
-form_text ByteOrderMark = codes "the input begins with a byte order mark, which JSON has not"
-form_text Utf16 = codes "the input is UTF-16, and JSON is UTF-8"
-form_text SpirV = codes "the input is SPIR-V"
-form_text Glsl = codes "the input is GLSL"
-form_text Wgsl = codes "the input is WGSL"
-form_text Ron = codes "the input is RON"
-form_text Comment = codes "a comment begins here, and JSON has none"
-form_text CutOff = codes "the input ends before the JSON does"
-form_text Other = codes "what begins here isn't JSON"

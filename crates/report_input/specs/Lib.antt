@@ -1,5 +1,9 @@
 pub mod Codes
 pub mod Errors
+pub mod Finds
 pub mod Forms
 pub mod Inputs
+pub mod Located
 pub mod Places
+pub mod Spans
+pub mod Steps

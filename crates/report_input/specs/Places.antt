@@ -1,6 +1,5 @@
 -- Places in a text.
-use Rattle.std.specs.Prelude.{ℕ, Bool, true, false, List, [], ◌∷◌, ◌++◌, ◌+◌, ◌-◌, ◌^◌, ◌&&◌, codes, min, nat_eq, nat_le, nat_lt, take}
-use Rattle.std.specs.Fmt.{decimal}
+use Rattle.std.specs.Prelude.{ℕ, Bool, true, false, List, [], ◌∷◌, ◌+◌, ◌-◌, ◌^◌, ◌&&◌, min, nat_eq, nat_le, nat_lt, take}
 use Rattle.report_input.specs.declared.places.Place.{Place}
 
 -- one more, as far as 64 bits have room for it
@@ -26,6 +25,3 @@ start = record { line = 1; column = 1 }
 -- the place of the byte of this index
 abbrev pub place_in : List ℕ → ℕ → Place
 place_in text byte = after_all start (take byte text)
-
-abbrev pub place_text : Place → List ℕ
-place_text place = codes "line " ++ decimal place.line ++ codes ", column " ++ decimal place.column

@@ -1,63 +1,130 @@
 //! The diagnostic of an input that is no module.
-ghost use Rattle.std.specs.Prelude.{◌≡◌, IfOk, OnOk, None, Some, option_map, string_bytes};
-ghost use Rattle.report_diagnostics.specs.declared.diagnostic.Severity.TheVariants.{Error};
-ghost use Rattle.report_diagnostics.specs.declared.codes.Code.TheVariants.{Input};
+ghost use Rattle.std.specs.Prelude.{◌≡◌, IfOk, None, Some};
 ghost use Rattle.report_input.specs.Errors.{IsOfNesting};
-ghost use Rattle.report_input.specs.Inputs.{IsByteOf, IsOfError, IsPlacedIn, path_of, place_of};
+ghost use Rattle.report_input.specs.Finds.{IsLookedUp, begin_of, end_of, pointer_of};
+ghost use Rattle.report_input.specs.Inputs.{IsByteOf, IsOfError, IsPlacedAt, part_of, path_of, place_of};
 
 use crate::codes::code_of;
+use crate::finds::{Found, Part, find};
+use crate::forms::Form;
+use crate::labels::label_of;
 use crate::messages::{help_of, message_of, notes_of, text, wanted_words};
 use crate::places::Place;
-use crate::positions::{pointer_of, value_at};
+use crate::steps::pointer_text;
 use report_diagnostics::{Code, Diagnostic, FactValue, Facts, InputCode, Location, Severity, Text};
 use shader_json_module::{MOST_BYTES, ReadError};
 use std::alloc::{AllocError, Global};
 
-/// Returns the byte of the input that an error is about, if that is known.
-fn byte_of(
+/// The bytes that a diagnostic is about, with the way to them in the JSON.
+#[derive(Drop)]
+struct At {
+    path: Option<Text>,
+    pointer: Option<Text>,
+    begin: Option<usize>,
+    /// The byte behind what an excerpt marks, if there is one.
+    end: Option<usize>,
+}
+
+/// Returns the byte behind what an excerpt marks of a text that isn't JSON from a byte on. One of another format has no excerpt.
+fn end_of_mark(form: Form, byte: usize) -> Option<usize> {
+    match form {
+        Form::Blank | Form::Utf16 | Form::SpirV | Form::Glsl | Form::Wgsl | Form::Ron => None,
+        Form::CutOff => Some(byte),
+        Form::Comment => Some(byte.saturating_add(2)),
+        Form::ByteOrderMark | Form::Other => Some(byte.saturating_add(1)),
+    }
+}
+
+/// Returns which part of a value an error is about.
+fn part_of(code: InputCode) -> Part
+    ensures { result ≡ part_of code }
+{
+    match code {
+        InputCode::RepeatedField => Part::SecondKey,
+        _ => Part::Value,
+    }
+}
+
+/// Returns the pointer to a value that was looked up.
+fn pointer_to(alloc: Global, found: &Option<Found>) -> Result<Option<Text>, AllocError>
+    ensures { IfOk result (λ pointer. pointer ≡ pointer_of found.now) }
+{
+    match found {
+        Some(found) => Ok(Some(pointer_text(alloc, found.steps.as_slice())?)),
+        None => Ok(None),
+    }
+}
+
+/// Returns the first byte of what was looked up.
+fn begin_of(found: &Option<Found>) -> Option<usize>
+    ensures { result ≡ begin_of found.now }
+{
+    match found {
+        Some(found) => match found.span {
+            Some(span) => Some(span.begin),
+            None => None,
+        },
+        None => None,
+    }
+}
+
+/// Returns the byte behind what was looked up.
+fn end_of(found: &Option<Found>) -> Option<usize>
+    ensures { result ≡ end_of found.now }
+{
+    match found {
+        Some(found) => match found.span {
+            Some(span) => Some(span.end),
+            None => None,
+        },
+        None => None,
+    }
+}
+
+/// Returns the place of the value at a path.
+fn at_path(alloc: Global, input: &[u8], path: &str, code: InputCode) -> Result<At, AllocError>
+    ensures path { IfOk result (λ at. at.path ≡ Some path.now) }
+    ensures found { IfOk result (λ at. IsLookedUp (part_of code) input.now path.now at.pointer at.begin at.end) }
+{
+    let found = find(alloc, input, part_of(code), path)?;
+    Ok(At {
+        path: Some(Text::from(path.to_string(alloc)?)),
+        pointer: pointer_to(alloc, &found)?,
+        begin: begin_of(&found),
+        end: end_of(&found),
+    })
+}
+
+/// Returns a place that is known by its byte alone.
+fn at_byte(begin: usize, end: Option<usize>) -> At
+    ensures { result ≡ record { path = None; pointer = None; begin = Some begin; end = end } }
+{
+    At {
+        path: None,
+        pointer: None,
+        begin: Some(begin),
+        end,
+    }
+}
+
+/// Returns the bytes of the input that an error is about.
+fn at_error(
     alloc: Global,
     input: &[u8],
     error: &ReadError,
     code: InputCode,
-) -> Result<Option<usize>, AllocError>
-    ensures { IfOk result (IsByteOf error.now) }
+) -> Result<At, AllocError>
+    ensures path { IfOk result (λ at. at.path ≡ path_of error.now) }
+    ensures byte { IfOk result (λ at. IsByteOf code input.now error.now at.pointer at.begin at.end) }
 {
     match error {
-        ReadError::OutOfMemory => Ok(None),
-        ReadError::TooLong => Ok(Some(MOST_BYTES)),
-        ReadError::NotJson { byte } => Ok(Some(*byte)),
-        ReadError::TooDeep { byte } => Ok(Some(*byte)),
-        ReadError::NotModule { path, .. } => {
-            value_at(
-                alloc,
-                input,
-                path.as_str(),
-                code == InputCode::RepeatedField,
-            )
+        ReadError::OutOfMemory => Err(AllocError),
+        ReadError::TooLong => Ok(at_byte(MOST_BYTES, None)),
+        ReadError::NotJson { byte } => {
+            Ok(at_byte(*byte, end_of_mark(Form::of(input, *byte), *byte)))
         }
-    }
-}
-
-/// Returns the path that an error tells, if it tells one.
-fn path_of(alloc: Global, error: &ReadError) -> Result<Option<Text>, AllocError>
-    ensures { IfOk result (λ path. path ≡ path_of error.now) }
-{
-    match error {
-        ReadError::NotModule { path, .. } => {
-            let path = path.as_str().to_string(alloc)?;
-            Ok(Some(Text::from(path)))
-        }
-        _ => Ok(None),
-    }
-}
-
-/// Returns the JSON pointer of the value that an error tells, if it tells one.
-fn pointer_to(alloc: Global, error: &ReadError) -> Result<Option<Text>, AllocError> {
-    match error {
-        ReadError::NotModule { path, .. } => {
-            Ok(Some(Text::from(pointer_of(alloc, path.as_str())?)))
-        }
-        _ => Ok(None),
+        ReadError::TooDeep { byte } => Ok(at_byte(*byte, Some(byte.saturating_add(1)))),
+        ReadError::NotModule { path, .. } => at_path(alloc, input, path.as_str(), code),
     }
 }
 
@@ -74,36 +141,34 @@ fn place_of(input: &[u8], error: &ReadError, byte: Option<usize>) -> Option<Plac
     }
 }
 
-/// Returns the place of an error in the input.
-fn location_of(
-    alloc: Global,
+/// Returns the place of an error in the input, given its bytes.
+fn location_at(
     input: &[u8],
     error: &ReadError,
-    code: InputCode,
-) -> Result<Location, AllocError>
-    ensures path { IfOk result (λ location. location.path ≡ path_of error.now) }
-    ensures placed { IfOk result (IsPlacedIn input.now error.now) }
+    path: Option<Text>,
+    pointer: Option<Text>,
+    byte: Option<usize>,
+) -> Location
+    ensures { IsPlacedAt input.now error.now path pointer byte result }
 {
-    let path = path_of(alloc, error)?;
-    let pointer = pointer_to(alloc, error)?;
-    let byte = byte_of(alloc, input, error, code)?;
     let (line, column) = match place_of(input, error, byte) {
         Some(place) => (Some(place.line), Some(place.column)),
         None => (None, None),
     };
-    Ok(Location {
+    Location {
         body: None,
         name: None,
         statement: None,
         expression: None,
         argument: None,
         ty: None,
-        pointer,
+        pointer: None,
         path,
+        input_pointer: pointer,
         line,
         column,
         byte,
-    })
+    }
 }
 
 /// Adds what is wanted of a value, and what is there.
@@ -117,7 +182,8 @@ fn add_facts(alloc: Global, facts: &mut Facts, error: &ReadError) -> Result<(), 
     Ok(())
 }
 
-/// Returns the diagnostic of an input from which no module was read.
+/// Returns the diagnostic of an input from which no module was read. If it explains itself, a note lists all names that are known, however
+/// many there are.
 ///
 /// # Errors
 ///
@@ -126,6 +192,7 @@ pub fn diagnostic_of(
     alloc: Global,
     input: &[u8],
     error: &ReadError,
+    explains: bool,
 ) -> Result<Diagnostic, AllocError>
     ensures { IfOk result (IsOfError input.now error.now) }
 {
@@ -133,9 +200,16 @@ pub fn diagnostic_of(
         return Err(AllocError);
     };
     let message = message_of(alloc, input, error, code)?;
-    let location = location_of(alloc, input, error, code)?;
-    let notes = notes_of(alloc, input, error, code)?;
-    let help = help_of(alloc, code)?;
+    let At {
+        path,
+        pointer,
+        begin,
+        end,
+    } = at_error(alloc, input, error, code)?;
+    let location = location_at(input, error, path, pointer, begin);
+    let label = label_of(alloc, input, error, code)?;
+    let notes = notes_of(alloc, input, error, code, explains)?;
+    let help = help_of(alloc, input, error, code)?;
     let mut data = Facts::none(alloc);
     add_facts(alloc, &mut data, error)?;
     Ok(Diagnostic {
@@ -143,6 +217,10 @@ pub fn diagnostic_of(
         severity: Severity::Error,
         message,
         location,
+        text: None,
+        end,
+        label,
+        field: None,
         data,
         related: Vec::new(alloc),
         omitted: 0,
@@ -169,8 +247,9 @@ pub fn nesting_diagnostic(alloc: Global) -> Result<Diagnostic, AllocError>
         expression: None,
         argument: None,
         ty: None,
-        pointer: Some(pointer),
+        pointer: None,
         path: Some(root),
+        input_pointer: Some(pointer),
         line: None,
         column: None,
         byte: None,

@@ -1,16 +1,9 @@
-//! Errors of the input: as an answer in JSON, or as text.
-ghost use Rattle.std.specs.Prelude.{◌≡◌, ◌∷◌, ◌++◌, [], IfOk, Some, codes, string_bytes};
-ghost use Rattle.json.specs.Print.{print};
-ghost use Rattle.report_input.specs.Errors.{IsAnswerWith, IsErrorText, IsNestingObject, IsObjectText, answer_text, byte_tokens};
-ghost use Rattle.report_input.specs.Errors.{input_text, nesting_text};
-ghost use Rattle.report_input.specs.Errors.{not_json_text, not_module_text, path_tokens, place_tokens, telling_text, too_deep_text};
-ghost use Rattle.report_input.specs.Errors.{value_text, wanted_text};
-ghost use Rattle.report_input.specs.Forms.{form_in};
-ghost use Rattle.report_input.specs.Places.{place_in, place_text};
+//! Errors of the input as answers in JSON.
+ghost use Rattle.std.specs.Prelude.{◌≡◌, IfOk, Some};
+ghost use Rattle.report_input.specs.Errors.{IsAnswerWith, IsNestingObject, IsObjectText, answer_text, byte_tokens, path_tokens};
+ghost use Rattle.report_input.specs.Errors.{place_tokens, wanted_text};
 
 use crate::diagnostic::{diagnostic_of, nesting_diagnostic};
-use crate::forms::Form;
-use crate::places::Place;
 use json::Writer;
 use report_diagnostics::{Diagnostic, Verdict, Word, write_head};
 use report_json::{Member, WriteJson, WriteMembers, write_object};
@@ -117,7 +110,7 @@ impl Display for WantedText<'_> {
 pub fn error_object(alloc: Global, input: &[u8], error: &ReadError) -> Result<Vec<u8>, AllocError>
     ensures { IfOk result (λ text. IsObjectText input.now error.now text.items) }
 {
-    let diagnostic = diagnostic_of(alloc, input, error)?;
+    let diagnostic = diagnostic_of(alloc, input, error, false)?;
     answer_with(alloc, diagnostic, error)
 }
 
@@ -154,126 +147,4 @@ pub fn nesting_object(alloc: Global) -> Result<Vec<u8>, AllocError>
 {
     let diagnostic = nesting_diagnostic(alloc)?;
     at_path(alloc, diagnostic, "", "blocks that nest at most 4,000 deep")
-}
-
-/// The text of the error on an input that isn't JSON.
-#[derive(Clone, Copy)]
-struct NotJsonText {
-    place: Place,
-    form: Form,
-}
-
-impl Display for NotJsonText {
-    ghost output = { λ text. Some (not_json_text text.place text.form) };
-
-    fn fmt<W: fmt::Write>(&self, f: &mut Formatter<W>) -> fmt::Result {
-        let NotJsonText { place, form } = *self;
-        write!(
-            f,
-            "{place}: {form}\nwanted is a naga 30 module as JSON: \
-            serde_json::to_string(&module), where naga has the feature `serialize`\n"
-        )
-    }
-}
-
-/// The kind of value that is wanted, and the value that is found.
-#[derive(Clone, Copy)]
-struct TellingText<'a> {
-    wanted: WantedText<'a>,
-    found: &'a str,
-}
-
-impl Display for TellingText<'_> {
-    ghost output = { λ text. Some (telling_text text.wanted.0.now text.found.now) };
-
-    fn fmt<W: fmt::Write>(&self, f: &mut Formatter<W>) -> fmt::Result {
-        write!(f, "wanted is {}, and found is {}", self.wanted, self.found)
-    }
-}
-
-/// Returns the text of the error on an input that isn't JSON from this byte on: the text position, the format that the input seems to have,
-/// and the wanted one.
-fn not_json_text(alloc: Global, input: &[u8], byte: usize) -> Result<String, AllocError>
-    ensures { IfOk result (λ text. string_bytes text ≡ not_json_text (place_in input.now byte) (form_in input.now byte)) }
-{
-    let place = Place::of(input, byte);
-    let form = Form::of(input, byte);
-    format!(in alloc; "{}", NotJsonText { place, form })
-}
-
-/// Returns the text of the error on an input that nests too deep.
-fn too_deep_text(alloc: Global, input: &[u8], byte: usize) -> Result<String, AllocError>
-    ensures { IfOk result (λ text. string_bytes text ≡ too_deep_text (place_in input.now byte)) }
-{
-    let place = Place::of(input, byte);
-    format!(in alloc; "{place}: arrays and objects nest more than 128 deep\n")
-}
-
-/// Returns the text of the error on an input that isn't an object with the fields of a module.
-fn input_text(alloc: Global, told: TellingText<'_>) -> Result<String, AllocError>
-    ensures { IfOk result (λ text. string_bytes text ≡ input_text told.entry.wanted.0.now told.entry.found.now) }
-{
-    format!(in alloc; "the input: {told}\n")
-}
-
-/// Returns the text of the error on the value at a path, which isn't that of a module.
-fn value_text(alloc: Global, path: &str, told: TellingText<'_>) -> Result<String, AllocError>
-    ensures { IfOk result (λ text. string_bytes text ≡ value_text path.now told.entry.wanted.0.now told.entry.found.now) }
-{
-    let mut text = format!(in alloc; "`{path}`: ")?;
-    let line = format!(in alloc; "{told}\n")?;
-    text.push_str(line.as_str())?;
-    Ok(text)
-}
-
-/// Returns the text of the error on a value that isn't that of a module.
-fn not_module_text(
-    alloc: Global,
-    path: &str,
-    wanted: &Wanted,
-    found: &str,
-) -> Result<String, AllocError>
-    ensures { IfOk result (λ text. string_bytes text ≡ not_module_text path.now wanted.now found.now) }
-{
-    let wanted = WantedText(wanted);
-    let told = TellingText { wanted, found };
-    if path.is_empty() {
-        input_text(alloc, told)
-    } else {
-        value_text(alloc, path, told)
-    }
-}
-
-/// Returns the text of the error on an input from which no module was read.
-///
-/// # Errors
-///
-/// `AllocError` if an allocation fails, or if that is the reason.
-pub fn error_text(alloc: Global, input: &[u8], error: &ReadError) -> Result<Vec<u8>, AllocError>
-    ensures { IfOk result (λ text. IsErrorText input.now error.now text.items) }
-{
-    let text = match error {
-        ReadError::OutOfMemory => return Err(AllocError),
-        ReadError::TooLong => "the input has more than 268,435,456 bytes\n".to_string(alloc)?,
-        ReadError::NotJson { byte } => not_json_text(alloc, input, *byte)?,
-        ReadError::TooDeep { byte } => too_deep_text(alloc, input, *byte)?,
-        ReadError::NotModule {
-            path,
-            wanted,
-            found,
-        } => not_module_text(alloc, path.as_str(), wanted, found.as_str())?,
-    };
-    Ok(text.into_bytes())
-}
-
-/// Returns the text of the error on a module whose blocks nest too deep to be checked.
-///
-/// # Errors
-///
-/// `AllocError` if an allocation fails.
-pub fn nesting_text(alloc: Global) -> Result<Vec<u8>, AllocError>
-    ensures { IfOk result (λ text. text.items ≡ nesting_text) }
-{
-    let text = "the input: wanted are blocks that nest at most 4,000 deep\n".to_string(alloc)?;
-    Ok(text.into_bytes())
 }

@@ -1,10 +1,7 @@
 //! Guesses the format of an input that isn't JSON.
-ghost use Rattle.std.specs.Prelude.{◌≡◌, Some};
-ghost use Rattle.report_input.specs.Forms.{form_by_start, form_in, form_of, form_of_rest, form_text};
+ghost use Rattle.std.specs.Prelude.{◌≡◌};
+ghost use Rattle.report_input.specs.Forms.{form_by_start, form_in, form_of, form_of_rest};
 ghost use Rattle.report_input.specs.Forms.{is_declaration, is_spirv, is_utf16, is_wgsl, rest_of};
-
-use std::fmt;
-use std::fmt::{Display, Formatter};
 
 /// The format that an input which isn't JSON seems to have.
 #[derive(Clone, Copy, Debug, PartialEq, Eq)]
@@ -131,26 +128,5 @@ impl Form {
     {
         let rest = rest_of(text, byte);
         form_of(text.trim_ascii_start(), rest)
-    }
-}
-
-impl Display for Form {
-    ghost output = { λ form. Some (form_text form) };
-
-    fn fmt<W: fmt::Write>(&self, f: &mut Formatter<W>) -> fmt::Result {
-        match self {
-            Form::Blank => f.write_str("the input is empty"),
-            Form::ByteOrderMark => f.write_str(
-                "the input begins with a byte order mark, which JSON has not",
-            ),
-            Form::Utf16 => f.write_str("the input is UTF-16, and JSON is UTF-8"),
-            Form::SpirV => f.write_str("the input is SPIR-V"),
-            Form::Glsl => f.write_str("the input is GLSL"),
-            Form::Wgsl => f.write_str("the input is WGSL"),
-            Form::Ron => f.write_str("the input is RON"),
-            Form::Comment => f.write_str("a comment begins here, and JSON has none"),
-            Form::CutOff => f.write_str("the input ends before the JSON does"),
-            Form::Other => f.write_str("what begins here isn't JSON"),
-        }
     }
 }

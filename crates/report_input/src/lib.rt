@@ -1,12 +1,21 @@
-//! What is wrong with an input that is no module: its diagnostic, the answer as JSON, and text output.
+//! What is wrong with an input that is no module: its diagnostic, and the answer as JSON. Also where the JSON of a module is at fault.
 #![tactic(auto)]
 
 mod codes;
 mod diagnostic;
+mod equal_types;
 mod errors;
+mod finds;
 mod forms;
+mod labels;
 mod messages;
+mod module_places;
+mod names;
 mod places;
-mod positions;
+mod spans;
+mod steps;
+mod walks;
 
-pub use errors::{error_object, error_text, nesting_object, nesting_text};
+pub use diagnostic::{diagnostic_of, nesting_diagnostic};
+pub use errors::{error_object, nesting_object};
+pub use module_places::located;

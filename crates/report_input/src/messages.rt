@@ -1,8 +1,10 @@
 //! The wording of what is wrong with an input: messages, notes and help. Contracts don't speak of it.
 
+use crate::equal_types::equal_types;
 use crate::errors::WantedText;
 use crate::forms::Form;
-use crate::positions::last_step;
+use crate::names::{known_names, name_in, suggestion};
+use crate::steps::last_step;
 use report_diagnostics::{InputCode, Text};
 use shader_json_module::{ReadError, Wanted};
 use std::alloc::{AllocError, Global};
@@ -17,7 +19,7 @@ pub fn text(alloc: Global, words: &str) -> Result<Text, AllocError> {
 }
 
 /// Returns what a text that isn't JSON seems to be, or what is wrong with it.
-fn form_words(form: Form, code: InputCode) -> &'static str {
+fn form_words(form: Form) -> &'static str {
     match form {
         Form::Blank => "the input is empty",
         Form::ByteOrderMark => "the input begins with a byte order mark, which JSON has not",
@@ -28,18 +30,7 @@ fn form_words(form: Form, code: InputCode) -> &'static str {
         Form::Ron => "the input is RON, and JSON is wanted",
         Form::Comment => "JSON has no comments",
         Form::CutOff => "the input ends before the JSON does",
-        Form::Other => match code {
-            InputCode::NotUtf8 => "a byte isn't UTF-8, and JSON is",
-            _ => "this isn't JSON",
-        },
-    }
-}
-
-/// Returns the name in a description of a value: what is between its first and its last quote.
-fn name_in(found: &str) -> &str {
-    match (found.find('"'), found.rfind('"')) {
-        (Some(first), Some(last)) if first < last => &found[first + 1..last],
-        _ => found,
+        Form::Other => "this isn't JSON",
     }
 }
 
@@ -59,9 +50,35 @@ fn kind_in(wanted: &str) -> &str {
     }
 }
 
+/// Returns the message on a text that isn't JSON from a byte on.
+fn text_message(
+    alloc: Global,
+    input: &[u8],
+    byte: usize,
+    code: InputCode,
+) -> Result<String, AllocError> {
+    let form = Form::of(input, byte);
+    match (code, form, input.get(byte)) {
+        (InputCode::NotUtf8, Form::Utf16, _) => form_words(form).to_string(alloc),
+        (InputCode::NotUtf8, _, Some(wrong)) => {
+            format!(in alloc; "a byte 0x{:x} isn't UTF-8, and JSON is", *wrong)
+        }
+        _ => form_words(form).to_string(alloc),
+    }
+}
+
+/// Returns the message on a type that is equal to an earlier one.
+fn type_message(alloc: Global, input: &[u8], path: &str) -> Result<String, AllocError> {
+    match equal_types(alloc, input, path)? {
+        Some((index, earlier)) => format!(in alloc; "type {index} is equal to type {earlier}"),
+        None => format!(in alloc; "`{path}` is equal to an earlier type"),
+    }
+}
+
 /// Returns the message on a value that doesn't meet a requirement in words.
 fn words_message(
     alloc: Global,
+    input: &[u8],
     code: InputCode,
     path: &str,
     wanted: &str,
@@ -70,7 +87,7 @@ fn words_message(
     let step = last_step(path);
     match code {
         InputCode::RepeatedField => format!(in alloc; "`{step}` stands twice"),
-        InputCode::RepeatedType => format!(in alloc; "`{path}` is equal to an earlier type"),
+        InputCode::RepeatedType => type_message(alloc, input, path),
         InputCode::UnknownName if found.starts_with('"') => {
             format!(in alloc; "unknown {} `{}`", kind_in(wanted), name_in(found))
         }
@@ -95,6 +112,7 @@ fn words_message(
 /// Returns the message on a value that isn't that of a module.
 fn value_message(
     alloc: Global,
+    input: &[u8],
     code: InputCode,
     path: &str,
     wanted: &Wanted,
@@ -102,8 +120,8 @@ fn value_message(
 ) -> Result<String, AllocError> {
     match wanted {
         Wanted::Field(name) => format!(in alloc; "the field `{name}` is missing"),
-        Wanted::Integer(_, _) => words_message(alloc, code, path, "", found),
-        Wanted::Value(words) => words_message(alloc, code, path, words, found),
+        Wanted::Integer(_, _) => words_message(alloc, input, code, path, "", found),
+        Wanted::Value(words) => words_message(alloc, input, code, path, words, found),
     }
 }
 
@@ -121,7 +139,7 @@ pub fn message_of(
     let message = match error {
         ReadError::OutOfMemory => return Err(AllocError),
         ReadError::TooLong => "the input has more than 268,435,456 bytes".to_string(alloc)?,
-        ReadError::NotJson { byte } => form_words(Form::of(input, *byte), code).to_string(alloc)?,
+        ReadError::NotJson { byte } => text_message(alloc, input, *byte, code)?,
         ReadError::TooDeep { .. } => {
             "arrays and objects nest more than 128 deep".to_string(alloc)?
         }
@@ -129,7 +147,7 @@ pub fn message_of(
             path,
             wanted,
             found,
-        } => value_message(alloc, code, path.as_str(), wanted, found.as_str())?,
+        } => value_message(alloc, input, code, path.as_str(), wanted, found.as_str())?,
     };
     Ok(Text::from(message))
 }
@@ -144,6 +162,36 @@ pub fn wanted_words(alloc: Global, wanted: &Wanted) -> Result<Text, AllocError> 
     Ok(Text::from(words))
 }
 
+/// Returns what is wanted of a name that isn't known, and that name.
+fn unknown_name(error: &ReadError, code: InputCode) -> Option<(&'static str, &str)> {
+    match error {
+        ReadError::NotModule {
+            wanted: Wanted::Value(words),
+            found,
+            ..
+        } if code == InputCode::UnknownName => Some((*words, name_in(found.as_str()))),
+        _ => None,
+    }
+}
+
+/// Returns a fact that an author may not know, beside the message.
+fn note_of(input: &[u8], error: &ReadError, code: InputCode) -> Option<&'static str> {
+    match error {
+        ReadError::NotJson { byte } => match Form::of(input, *byte) {
+            Form::Wgsl => Some("naga's `front::wgsl::parse_str` reads WGSL"),
+            _ => None,
+        },
+        ReadError::NotModule { found, .. } => {
+            if code == InputCode::Unsupported && found.as_str() == "null" {
+                Some("naga writes null where a 64-bit minimum or maximum returns nothing")
+            } else {
+                None
+            }
+        }
+        _ => None,
+    }
+}
+
 /// Returns facts that an author may not know, beside the message.
 ///
 /// # Errors
@@ -154,21 +202,29 @@ pub fn notes_of(
     input: &[u8],
     error: &ReadError,
     code: InputCode,
+    explains: bool,
 ) -> Result<Vec<Text>, AllocError> {
     let mut notes = Vec::new(alloc);
-    match error {
-        ReadError::NotJson { byte } => if let Form::Wgsl = Form::of(input, *byte) {
-            notes.push(text(alloc, "naga's `front::wgsl::parse_str` reads WGSL")?)?;
-        },
-        ReadError::NotModule { found, .. } => {
-            if code == InputCode::Unsupported && found.as_str() == "null" {
-                let note = "naga writes null where a 64-bit minimum or maximum returns nothing";
-                notes.push(text(alloc, note)?)?;
-            }
+    if let Some(note) = note_of(input, error, code) {
+        notes.push(text(alloc, note)?)?;
+    }
+    if let Some((wanted, name)) = unknown_name(error, code) {
+        if let Some(note) = known_names(alloc, wanted, name, explains)? {
+            notes.push(Text::from(note))?;
         }
-        _ => {}
     }
     Ok(notes)
+}
+
+/// Returns whether an input has another format than JSON, or none.
+fn is_other_format(input: &[u8], error: &ReadError) -> bool {
+    match error {
+        ReadError::NotJson { byte } => matches!(
+            Form::of(input, *byte),
+            Form::Blank | Form::Utf16 | Form::SpirV | Form::Glsl | Form::Wgsl | Form::Ron
+        ),
+        _ => false,
+    }
 }
 
 /// Returns what to do about an error.
@@ -176,11 +232,20 @@ pub fn notes_of(
 /// # Errors
 ///
 /// `AllocError` if an allocation fails.
-pub fn help_of(alloc: Global, code: InputCode) -> Result<Vec<Text>, AllocError> {
+pub fn help_of(
+    alloc: Global,
+    input: &[u8],
+    error: &ReadError,
+    code: InputCode,
+) -> Result<Vec<Text>, AllocError> {
     let mut help = Vec::new(alloc);
-    match code {
-        InputCode::EmptyInput | InputCode::NotAModule => help.push(text(alloc, HELP)?)?,
-        _ => {}
+    if is_other_format(input, error) {
+        help.push(text(alloc, HELP)?)?;
+    }
+    if let Some((wanted, name)) = unknown_name(error, code) {
+        if let Some(question) = suggestion(alloc, wanted, name)? {
+            help.push(Text::from(question))?;
+        }
     }
     Ok(help)
 }

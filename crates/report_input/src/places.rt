@@ -1,9 +1,6 @@
 //! Text positions, as editors count them.
-ghost use Rattle.std.specs.Prelude.{◌≡◌, Some};
-ghost use Rattle.report_input.specs.Places.{after, after_all, place_in, place_text, start};
-
-use std::fmt;
-use std::fmt::{Display, Formatter};
+ghost use Rattle.std.specs.Prelude.{◌≡◌};
+ghost use Rattle.report_input.specs.Places.{after, after_all, place_in, start};
 
 /// A text position.
 #[derive(Clone, Copy, Debug, PartialEq, Eq)]
@@ -52,12 +49,4 @@ fn behind(text: &[u8]) -> Place
         place = after(place, *byte);
     }
     place
-}
-
-impl Display for Place {
-    ghost output = { λ place. Some (place_text place) };
-
-    fn fmt<W: fmt::Write>(&self, f: &mut Formatter<W>) -> fmt::Result {
-        write!(f, "line {}, column {}", self.line, self.column)
-    }
 }

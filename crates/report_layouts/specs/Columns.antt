@@ -1,7 +1,6 @@
 -- Lines with texts in columns.
-use Rattle.std.specs.Prelude.{ℕ, ◌-◌, ◌==◌, List, [], ◌∷◌, ◌++◌, codes, fold, if◌then◌else◌, length, max}
-use Rattle.std.specs.List.{repeat}
-use Rattle.std.specs.Str.{chars}
+use Rattle.std.specs.Prelude.{ℕ, ◌==◌, List, [], ◌∷◌, ◌++◌, codes, fold, if◌then◌else◌, max}
+use Rattle.report_columns.specs.Columns.{columns_of, padded_text}
 use Rattle.report_layouts.specs.declared.columns.Widths.{Widths}
 
 -- what is declared, and its layout: an offset, an alignment and a size, of which the first two may be empty
@@ -13,14 +12,6 @@ pub record Row : Type 0 where
 
 abbrev pub row : List ℕ → List ℕ → List ℕ → List ℕ → Row
 row declared offset alignment size = record { declared = declared; offset = offset; alignment = alignment; size = size }
-
--- how many characters a text has
-abbrev pub columns_of : List ℕ → ℕ
-columns_of text = length (chars text)
-
--- the text, and blanks behind it up to a width
-abbrev pub padded_text : ℕ → List ℕ → List ℕ
-padded_text width text = text ++ repeat (width - columns_of text) (codes " ")
 
 -- a column behind which another one stands; one without a width isn't there
 abbrev pub column_text : ℕ → List ℕ → List ℕ

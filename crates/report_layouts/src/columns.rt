@@ -1,8 +1,8 @@
 //! Lines of a declaration, with the layouts behind them in columns.
-ghost use Rattle.std.specs.Prelude.{◌≡◌, IfOk, length, string_bytes};
-ghost use Rattle.std.specs.Str.{chars};
-ghost use Rattle.report_layouts.specs.Columns.{aligned_text, column_text, columns_of, line_text, lines_text, padded_text, wider, widths_of};
+ghost use Rattle.std.specs.Prelude.{◌≡◌, IfOk, string_bytes};
+ghost use Rattle.report_layouts.specs.Columns.{aligned_text, column_text, line_text, lines_text, wider, widths_of};
 
+use report_columns::{columns_of, padded_text};
 use std::alloc::{AllocError, Global};
 use std::marker::Model;
 
@@ -85,13 +85,6 @@ struct Widths {
     alignment: usize,
 }
 
-/// Returns the number of characters of a text.
-fn columns_of(text: &str) -> usize
-    ensures { result ≡ columns_of text.now }
-{
-    text.chars().count()
-}
-
 /// Returns widths that have room for one more line.
 fn wider(widths: Widths, line: &Line) -> Widths
     ensures { result ≡ wider widths line.now }
@@ -116,15 +109,6 @@ fn widths_of(lines: &[Line]) -> Widths
         widths = wider(widths, line);
     }
     widths
-}
-
-/// Returns a text with blanks behind it up to a width.
-fn padded_text(alloc: Global, text: &str, width: usize) -> Result<String, AllocError>
-    ensures { IfOk result (λ padded. string_bytes padded ≡ padded_text width text.now) }
-{
-    let columns = columns_of(text);
-    let blanks = " ".repeat(alloc, width.saturating_sub(columns))?;
-    format!(in alloc; "{text}{blanks}")
 }
 
 /// Returns a text as a column behind which another one stands. A column without a width isn't there.

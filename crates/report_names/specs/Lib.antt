@@ -1,4 +1,5 @@
 pub mod Builtins
+pub mod Declarations
 pub mod Images
 pub mod Items
 pub mod Literals

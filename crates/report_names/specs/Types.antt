@@ -79,3 +79,7 @@ found_text base_text m i (Some ty) = inner_text base_text m i ty.name ty.inner
 abbrev pub type_text : Module → ℕ → ℕ → List ℕ
 type_text m zero i = codes "..."
 type_text m (suc nested) i = found_text (λ base. type_text m nested base) m i (slice_get m.types i)
+
+-- a type outside of the module has neither a name nor a number
+abbrev pub unlisted_text : Module → ℕ → TypeInner → List ℕ
+unlisted_text m nested ty = inner_text (λ base. type_text m nested base) m 0 None ty

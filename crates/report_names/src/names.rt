@@ -11,8 +11,12 @@ use std::alloc::{AllocError, Global};
 /// The most columns that a name takes, besides quotation marks.
 pub const MOST_COLUMNS: usize = 40;
 
-/// Returns the escape of a character.
-fn escape_of(alloc: Global, character: char) -> Result<String, AllocError>
+/// Returns the escape of a character, as `\u{1b}`.
+///
+/// # Errors
+///
+/// `AllocError` if an allocation fails.
+pub fn escape_of(alloc: Global, character: char) -> Result<String, AllocError>
     ensures { IfOk result (λ text. string_bytes text ≡ escape_of character) }
 {
     match character {

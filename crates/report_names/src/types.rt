@@ -1,13 +1,13 @@
 //! Types as WGSL spells them.
 ghost use Rattle.std.specs.Prelude.{◌≡◌, IfOk, string_bytes};
 ghost use Rattle.report_names.specs.Types.{access_part, inner_text, plain_text, pointer_text, resource_text, size_text, space_word};
-ghost use Rattle.report_names.specs.Types.{type_text};
+ghost use Rattle.report_names.specs.Types.{type_text, unlisted_text};
 
 use crate::images::{access_word, image_text};
 use crate::items::{ItemKind, item_text, number_text, override_text};
 use crate::scalars::{cooperative_text, matrix_text, scalar_text, vector_text};
 use shader_arena::Handle;
-use shader_ir::{AddressSpace, ArraySize, Module, Type, TypeInner, mark};
+use shader_ir::{AddressSpace, ArraySize, Module, Name, TypeInner, mark};
 use std::alloc::{AllocError, Global};
 
 /// The most types that are shown one within another. Three dots stand for what is further inside.
@@ -150,15 +150,16 @@ fn resource_text(alloc: Global, inner: &TypeInner, index: usize) -> Result<Strin
 fn inner_text(
     alloc: Global,
     module: &Module,
-    found: &Type,
+    name: &Option<Name>,
+    inner: &TypeInner,
     index: usize,
     nested: u32,
 ) -> Result<String, AllocError>
     ensures { IfOk result (λ text. string_bytes text
-        ≡ inner_text (λ base. type_text «module».now nested base) «module».now index found.now.name found.now.inner) }
+        ≡ inner_text (λ base. type_text «module».now nested base) «module».now index name.now inner.now) }
 {
-    match &found.inner {
-        TypeInner::Struct { .. } => item_text(alloc, ItemKind::Struct, &found.name, index),
+    match inner {
+        TypeInner::Struct { .. } => item_text(alloc, ItemKind::Struct, name, index),
         TypeInner::Array { base, size, .. } => {
             let base = type_text(alloc, module, *base, nested)?;
             let size = size_text(alloc, module, *size)?;
@@ -182,7 +183,7 @@ fn inner_text(
         | TypeInner::Image { .. }
         | TypeInner::Sampler { .. }
         | TypeInner::AccelerationStructure { .. }
-        | TypeInner::RayQuery { .. } => resource_text(alloc, &found.inner, index),
+        | TypeInner::RayQuery { .. } => resource_text(alloc, inner, index),
     }
 }
 
@@ -201,7 +202,26 @@ pub fn type_text(
         return String::from_str(alloc, "...");
     }
     match module.types.try_get(ty) {
-        Some(found) => inner_text(alloc, module, found, ty.index(), nested - 1),
+        Some(found) => inner_text(
+            alloc,
+            module,
+            &found.name,
+            &found.inner,
+            ty.index(),
+            nested - 1,
+        ),
         None => number_text(alloc, ItemKind::Type, ty.index()),
     }
+}
+
+/// Returns a type that isn't one of the module's. Of types within one another so many are shown.
+pub fn unlisted_text(
+    alloc: Global,
+    module: &Module,
+    inner: &TypeInner,
+    nested: u32,
+) -> Result<String, AllocError>
+    ensures { IfOk result (λ text. string_bytes text ≡ unlisted_text «module».now nested inner.now) }
+{
+    inner_text(alloc, module, &None, inner, 0, nested)
 }

@@ -1,1 +1,2 @@
+mod OutlineLemmas
 mod WayLemmas

@@ -1,3 +1,4 @@
+pub mod Outlines
 pub mod Paths
 pub mod Pointers
 pub mod Sites

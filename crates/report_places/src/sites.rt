@@ -1,9 +1,11 @@
 //! What stands at a place of a module: its name, statements and expressions.
 ghost use Rattle.std.specs.Prelude.{◌≡◌, IfOk, Some};
 ghost use Rattle.std.specs.Option.{option_copied, option_map};
+ghost use Rattle.report_places.specs.Outlines.{IsOutlineAt};
 ghost use Rattle.report_places.specs.Sites.{expression_at, function_of, name_at, named_at, way_at};
 
 use crate::body_place::BodyPlace;
+use crate::outline::Outline;
 use crate::paths::{StatementAt, Wanted, find_statement};
 use shader_arena::Handle;
 use shader_ir::{Expression, Function, Module, Name, TryCopy, mark};
@@ -95,5 +97,23 @@ pub fn statement_at<'a>(
     match function_of(module, place) {
         Some(function) => find_statement(alloc, &function.body, wanted),
         None => Ok(None),
+    }
+}
+
+/// Returns the statements at a place by their positions. A global expression has none.
+///
+/// # Errors
+///
+/// `AllocError` if an allocation fails.
+pub fn outline_at<'a>(
+    alloc: Global,
+    module: &'a Module,
+    place: &BodyPlace,
+) -> Result<Outline<'a>, AllocError>
+    ensures { IfOk result (λ outline. IsOutlineAt «module».now place.now outline.rows.items) }
+{
+    match function_of(module, place) {
+        Some(function) => Outline::of(alloc, &function.body),
+        None => Ok(Outline::empty(alloc)),
     }
 }

@@ -3,7 +3,8 @@ ghost use Rattle.std.specs.Prelude.{IfOk, string_bytes};
 ghost use Rattle.report_summary.specs.Summaries.{IsBlock};
 
 use crate::body::Body;
-use crate::flow::{FlowRules, flow_lines};
+use crate::detail::Detail;
+use crate::flow::flow_lines;
 use crate::globals::global_lines;
 use crate::headings::heading;
 use crate::pairs::pair_lines;
@@ -18,10 +19,10 @@ use shader_ir::{Module, mark};
 use shader_uniformity::BodyLocation;
 use std::alloc::{AllocError, Global};
 
-/// The rules by which control flow was checked, and what each function of the module does.
+/// What the blocks are printed with, and what each function of the module does.
 #[derive(Drop)]
-pub struct Checked {
-    pub rules: FlowRules,
+pub struct Checked<'a> {
+    pub detail: Detail<'a>,
     pub functions: Vec<Body>,
 }
 
@@ -67,6 +68,7 @@ fn use_lines(
     analyzed: &Analyzed,
     bindings: &[Option<ResourceBinding>],
     place: BodyLocation,
+    shows_all: bool,
 ) -> Result<String, AllocError> {
     let Some(function) = function_of(module, &place_of_body(place)) else {
         return Ok(String::new(alloc));
@@ -74,30 +76,45 @@ fn use_lines(
     let Some(info) = info_at(analyzed, place) else {
         return Ok(String::new(alloc));
     };
-    let globals = global_lines(alloc, module, bindings, info)?;
-    let pairs = pair_lines(alloc, module, function, info)?;
+    let globals = global_lines(alloc, module, bindings, info, shows_all)?;
+    let pairs = pair_lines(alloc, module, function, info, shows_all)?;
     format!(in alloc; "{globals}{pairs}")
 }
 
-/// Returns the block on the entry point or function at a place: what it uses and needs, at any depth of calls.
-pub fn block_of(
+/// Returns what the block on the entry point or function at a place says of it: what it uses and needs, at any depth of calls.
+fn lines_of(
     alloc: Global,
     module: &Module,
     analyzed: &Analyzed,
     bindings: &[Option<ResourceBinding>],
-    checked: &Checked,
+    checked: &Checked<'_>,
     place: BodyLocation,
-) -> Result<String, AllocError>
-    ensures { IfOk result (λ text. IsBlock «module».now place (string_bytes text)) }
-{
-    let heading = heading(alloc, module, place)?;
-    let uses = use_lines(alloc, module, analyzed, bindings, place)?;
+) -> Result<String, AllocError> {
+    let detail = checked.detail;
+    let uses = use_lines(alloc, module, analyzed, bindings, place, detail.shows_all)?;
     let reached = reached_from(alloc, module, checked.functions.as_slice(), place)?;
     let discards = if reached.discards {
         "  may discard\n"
     } else {
         ""
     };
-    let flow = flow_lines(alloc, checked.rules, is_entry_point(place), &reached)?;
-    format!(in alloc; "{heading}{uses}{discards}{flow}")
+    let flow = flow_lines(alloc, detail.rules, is_entry_point(place), &reached)?;
+    format!(in alloc; "{uses}{discards}{flow}")
+}
+
+/// Returns the block on the entry point or function at a place: what it uses and needs, at any depth of calls, and then a reason.
+pub fn block_of(
+    alloc: Global,
+    module: &Module,
+    analyzed: &Analyzed,
+    bindings: &[Option<ResourceBinding>],
+    checked: &Checked<'_>,
+    place: BodyLocation,
+    reason: &str,
+) -> Result<String, AllocError>
+    ensures { IfOk result (λ text. IsBlock «module».now checked.now.detail.groups.now place reason.now (string_bytes text)) }
+{
+    let heading = heading(alloc, module, checked.detail.groups, place)?;
+    let lines = lines_of(alloc, module, analyzed, bindings, checked, place)?;
+    format!(in alloc; "{heading}{lines}{reason}")
 }

@@ -4,6 +4,7 @@
 mod block;
 mod body;
 mod counts;
+mod detail;
 mod flow;
 mod globals;
 mod headings;
@@ -12,5 +13,6 @@ mod reached;
 mod resources;
 mod summary;
 
+pub use detail::Detail;
 pub use flow::FlowRules;
 pub use summary::{MOST_BLOCKS, summary_text};

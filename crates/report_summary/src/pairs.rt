@@ -7,7 +7,7 @@ use shader_ir::{Function, Module, mark};
 use std::alloc::{AllocError, Global};
 use std::collections::BTreeSet;
 
-/// The most pairs of a function that get a line.
+/// The most pairs of a function that get a line, unless all do.
 const MOST_PAIRS: usize = 12;
 
 /// Whether a resource is an argument, and its number.
@@ -81,16 +81,18 @@ pub fn pair_lines(
     module: &Module,
     function: &Function,
     info: &FunctionInfo,
+    shows_all: bool,
 ) -> Result<String, AllocError> {
     let pairs = pairs_of(alloc, info)?;
+    let most = if shows_all { pairs.len() } else { MOST_PAIRS };
     let mut text = String::new(alloc);
-    for pair in pairs.iter().take(MOST_PAIRS) {
+    for pair in pairs.iter().take(most) {
         let image = resource_words(alloc, module, function, pair.0)?;
         let sampler = resource_words(alloc, module, function, pair.1)?;
         let line = format!(in alloc; "  samples {image} with {sampler}\n")?;
         text.push_str(line.as_str())?;
     }
-    let more = pairs.len().saturating_sub(MOST_PAIRS);
+    let more = pairs.len().saturating_sub(most);
     if more > 0 {
         let line = format!(in alloc; "  ... and {more} more\n")?;
         text.push_str(line.as_str())?;

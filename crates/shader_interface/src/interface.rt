@@ -6,10 +6,12 @@ ghost use Rattle.shader_interface.specs.Interface.{argument_binding_at, binding_
 ghost use Rattle.shader_interface.specs.Interface.{global_expression_at, override_default_of, override_id_of};
 ghost use Rattle.shader_interface.specs.Interface.{override_init_of, resource_binding_at, result_binding_at, seen};
 ghost use Rattle.shader_interface.specs.Interface.{workgroup_override_of, workgroup_size_of};
+ghost use Rattle.shader_interface.specs.Workgroups.{axis_at, workgroup_at, workgroups_first};
 
 use crate::binding::Binding;
 use crate::bound::ResourceBinding;
 use crate::values::{integer, item, member, spelled};
+use crate::workgroup::{AxisSize, WorkgroupSize};
 use json::Value;
 use std::alloc::{AllocError, Global};
 
@@ -118,6 +120,49 @@ impl<'v, 'a> Interface<'v, 'a> {
             member(self.entry_point(entry), "workgroup_size_overrides"),
             axis,
         ))
+    }
+
+    /// Returns the number of invocations of a work group along an axis.
+    fn axis_size(self, entry: usize, axis: usize) -> AxisSize
+        ensures { result ≡ axis_at (value_view self.entry.0.now) entry axis }
+    {
+        match self.workgroup_override(entry, axis) {
+            Some(expression) => AxisSize::Expression(expression),
+            None => match self.workgroup_size(entry, axis) {
+                Some(count) => AxisSize::Count(count),
+                None => AxisSize::Unknown,
+            },
+        }
+    }
+
+    /// Returns the size of the work groups of an entry point.
+    pub fn workgroup(self, entry: usize) -> WorkgroupSize
+        ensures { result ≡ workgroup_at (value_view self.entry.0.now) entry }
+    {
+        WorkgroupSize {
+            x: self.axis_size(entry, 0),
+            y: self.axis_size(entry, 1),
+            z: self.axis_size(entry, 2),
+        }
+    }
+
+    /// Returns the sizes of the work groups of the first `count` entry points.
+    ///
+    /// # Errors
+    ///
+    /// `AllocError` if an allocation fails.
+    pub fn workgroups_first(
+        self,
+        alloc: Global,
+        count: usize,
+    ) -> Result<Vec<WorkgroupSize>, AllocError>
+        ensures { IfOk result (λ sizes. sizes.items ≡ workgroups_first (value_view self.entry.0.now) count) }
+    {
+        let mut sizes = Vec::new(alloc);
+        for entry in 0..count {
+            sizes.push(self.workgroup(entry))?;
+        }
+        Ok(sizes)
     }
 
     /// Returns the binding of an argument of an entry point.

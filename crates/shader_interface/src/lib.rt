@@ -6,7 +6,9 @@ mod binding;
 mod bound;
 mod interface;
 mod values;
+mod workgroup;
 
 pub use binding::Binding;
 pub use bound::{AttributesText, ResourceBinding};
 pub use interface::Interface;
+pub use workgroup::{AxisSize, WorkgroupSize};

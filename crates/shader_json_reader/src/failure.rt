@@ -2,6 +2,7 @@
 ghost use Rattle.std.specs.Prelude.{◌≡◌, ◌≢◌, ◌⊎◌, Err, OnOk, OnErr};
 ghost use Rattle.shader_json_reader.specs.declared.failure.Failure.TheVariants.{OutOfMemory};
 ghost use Rattle.shader_json_reader.specs.declared.error.ReadError.TheVariants as error;
+ghost use Rattle.shader_json_reader.specs.Answers.{IsUnrefused};
 ghost use Rattle.shader_json_reader.specs.Errors.{IsOfModule};
 
 use crate::error::{ReadError, Wanted};
@@ -97,6 +98,7 @@ pub fn within<T>(index: usize, read: Result<T, Failure>) -> Result<T, Failure>
     ensures ok { OnOk read (result ≡ read) }
     ensures err { OnErr read (OnOk result ⊥) }
     ensures memory { read ≡ Err OutOfMemory → result ≡ Err OutOfMemory }
+    ensures accepts { IsUnrefused read → IsUnrefused result }
 {
     match read {
         Ok(read) => Ok(read),

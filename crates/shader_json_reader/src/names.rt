@@ -1,6 +1,7 @@
 //! Flags given by their names.
 ghost use Rattle.std.specs.Prelude.{◌≢◌, IfErr, IfOk};
 ghost use Rattle.json.specs.Value.{value_view};
+ghost use Rattle.shader_json_reader.specs.Answers.{Accepts};
 ghost use Rattle.shader_json_reader.specs.Numbers.{AreFlags};
 ghost use Rattle.shader_json_reader.specs.declared.failure.Failure.TheVariants.{OutOfMemory};
 
@@ -22,6 +23,7 @@ pub fn flags<B: Flags>(
 ) -> Result<B, Failure>
     ensures memory { IfErr result (λ e. e ≢ OutOfMemory) }
     ensures flags { IfOk result (λ flags. B.exact → AreFlags B.table (value_view value.now) (B.set_of flags)) }
+    ensures accepts { B.exact → Accepts (AreFlags B.table) (value_view value.now) result }
 {
     let Some(text) = value.as_str() else {
         return Err(context.refused(wanted));

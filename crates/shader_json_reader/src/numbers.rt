@@ -31,9 +31,10 @@ pub fn signed(value: &Value<'_>, least: i64, most: i64) -> Option<i64>
     }
 }
 
-/// Returns the bits of the f64 nearest to a number, ties to even, or `None` if that is infinite.
+/// Returns the bits of the f64 nearest to a number, ties to even, or `None` for an infinite one or any other value.
 pub fn double_bits(value: &Value<'_>) -> Option<u64>
-    ensures { IfSome result (λ bits. IsDouble (value_view value.now) bits) }
+    ensures some { IfSome result (λ bits. IsDouble (value_view value.now) bits) }
+    ensures none { IfNone result ((bits : ℕ) → IsDouble (value_view value.now) bits → ⊥) }
 {
     let number = value.as_f64()?;
     if number.is_finite() {
@@ -43,9 +44,11 @@ pub fn double_bits(value: &Value<'_>) -> Option<u64>
     }
 }
 
-/// Returns the bits of the f32 nearest to a number, ties to even, or `None` if that is infinite. The number is rounded once.
+/// Returns the bits of the f32 nearest to a number, ties to even, or `None` for an infinite one or any other value. The number is rounded
+/// once.
 pub fn single_bits(value: &Value<'_>) -> Option<u32>
-    ensures { IfSome result (λ bits. IsSingle (value_view value.now) bits) }
+    ensures some { IfSome result (λ bits. IsSingle (value_view value.now) bits) }
+    ensures none { IfNone result ((bits : ℕ) → IsSingle (value_view value.now) bits → ⊥) }
 {
     let number: f32 = fast_float::parse(value.as_number()?).ok()?;
     if number.is_finite() {

@@ -1,4 +1,5 @@
 mod AccessLemmas
 mod BoundsLemmas
 mod NumberLemmas
+mod RowLemmas
 pub mod SizeLemmas

@@ -3,9 +3,12 @@
 #![tactic(auto)]
 
 mod accesses;
+mod checks;
 mod function;
 pub mod laws;
+mod listed;
 mod module_bounds;
+mod shown;
 mod sizes;
 mod text;
 mod written;
@@ -14,4 +17,4 @@ pub use accesses::{AccessCheck, AccessIndex, accesses_of};
 pub use function::{FunctionBounds, bounds_of};
 pub use module_bounds::{ModuleBounds, find_bounds};
 pub use sizes::first_unsized;
-pub use text::BoundsText;
+pub use text::bounds_text;

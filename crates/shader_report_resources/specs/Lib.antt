@@ -1,10 +1,11 @@
+pub mod Builtins
 pub mod DeclaredLines
 pub mod Entries
 pub mod EntryLines
 pub mod Formats
 pub mod Interfaces
+pub mod Listed
 pub mod Resources
-pub mod Shown
 pub mod Spaces
 pub mod Tables
 pub mod ValueLines

@@ -2,139 +2,84 @@
 ghost use Rattle.std.specs.Prelude.{◌≡◌, IfOk, length, slice_get, string_bytes};
 ghost use Rattle.std.specs.Option.{option_map};
 ghost use Rattle.json.specs.Value.{value_view};
-ghost use Rattle.shader_report_resources.specs.DeclaredLines.{all_global_lines, all_override_lines, default_words, element_lines};
-ghost use Rattle.shader_report_resources.specs.DeclaredLines.{global_lines, id_words, layout_words, member_line, member_lines};
-ghost use Rattle.shader_report_resources.specs.DeclaredLines.{override_line, place_line, room_of, room_words, space_words};
-ghost use Rattle.shader_report_resources.specs.DeclaredLines.{stride_words, struct_lines};
+ghost use Rattle.shader_report_resources.specs.DeclaredLines.{bound_declaration, element_stride, global_row, global_rows, id_words};
+ghost use Rattle.shader_report_resources.specs.DeclaredLines.{override_declaration, override_row, override_rows, room_words, room_of};
+ghost use Rattle.shader_report_resources.specs.DeclaredLines.{element_words, size_words, value_words};
 
-use crate::shown::{shown_global, shown_item, shown_type};
-use crate::spaces::{space_word, stated_access};
-use crate::tables::{alignment_of, layout_at, size_of, stride_of};
-use crate::words::base_at;
+use crate::tables::layout_at;
 use json::Value;
+use report_columns::Row;
+use report_names::{ItemKind, MOST_NESTED, declaration_text, item_text, name_text, type_text};
 use shader_arena::Handle;
-use shader_interface::Interface;
+use shader_interface::{AttributesText, Interface};
 use shader_ir::proc::{Layouter, TypeLayout};
-use shader_ir::{AddressSpace, GlobalVariable, Module, Override, StructMember, TypeInner, mark};
+use shader_ir::{AddressSpace, ArraySize, GlobalVariable, Module, Override, TypeInner, mark};
 use std::alloc::{AllocError, Global};
 
-/// Returns the line on a member of a struct.
-#[tactic(auto, unfolding(crate::specs::DeclaredLines::member_line))]
-fn member_line(
+/// Returns the declaration of a global, with its binding.
+pub(crate) fn bound_declaration(
     alloc: Global,
     module: &Module,
-    index: usize,
-    member: &StructMember,
+    root: &Value<'_>,
+    position: usize,
+    global: &GlobalVariable,
 ) -> Result<String, AllocError>
-    ensures { IfOk result (λ text. string_bytes text ≡ member_line «module».now (index, member.now)) }
+    ensures { IfOk result (λ text. string_bytes text ≡ bound_declaration (value_view root.now) «module».now (position, global.now)) }
 {
-    let name = shown_item(alloc, &member.name, index)?;
-    let ty = shown_type(alloc, module, member.ty)?;
-    format!(in alloc;
-        "  offset {}: {}: {}\n",
-        member.offset,
-        name.as_str(),
-        ty.as_str()
-    )
+    let attributes = AttributesText(Interface(root).bound(position));
+    let declaration = declaration_text(alloc, module, global, position)?;
+    format!(in alloc; "{attributes}{declaration}")
 }
 
-/// Returns the lines on members of a struct.
-fn member_lines(
-    alloc: Global,
-    module: &Module,
-    members: &[StructMember],
-) -> Result<String, AllocError>
-    ensures { IfOk result (λ text. string_bytes text ≡ member_lines «module».now members.now) }
-{
-    let mut text = String::new(alloc);
-    let mut index: usize = 0;
-    for member in members {
-        let line = member_line(alloc, module, index, member)?;
-        text.push_str(line.as_str())?;
-        index += 1;
-    }
-    Ok(text)
-}
-
-/// Returns the lines on the members of a struct type, or an empty text for another type.
-fn struct_lines(
-    alloc: Global,
-    module: &Module,
-    ty: Handle<mark::Type>,
-) -> Result<String, AllocError>
-    ensures { IfOk result (λ text. string_bytes text ≡ struct_lines «module».now (slice_get «module».now.types ty)) }
+/// Returns the distance of the elements of an array without a fixed length. Another type has none.
+fn element_stride(module: &Module, ty: Handle<mark::Type>) -> Option<u32>
+    ensures { result ≡ element_stride (slice_get «module».now.types ty) }
 {
     let Some(found) = module.types.try_get(ty) else {
-        return Ok(String::new(alloc));
+        return None;
     };
     match &found.inner {
-        TypeInner::Struct { members, .. } => member_lines(alloc, module, members.as_slice()),
-        _ => Ok(String::new(alloc)),
+        TypeInner::Array { size, stride, .. } => match size {
+            ArraySize::Dynamic => Some(*stride),
+            ArraySize::Constant(_) | ArraySize::Pending(_) => None,
+        },
+        _ => None,
     }
 }
 
-/// Returns the lines on the members of a struct, or of the elements of an array of structs.
-fn element_lines(
+/// Returns a size and an alignment, both in bytes.
+fn size_words(alloc: Global, size: u32, alignment: u32) -> Result<String, AllocError>
+    ensures { IfOk result (λ text. string_bytes text ≡ size_words size alignment) }
+{
+    format!(in alloc; "{size} bytes, align {alignment}")
+}
+
+/// Returns the size of an element and an alignment, both in bytes.
+fn element_words(alloc: Global, stride: u32, alignment: u32) -> Result<String, AllocError>
+    ensures { IfOk result (λ text. string_bytes text ≡ element_words stride alignment) }
+{
+    format!(in alloc; "{stride} bytes an element, align {alignment}")
+}
+
+/// Returns the size and the alignment of a layout. An array without a fixed length has the size of an element.
+fn room_of(
     alloc: Global,
-    module: &Module,
-    ty: Handle<mark::Type>,
+    stride: Option<u32>,
+    layout: &Option<TypeLayout>,
 ) -> Result<String, AllocError>
-    ensures { IfOk result (λ text. string_bytes text ≡ element_lines «module».now ty) }
+    ensures { IfOk result (λ text. string_bytes text ≡ room_of stride layout.now) }
 {
-    match base_at(module, ty) {
-        Some(base) => struct_lines(alloc, module, base),
-        None => struct_lines(alloc, module, ty),
-    }
-}
-
-/// Returns an address space, with the access mode that it states.
-fn space_words(alloc: Global, space: AddressSpace) -> Result<String, AllocError>
-    ensures { IfOk result (λ text. string_bytes text ≡ space_words space) }
-{
-    let word = space_word(space);
-    match stated_access(space) {
-        Some(access) => format!(in alloc; "{word} {access}"),
-        None => format!(in alloc; "{word}"),
-    }
-}
-
-/// Returns the size and the alignment of a layout, if there are both.
-fn room_of(alloc: Global, size: Option<u32>, alignment: Option<u32>) -> Result<String, AllocError>
-    ensures { IfOk result (λ text. string_bytes text ≡ room_of size alignment) }
-{
-    match (size, alignment) {
-        (Some(size), Some(alignment)) => {
-            format!(in alloc; ", {size} bytes, alignment {alignment}")
-        }
-        _ => Ok(String::new(alloc)),
-    }
-}
-
-/// Returns the size and the alignment of a layout, if there is one.
-fn layout_words(alloc: Global, layout: &Option<TypeLayout>) -> Result<String, AllocError>
-    ensures { IfOk result (λ text. string_bytes text ≡ layout_words layout.now) }
-{
-    room_of(alloc, size_of(layout), alignment_of(layout))
-}
-
-/// Returns the stride of an array, or an empty text for another type.
-fn stride_words(
-    alloc: Global,
-    module: &Module,
-    ty: Handle<mark::Type>,
-) -> Result<String, AllocError>
-    ensures { IfOk result (λ text. string_bytes text ≡ stride_words (slice_get «module».now.types ty)) }
-{
-    let Some(found) = module.types.try_get(ty) else {
+    let Some(layout) = layout else {
         return Ok(String::new(alloc));
     };
-    match stride_of(&found.inner) {
-        Some(stride) => format!(in alloc; ", stride {stride}"),
-        None => Ok(String::new(alloc)),
+    let alignment = layout.alignment.get();
+    match stride {
+        Some(stride) => element_words(alloc, stride, alignment),
+        None => size_words(alloc, layout.size, alignment),
     }
 }
 
-/// Returns the size, alignment and stride of a global, or an empty text for images, samplers and other handles.
+/// Returns the size and the alignment of a global, or an empty text for images, samplers and other handles.
 fn room_words(
     alloc: Global,
     module: &Module,
@@ -147,130 +92,129 @@ fn room_words(
     match global.space {
         AddressSpace::Handle => Ok(String::new(alloc)),
         _ => {
-            let layout = layout_words(alloc, &layout_at(module, layouter, global.ty))?;
-            let stride = stride_words(alloc, module, global.ty)?;
-            format!(in alloc; "{}{}", layout.as_str(), stride.as_str())
+            let stride = element_stride(module, global.ty);
+            room_of(alloc, stride, &layout_at(module, layouter, global.ty))
         }
     }
 }
 
-/// Returns the line on the address space of a global, with its size, alignment and stride.
-#[tactic(auto, unfolding(crate::specs::DeclaredLines::place_line))]
-fn place_line(
-    alloc: Global,
-    module: &Module,
-    layouter: &Layouter,
-    global: &GlobalVariable,
-) -> Result<String, AllocError>
-    requires { length layouter.now ≡ length «module».now.types }
-    ensures { IfOk result (λ text. string_bytes text ≡ place_line «module».now layouter.now global.now) }
-{
-    let space = space_words(alloc, global.space)?;
-    let room = room_words(alloc, module, layouter, global)?;
-    format!(in alloc; "  {}{}\n", space.as_str(), room.as_str())
-}
-
-/// Returns the lines on a global.
-#[tactic(auto, unfolding(crate::specs::DeclaredLines::global_lines))]
-fn global_lines(
+/// Returns the line on a global.
+fn global_row(
     alloc: Global,
     module: &Module,
     root: &Value<'_>,
     layouter: &Layouter,
     handle: Handle<mark::GlobalVariable>,
     global: &GlobalVariable,
-) -> Result<String, AllocError>
+) -> Result<Row, AllocError>
     requires { length layouter.now ≡ length «module».now.types }
-    ensures { IfOk result (λ text.
-        string_bytes text ≡ global_lines (value_view root.now) «module».now layouter.now (handle, global.now)) }
+    ensures { IfOk result (λ row. row ≡ global_row (value_view root.now) «module».now layouter.now (handle, global.now)) }
 {
-    let name = shown_global(alloc, module, root, handle.index())?;
-    let ty = shown_type(alloc, module, global.ty)?;
-    let place = place_line(alloc, module, layouter, global)?;
-    let members = element_lines(alloc, module, global.ty)?;
-    format!(in alloc;
-        "global {}: {}\n{}{}",
-        name.as_str(),
-        ty.as_str(),
-        place.as_str(),
-        members.as_str()
-    )
+    let declaration = bound_declaration(alloc, module, root, handle.index(), global)?;
+    let room = room_words(alloc, module, layouter, global)?;
+    Ok(Row::new(declaration, room))
 }
 
-/// Returns the lines on all globals.
-pub(crate) fn all_global_lines(
+/// Returns a line for each global.
+pub(crate) fn global_rows(
     alloc: Global,
     module: &Module,
     root: &Value<'_>,
     layouter: &Layouter,
-) -> Result<String, AllocError>
+) -> Result<Vec<Row>, AllocError>
     requires { length layouter.now ≡ length «module».now.types }
-    ensures { IfOk result (λ text. string_bytes text ≡ all_global_lines (value_view root.now) «module».now layouter.now) }
+    ensures { IfOk result (λ rows. rows.items ≡ global_rows (value_view root.now) «module».now layouter.now) }
 {
-    let mut text = String::new(alloc);
+    let mut rows = Vec::new(alloc);
     for (handle, global) in module.global_variables.iter() {
-        let lines = global_lines(alloc, module, root, layouter, handle, global)?;
-        text.push_str(lines.as_str())?;
+        let row = global_row(alloc, module, root, layouter, handle, global)?;
+        rows.push(row)?;
     }
-    Ok(text)
+    Ok(rows)
 }
 
-/// Returns the id of an override, if it has one.
+/// Returns the attribute with the id of an override, if it has one.
 fn id_words(alloc: Global, id: Option<u32>) -> Result<String, AllocError>
     ensures { IfOk result (λ text. string_bytes text ≡ id_words id) }
 {
     match id {
-        Some(id) => format!(in alloc; ", id {id}"),
+        Some(id) => format!(in alloc; "@id({id}) "),
         None => Ok(String::new(alloc)),
     }
 }
 
-/// Returns the value that an override has if the pipeline sets none, if it is a number or a bool.
-fn default_words(alloc: Global, default: Option<&str>) -> Result<String, AllocError>
-    ensures { IfOk result (λ text. string_bytes text ≡ default_words (option_map (λ text. text.now) default.entry)) }
+/// Returns the value that an override has if the pipeline sets none: a number or a bool as the JSON spells it, and three dots for another
+/// one.
+fn value_words(
+    alloc: Global,
+    default: Option<&str>,
+    init: Option<Handle<mark::Expression>>,
+) -> Result<String, AllocError>
+    ensures { IfOk result (λ text. string_bytes text ≡ value_words (option_map (λ text. text.now) default.entry) init) }
 {
     match default {
-        Some(default) => format!(in alloc; ", default {default}"),
-        None => Ok(String::new(alloc)),
+        Some(default) => {
+            let default = name_text(alloc, default)?;
+            format!(in alloc; " = {default}")
+        }
+        None => match init {
+            Some(_) => String::from_str(alloc, " = ..."),
+            None => Ok(String::new(alloc)),
+        },
     }
+}
+
+/// Returns the declaration of an override whose attribute and value are spelled so.
+#[tactic(auto, unfolding(crate::specs::DeclaredLines::override_declaration))]
+fn override_declaration(
+    alloc: Global,
+    id: &str,
+    name: &str,
+    ty: &str,
+    value: &str,
+) -> Result<String, AllocError>
+    ensures { IfOk result (λ text. string_bytes text ≡ override_declaration id.now name.now ty.now value.now) }
+{
+    format!(in alloc; "{id}override {name}: {ty}{value}")
 }
 
 /// Returns the line on an override.
-#[tactic(auto, unfolding(crate::specs::DeclaredLines::override_line))]
-fn override_line(
+fn override_row(
     alloc: Global,
     module: &Module,
     root: &Value<'_>,
     handle: Handle<mark::Override>,
     item: &Override,
-) -> Result<String, AllocError>
-    ensures { IfOk result (λ text. string_bytes text ≡ override_line (value_view root.now) «module».now (handle, item.now)) }
+) -> Result<Row, AllocError>
+    ensures { IfOk result (λ row. row ≡ override_row (value_view root.now) «module».now (handle, item.now)) }
 {
-    let name = shown_item(alloc, &item.name, handle.index())?;
-    let ty = shown_type(alloc, module, item.ty)?;
-    let id = id_words(alloc, Interface(root).override_id(handle.index()))?;
-    let default = default_words(alloc, Interface(root).override_default(handle.index()))?;
-    format!(in alloc;
-        "override {}: {}{}{}\n",
+    let interface = Interface(root);
+    let id = id_words(alloc, interface.override_id(handle.index()))?;
+    let name = item_text(alloc, ItemKind::Override, &item.name, handle.index())?;
+    let ty = type_text(alloc, module, item.ty, MOST_NESTED)?;
+    let value = value_words(alloc, interface.override_default(handle.index()), item.init)?;
+    let declaration = override_declaration(
+        alloc,
+        id.as_str(),
         name.as_str(),
         ty.as_str(),
-        id.as_str(),
-        default.as_str()
-    )
+        value.as_str(),
+    )?;
+    Ok(Row::new(declaration, String::new(alloc)))
 }
 
-/// Returns the lines on all overrides.
-pub(crate) fn all_override_lines(
+/// Returns a line for each override.
+pub(crate) fn override_rows(
     alloc: Global,
     module: &Module,
     root: &Value<'_>,
-) -> Result<String, AllocError>
-    ensures { IfOk result (λ text. string_bytes text ≡ all_override_lines (value_view root.now) «module».now) }
+) -> Result<Vec<Row>, AllocError>
+    ensures { IfOk result (λ rows. rows.items ≡ override_rows (value_view root.now) «module».now) }
 {
-    let mut text = String::new(alloc);
+    let mut rows = Vec::new(alloc);
     for (handle, item) in module.overrides.iter() {
-        let line = override_line(alloc, module, root, handle, item)?;
-        text.push_str(line.as_str())?;
+        let row = override_row(alloc, module, root, handle, item)?;
+        rows.push(row)?;
     }
-    Ok(text)
+    Ok(rows)
 }

@@ -57,7 +57,7 @@ pub(crate) fn uses_of<'a>(
 }
 
 /// Returns whether a global is used in some way.
-pub(crate) fn is_used(uses: GlobalUse) -> bool
+fn is_used(uses: GlobalUse) -> bool
     ensures { result ≡ is_used uses }
 {
     uses.0 != 0
@@ -157,7 +157,7 @@ fn write_uses(writer: &mut Writer, uses: &EntryUses<'_>) -> Result<(), AllocErro
 }
 
 /// Returns the name of a stage.
-pub(crate) fn stage_word(stage: ShaderStage) -> &'static str
+fn stage_word(stage: ShaderStage) -> &'static str
     ensures { result.now ≡ stage_word stage }
 {
     match stage {

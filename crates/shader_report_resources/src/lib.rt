@@ -2,13 +2,14 @@
 //! layouts of its types, and which globals each entry point uses, and how, at any depth of calls.
 #![tactic(auto)]
 
+mod builtins;
 mod declared_lines;
 mod entries;
 mod entry_lines;
 mod formats;
 mod interfaces;
+mod listed;
 mod resources;
-mod shown;
 mod spaces;
 mod tables;
 mod value_lines;

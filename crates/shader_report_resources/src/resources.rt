@@ -1,17 +1,19 @@
 //! The resources of a module.
-ghost use Rattle.std.specs.Prelude.{◌≡◌, List, IfOk, OnOk, length, string_bytes};
+ghost use Rattle.std.specs.Prelude.{◌≡◌, ◌++◌, List, IfOk, OnOk, length, string_bytes};
 ghost use Rattle.json.specs.Token.{Token};
 ghost use Rattle.json.specs.Value.{value_view};
 ghost use Rattle.report_model.specs.Fitting.{HasInfos};
 ghost use Rattle.shader_report_resources.specs.Entries.{AreUses, all_idle_tokens, entries_tokens};
-ghost use Rattle.shader_report_resources.specs.Resources.{AreResources, AreResourcesLines, declared_tokens};
+ghost use Rattle.shader_report_resources.specs.Resources.{AreResources, AreResourcesLines, declared_lines, declared_tokens, idle_lines};
+ghost use Rattle.shader_report_resources.specs.Resources.{used_lines};
 ghost use Rattle.shader_report_resources.specs.Resources.{resources_lines, resources_tokens, used_tokens};
 ghost use Rattle.shader_report_resources.specs.Tables.{globals_tokens, overrides_tokens, types_tokens};
 ghost use Rattle.report_json.specs.Tokens.{Adds};
 
-use crate::declared_lines::{all_global_lines, all_override_lines};
+use crate::declared_lines::{global_rows, override_rows};
 use crate::entries::{EntryUses, uses_of, write_entries, write_idle};
-use crate::entry_lines::{all_entry_lines, all_idle_lines};
+use crate::entry_lines::{all_entry_lines, idle_rows};
+use crate::listed::listed;
 use crate::tables::{write_globals, write_overrides, write_types};
 use json::{Value, Writer};
 use shader_analysis::ModuleInfo;
@@ -89,7 +91,61 @@ fn write_object(
     Ok(())
 }
 
-/// Returns the lines on globals, overrides, entry points and unused globals.
+/// Returns two texts, one behind the other.
+fn joined(alloc: Global, first: &str, second: &str) -> Result<String, AllocError>
+    ensures { IfOk result (λ text. string_bytes text ≡ first.now ++ second.now) }
+{
+    format!(in alloc; "{first}{second}")
+}
+
+/// Returns the lists of globals and of overrides.
+#[tactic(auto, unfolding(crate::specs::Resources::declared_lines))]
+fn declared_lines(
+    alloc: Global,
+    module: &Module,
+    root: &Value<'_>,
+    layouter: &Layouter,
+) -> Result<String, AllocError>
+    requires { length layouter.now ≡ length «module».now.types }
+    ensures { IfOk result (λ text. string_bytes text ≡ declared_lines (value_view root.now) «module».now layouter.now) }
+{
+    let globals = global_rows(alloc, module, root, layouter)?;
+    let globals = listed(alloc, "global variables", globals.as_slice())?;
+    let overrides = override_rows(alloc, module, root)?;
+    let overrides = listed(alloc, "overrides", overrides.as_slice())?;
+    joined(alloc, globals.as_str(), overrides.as_str())
+}
+
+/// Returns the list of globals that no entry point uses.
+#[tactic(auto, unfolding(crate::specs::Resources::idle_lines))]
+fn idle_lines(
+    alloc: Global,
+    module: &Module,
+    root: &Value<'_>,
+    uses: &[EntryUses<'_>],
+) -> Result<String, AllocError>
+    ensures { IfOk result (λ text. string_bytes text ≡ idle_lines (value_view root.now) «module».now uses.now) }
+{
+    let idle = idle_rows(alloc, module, root, uses)?;
+    listed(alloc, "used by no entry point", idle.as_slice())
+}
+
+/// Returns the lists of inputs and outputs of entry points, and of globals that no entry point uses.
+#[tactic(auto, unfolding(crate::specs::Resources::used_lines))]
+fn used_lines(
+    alloc: Global,
+    module: &Module,
+    root: &Value<'_>,
+    uses: &[EntryUses<'_>],
+) -> Result<String, AllocError>
+    ensures { IfOk result (λ text. string_bytes text ≡ used_lines (value_view root.now) «module».now uses.now) }
+{
+    let entries = all_entry_lines(alloc, module, root, module.entry_points.as_slice())?;
+    let idle = idle_lines(alloc, module, root, uses)?;
+    joined(alloc, entries.as_str(), idle.as_str())
+}
+
+/// Returns all lists.
 #[tactic(auto, unfolding(crate::specs::Resources::resources_lines))]
 fn lines_by(
     alloc: Global,
@@ -101,17 +157,9 @@ fn lines_by(
     requires { length layouter.now ≡ length «module».now.types }
     ensures { IfOk result (λ text. string_bytes text ≡ resources_lines (value_view root.now) «module».now layouter.now uses.now) }
 {
-    let globals = all_global_lines(alloc, module, root, layouter)?;
-    let overrides = all_override_lines(alloc, module, root)?;
-    let entries = all_entry_lines(alloc, module, root, uses)?;
-    let idle = all_idle_lines(alloc, module, root, uses)?;
-    format!(in alloc;
-        "{}{}{}{}",
-        globals.as_str(),
-        overrides.as_str(),
-        entries.as_str(),
-        idle.as_str()
-    )
+    let declared = declared_lines(alloc, module, root, layouter)?;
+    let used = used_lines(alloc, module, root, uses)?;
+    joined(alloc, declared.as_str(), used.as_str())
 }
 
 /// Writes the resources of a module as a JSON object, by its layouts and infos.
@@ -138,7 +186,7 @@ pub fn write_resources(
     write_object(writer, alloc, module, root, layouter, uses.as_slice())
 }
 
-/// Returns the resources of a module as lines of text output, by its layouts and infos.
+/// Returns the resources of a module as lists for text output, by its layouts and infos. An empty line and a title stand before each.
 ///
 /// `root` is the JSON of the module.
 ///

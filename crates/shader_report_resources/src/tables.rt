@@ -93,7 +93,7 @@ fn write_members(
 }
 
 /// Returns the stride of an array, in bytes.
-pub(crate) fn stride_of(inner: &TypeInner) -> Option<u32>
+fn stride_of(inner: &TypeInner) -> Option<u32>
     ensures { result ≡ stride_of inner.now }
 {
     match inner {
@@ -119,7 +119,7 @@ pub(crate) fn layout_at(
 }
 
 /// Returns the size of a layout, if there is one.
-pub(crate) fn size_of(layout: &Option<TypeLayout>) -> Option<u32>
+fn size_of(layout: &Option<TypeLayout>) -> Option<u32>
     ensures { result ≡ option_map layout_size layout.now }
 {
     match layout {
@@ -129,7 +129,7 @@ pub(crate) fn size_of(layout: &Option<TypeLayout>) -> Option<u32>
 }
 
 /// Returns the alignment of a layout, if there is one.
-pub(crate) fn alignment_of(layout: &Option<TypeLayout>) -> Option<u32>
+fn alignment_of(layout: &Option<TypeLayout>) -> Option<u32>
     ensures { result ≡ option_map layout_alignment layout.now }
 {
     match layout {

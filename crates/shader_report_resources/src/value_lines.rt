@@ -1,15 +1,17 @@
 //! Prints the inputs and outputs of entry points as text output.
-ghost use Rattle.std.specs.Prelude.{◌≡◌, IfOk, flat_map, slice_get, string_bytes};
+ghost use Rattle.std.specs.Prelude.{◌≡◌, ◌++◌, ◌∷◌, [], IfOk, OnOk, map, slice_get, string_bytes};
 ghost use Rattle.std.specs.List.{enumerate_from};
 ghost use Rattle.std.specs.Option.{option_map};
 ghost use Rattle.json.specs.Value.{value_view};
 ghost use Rattle.shader_interface.specs.Interface.{seen};
-ghost use Rattle.shader_report_resources.specs.ValueLines.{bound_lines, builtin_words, input_lines, inputs_lines};
-ghost use Rattle.shader_report_resources.specs.ValueLines.{interpolated, location_words, member_line, named, number_words};
-ghost use Rattle.shader_report_resources.specs.ValueLines.{outputs_lines, sampled, value_line, value_words};
+ghost use Rattle.shader_report_resources.specs.ValueLines.{attribute_words, bound_rows, builtin_words, flow_words, input_rows};
+ghost use Rattle.shader_report_resources.specs.ValueLines.{inputs_rows, member_row, name_part, number_words, output_rows};
+ghost use Rattle.shader_report_resources.specs.ValueLines.{value_row, value_rows};
 
-use crate::shown::{shown_name, shown_type, shown_word};
+use crate::builtins::{builtin_text, flow_text};
 use json::Value;
+use report_columns::Row;
+use report_names::{ItemKind, MOST_NESTED, item_text, type_text};
 use shader_arena::Handle;
 use shader_interface::{Binding, Interface};
 use shader_ir::{Function, FunctionArgument, Module, Name, StructMember, TypeInner, mark};
@@ -20,7 +22,10 @@ fn builtin_words(alloc: Global, builtin: Option<&str>) -> Result<String, AllocEr
     ensures { IfOk result (λ text. string_bytes text ≡ builtin_words (option_map (λ name. name.now) builtin.entry)) }
 {
     match builtin {
-        Some(builtin) => format!(in alloc; "@builtin({}) ", shown_word(builtin)),
+        Some(builtin) => {
+            let word = builtin_text(alloc, builtin)?;
+            format!(in alloc; "@builtin({word}) ")
+        }
         None => Ok(String::new(alloc)),
     }
 }
@@ -35,202 +40,203 @@ fn number_words(alloc: Global, attribute: &str, number: Option<u32>) -> Result<S
     }
 }
 
-/// Returns where in a pixel a value is interpolated, after a comma, and the end of the attribute.
-fn sampled(alloc: Global, sampling: Option<&str>) -> Result<String, AllocError>
-    ensures { IfOk result (λ text. string_bytes text ≡ sampled (option_map (λ word. word.now) sampling.entry)) }
+/// Returns the attributes by which a value is bound, each with a blank behind it.
+#[tactic(auto, unfolding(crate::specs::ValueLines::attribute_words))]
+fn attribute_words(alloc: Global, binding: Binding<'_, '_>) -> Result<String, AllocError>
+    ensures { IfOk result (λ text. string_bytes text ≡ attribute_words (seen binding.entry.0)) }
 {
-    match sampling {
-        Some(sampling) => format!(in alloc; ", {}) ", shown_word(sampling)),
-        None => format!(in alloc; ") "),
-    }
+    let builtin = builtin_words(alloc, binding.builtin())?;
+    let location = number_words(alloc, "location", binding.location())?;
+    let blend_source = number_words(alloc, "blend_src", binding.blend_source())?;
+    format!(in alloc; "{builtin}{location}{blend_source}")
 }
 
-/// Returns the attribute of how a value is interpolated, if there is one.
-fn interpolated(
+/// Returns how and where in a pixel a value is interpolated, as far as the module says it.
+fn flow_words(
     alloc: Global,
     interpolation: Option<&str>,
     sampling: Option<&str>,
 ) -> Result<String, AllocError>
     ensures { IfOk result (λ text. string_bytes text ≡
-        interpolated (option_map (λ word. word.now) interpolation.entry) (option_map (λ word. word.now) sampling.entry)) }
+        flow_words (option_map (λ word. word.now) interpolation.entry) (option_map (λ word. word.now) sampling.entry)) }
 {
-    match interpolation {
-        Some(interpolation) => {
-            let sampling = sampled(alloc, sampling)?;
-            format!(in alloc;
-                "@interpolate({}{}",
-                shown_word(interpolation),
-                sampling.as_str()
-            )
+    let Some(interpolation) = interpolation else {
+        return match sampling {
+            Some(sampling) => flow_text(alloc, sampling),
+            None => Ok(String::new(alloc)),
+        };
+    };
+    let interpolation = flow_text(alloc, interpolation)?;
+    match sampling {
+        Some(sampling) => {
+            let sampling = flow_text(alloc, sampling)?;
+            format!(in alloc; "{interpolation}, {sampling}")
         }
-        None => Ok(String::new(alloc)),
+        None => Ok(interpolation),
     }
 }
 
-/// Returns the attributes of a location, or an empty text for another binding.
-#[tactic(auto, unfolding(crate::specs::ValueLines::location_words))]
-fn location_words(alloc: Global, binding: Binding<'_, '_>) -> Result<String, AllocError>
-    ensures { IfOk result (λ text. string_bytes text ≡ location_words (seen binding.entry.0)) }
-{
-    let location = number_words(alloc, "location", binding.location())?;
-    let source = number_words(alloc, "blend_src", binding.blend_source())?;
-    let flow = interpolated(alloc, binding.interpolation(), binding.sampling())?;
-    format!(in alloc; "{}{}{}", location.as_str(), source.as_str(), flow.as_str())
-}
-
-/// Returns a name with a colon, or an empty text if there is none.
-fn named(alloc: Global, name: &Option<Name>, position: usize) -> Result<String, AllocError>
-    ensures { IfOk result (λ text. string_bytes text ≡ named name.now position) }
-{
-    match name {
-        Some(name) => {
-            let name = shown_name(alloc, name.as_str(), position)?;
-            format!(in alloc; "{}: ", name.as_str())
-        }
-        None => Ok(String::new(alloc)),
-    }
-}
-
-/// Returns the binding, the name and the type of a value.
-#[tactic(auto, unfolding(crate::specs::ValueLines::value_words))]
-fn value_words(
+/// Returns the name of a value, or its number, in front of its type.
+fn name_part(
     alloc: Global,
-    module: &Module,
+    kind: ItemKind,
     name: &Option<Name>,
     position: usize,
-    ty: Handle<mark::Type>,
-    binding: Binding<'_, '_>,
 ) -> Result<String, AllocError>
-    ensures { IfOk result (λ text. string_bytes text ≡ value_words «module».now name.now position ty (seen binding.entry.0)) }
+    ensures { IfOk result (λ text. string_bytes text ≡ name_part kind name.now position) }
 {
-    let builtin = builtin_words(alloc, binding.builtin())?;
-    let location = location_words(alloc, binding)?;
-    let name = named(alloc, name, position)?;
-    let ty = shown_type(alloc, module, ty)?;
-    format!(in alloc;
-        "{}{}{}{}",
-        builtin.as_str(),
-        location.as_str(),
-        name.as_str(),
-        ty.as_str()
-    )
+    let name = item_text(alloc, kind, name, position)?;
+    format!(in alloc; "{name}: ")
 }
 
-/// Returns the line on a value, which begins with its direction.
-#[tactic(auto, unfolding(crate::specs::ValueLines::value_line))]
-fn value_line(
+/// Adds the line on a value. `way` is `in` or `out`, and `name` what stands in front of the type.
+#[tactic(auto, unfolding(crate::specs::ValueLines::value_row))]
+fn add_value(
     alloc: Global,
     module: &Module,
+    rows: &mut Vec<Row>,
     way: &str,
-    name: &Option<Name>,
-    position: usize,
+    name: &str,
     ty: Handle<mark::Type>,
     binding: Binding<'_, '_>,
-) -> Result<String, AllocError>
-    ensures { IfOk result (λ text. string_bytes text ≡ value_line «module».now way.now name.now position ty (seen binding.entry.0)) }
+) -> Result<(), AllocError>
+    ensures { OnOk result (rows.new.items ≡ rows.old.items
+        ++ value_row «module».now way.now name.now ty (seen binding.entry.0) ∷ []) }
 {
-    let value = value_words(alloc, module, name, position, ty, binding)?;
-    format!(in alloc; "  {way} {}\n", value.as_str())
+    let attributes = attribute_words(alloc, binding)?;
+    let ty = type_text(alloc, module, ty, MOST_NESTED)?;
+    let value = format!(in alloc; "{attributes}{name}{ty}")?;
+    let first = format!(in alloc; "{way} {value}")?;
+    let second = flow_words(alloc, binding.interpolation(), binding.sampling())?;
+    rows.push(Row::new(first, second))?;
+    Ok(())
 }
 
-/// Returns the lines on the members of a struct, each with its own binding.
-fn member_lines(
+/// Adds the lines on the members of a struct, each with its own binding.
+fn add_members(
     alloc: Global,
     module: &Module,
     root: &Value<'_>,
+    rows: &mut Vec<Row>,
     way: &str,
     ty: Handle<mark::Type>,
     members: &[StructMember],
-) -> Result<String, AllocError>
-    ensures { IfOk result (λ text. string_bytes text ≡
-        flat_map (member_line (value_view root.now) «module».now way.now ty) (enumerate_from 0 members.now)) }
+) -> Result<(), AllocError>
+    ensures { OnOk result (rows.new.items ≡ rows.old.items
+        ++ map (member_row (value_view root.now) «module».now way.now ty) (enumerate_from 0 members.now)) }
 {
-    let mut text = String::new(alloc);
     let mut index: usize = 0;
     for member in members {
         let binding = Interface(root).member(ty.index(), index);
-        let line = value_line(alloc, module, way, &member.name, index, member.ty, binding)?;
-        text.push_str(line.as_str())?;
+        let name = name_part(alloc, ItemKind::Member, &member.name, index)?;
+        add_value(alloc, module, rows, way, name.as_str(), member.ty, binding)?;
         index += 1;
     }
-    Ok(text)
+    Ok(())
 }
 
-/// Returns the line on a value, or the lines on the members of a struct.
-fn bound_lines(
+/// Adds the line on a value, or the lines on the members of a struct.
+fn add_bound(
     alloc: Global,
     module: &Module,
     root: &Value<'_>,
+    rows: &mut Vec<Row>,
     way: &str,
-    name: &Option<Name>,
-    position: usize,
+    name: &str,
     ty: Handle<mark::Type>,
     binding: Binding<'_, '_>,
-) -> Result<String, AllocError>
-    ensures { IfOk result (λ text. string_bytes text ≡ bound_lines (value_view root.now) «module».now way.now name.now position ty
+) -> Result<(), AllocError>
+    ensures { OnOk result (rows.new.items ≡ rows.old.items ++ bound_rows (value_view root.now) «module».now way.now name.now ty
         (seen binding.entry.0) (slice_get «module».now.types ty)) }
 {
     let Some(found) = module.types.try_get(ty) else {
-        return value_line(alloc, module, way, name, position, ty, binding);
+        return add_value(alloc, module, rows, way, name, ty, binding);
     };
     match &found.inner {
         TypeInner::Struct { members, .. } => {
-            member_lines(alloc, module, root, way, ty, members.as_slice())
+            add_members(alloc, module, root, rows, way, ty, members.as_slice())
         }
-        _ => value_line(alloc, module, way, name, position, ty, binding),
+        _ => add_value(alloc, module, rows, way, name, ty, binding),
     }
 }
 
-/// Returns the lines on an argument of an entry point.
-fn input_lines(
+/// Adds the lines on an argument of an entry point.
+fn add_input(
     alloc: Global,
     module: &Module,
     root: &Value<'_>,
+    rows: &mut Vec<Row>,
     place: usize,
     index: usize,
     argument: &FunctionArgument,
-) -> Result<String, AllocError>
-    ensures { IfOk result (λ text. string_bytes text ≡
-        input_lines (value_view root.now) «module».now place (index, argument.now)) }
+) -> Result<(), AllocError>
+    ensures { OnOk result (rows.new.items ≡ rows.old.items
+        ++ input_rows (value_view root.now) «module».now place (index, argument.now)) }
 {
     let binding = Interface(root).argument(place, index);
-    let (name, ty) = (&argument.name, argument.ty);
-    bound_lines(alloc, module, root, "input", name, index, ty, binding)
+    let name = name_part(alloc, ItemKind::Argument, &argument.name, index)?;
+    let name = name.as_str();
+    add_bound(alloc, module, root, rows, "in ", name, argument.ty, binding)
 }
 
-/// Returns the lines on the inputs of the entry point at a position.
-pub(crate) fn inputs_lines(
+/// Adds the lines on the inputs of the entry point at a position.
+fn add_inputs(
     alloc: Global,
     module: &Module,
     root: &Value<'_>,
+    rows: &mut Vec<Row>,
     place: usize,
-    function: &Function,
-) -> Result<String, AllocError>
-    ensures { IfOk result (λ text. string_bytes text ≡ inputs_lines (value_view root.now) «module».now place function.now) }
+    arguments: &[FunctionArgument],
+) -> Result<(), AllocError>
+    ensures { OnOk result (rows.new.items ≡ rows.old.items
+        ++ inputs_rows (value_view root.now) «module».now place arguments.now) }
 {
-    let mut text = String::new(alloc);
     let mut index: usize = 0;
-    for argument in function.arguments.as_slice() {
-        let lines = input_lines(alloc, module, root, place, index, argument)?;
-        text.push_str(lines.as_str())?;
+    for argument in arguments {
+        add_input(alloc, module, root, rows, place, index, argument)?;
         index += 1;
     }
-    Ok(text)
+    Ok(())
 }
 
-/// Returns the lines on the outputs of the entry point at a position.
-pub(crate) fn outputs_lines(
+/// Adds the lines on the result of the entry point at a position.
+fn add_output(
+    alloc: Global,
+    module: &Module,
+    root: &Value<'_>,
+    rows: &mut Vec<Row>,
+    place: usize,
+    function: &Function,
+) -> Result<(), AllocError>
+    ensures { OnOk result (rows.new.items ≡ rows.old.items
+        ++ output_rows (value_view root.now) «module».now place function.now.result) }
+{
+    let Some(result) = &function.result else {
+        return Ok(());
+    };
+    let binding = Interface(root).result(place);
+    add_bound(alloc, module, root, rows, "out", "", result.ty, binding)
+}
+
+/// Returns the lines on the inputs and the outputs of the entry point at a position.
+pub(crate) fn value_rows(
     alloc: Global,
     module: &Module,
     root: &Value<'_>,
     place: usize,
     function: &Function,
-) -> Result<String, AllocError>
-    ensures { IfOk result (λ text. string_bytes text ≡ outputs_lines (value_view root.now) «module».now place function.now) }
+) -> Result<Vec<Row>, AllocError>
+    ensures { IfOk result (λ rows. rows.items ≡ value_rows (value_view root.now) «module».now place function.now) }
 {
-    let Some(result) = &function.result else {
-        return Ok(String::new(alloc));
-    };
-    let binding = Interface(root).result(place);
-    bound_lines(alloc, module, root, "output", &None, 0, result.ty, binding)
+    let mut rows = Vec::new(alloc);
+    add_inputs(
+        alloc,
+        module,
+        root,
+        &mut rows,
+        place,
+        function.arguments.as_slice(),
+    )?;
+    add_output(alloc, module, root, &mut rows, place, function)?;
+    Ok(rows)
 }

@@ -295,7 +295,7 @@ fn told_words(
 }
 
 /// Returns the base type of the type with this handle, if it has one.
-pub(crate) fn base_at(module: &Module, ty: Handle<mark::Type>) -> Option<Handle<mark::Type>>
+fn base_at(module: &Module, ty: Handle<mark::Type>) -> Option<Handle<mark::Type>>
     ensures { result ≡ base_at «module».now ty }
 {
     match module.types.try_get(ty) {

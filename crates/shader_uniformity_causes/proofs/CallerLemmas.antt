@@ -33,15 +33,20 @@ module _ (m : Module) where
   no_point : (i : ℕ) → length m.entry_points ≤ i → passes_at m (body.EntryPoint i) ≡ []
   no_point i le = ap (λ (v : Option EntryPoint). passes_of_point m v) (slice_get_past m.entry_points i le)
 
-  outside : (place : BodyLocation) → IsDone (length m.functions) (length m.entry_points) place → (one : Pass) →
-      Contains (passes_at m place) one → ⊥
+  outside : (place : BodyLocation) → IsDone (length m.functions) 0 place → (one : Pass) → Contains (passes_at m place) one → ⊥
   outside (body.Function i) le one h = let P : List Pass → Type 0 = λ v. Contains v one in nowhere one (subst P (no_function i le) h)
-  outside (body.EntryPoint i) le one h = let P : List Pass → Type 0 = λ v. Contains v one in nowhere one (subst P (no_point i le) h)
+  outside (body.EntryPoint i) lt one h = omega (arith, lt)
+
+  point_inside : (i : ℕ) (one : Pass) → Contains (passes_at m (body.EntryPoint i)) one → i < length m.entry_points
+  point_inside i one h = elim (cases_lt i (length m.entry_points)) [
+    | inl below ↦ below
+    | inr past ↦ let P : List Pass → Type 0 = λ v. Contains v one in absurd (nowhere one (subst P (no_point i past) h))
+  ]
 
 module _ (m : Module) (known : List (List Rule)) where
   -- before the first body
   pub found_none : (callers : List (Vec PassedBy)) → length callers ≡ length m.functions → AreEmpty callers →
-      AreFound m known (length m.functions) (length m.entry_points) callers
+      AreFound m known (length m.functions) 0 callers
   found_none callers long empty = record {
     long = long;
     sound = λ i by h. let P : List PassedBy → Type 0 = λ v. Contains v by in absurd (nowhere by (subst P (empty i) h));
@@ -81,7 +86,8 @@ module _ (m : Module) (known : List (List Rule)) where
     sound_at (body.EntryPoint i) by h = absurd (nowhere by h)
 
     module _ (place : BodyLocation)
-        (done : (caller : BodyLocation) → IsBefore m place caller → IsDone functions points caller) where
+        (done : (caller : BodyLocation) (pass : Pass) → place ≡ body.Function pass.function → IsBefore m place caller →
+        Contains (passes_at m caller) pass → IsDone functions points caller) where
       begun_at : (fact : Fact) → Begins m known place fact → Contains (Always ∷ firsts_of (passed_at callers place)) fact
       begun_at fact b = elim (begins_by place fact b) [
         | inl e ↦
@@ -91,7 +97,7 @@ module _ (m : Module) (known : List (List Rule)) where
             let B : BodyLocation → Type 0 = λ v. IsBefore m v by.caller in
             let P : BodyLocation → Type 0 = λ v. Contains (firsts_of (passed_at callers v)) by.pass.beginning in
             let F : Fact → Type 0 = λ v. Contains (Always ∷ firsts_of (passed_at callers place)) v in
-            let h = found.complete by.caller by.pass (done by.caller (subst B (sym by.at) by.before))
+            let h = found.complete by.caller by.pass (done by.caller by.pass by.at (subst B (sym by.at) by.before) by.within)
             by.before by.within (by.first, by.begins, by.marked) in
             subst F (sym by.is) (there Always (firsts_of (passed_at callers place)) by.pass.beginning (subst P (sym by.at) h))
       ]
@@ -151,36 +157,35 @@ module _ (m : Module) (known : List (List Rule)) where
         found_more = record { long = step.long ∙ found.long; sound = sound_new; complete = complete_new }
 
   -- one more entry point
-  pub found_point : (count step i limit : ℕ) (old new : List (Vec PassedBy)) → step < count → i ≡ count - 1 - step →
-      limit ≡ length m.functions →
-      Finds (rules_at m known (body.EntryPoint i)) (passes_at m (body.EntryPoint i)) (body.EntryPoint i) limit [] old new →
-      AreFound m known (length m.functions) (count - step) old → AreFound m known (length m.functions) (count - (step + 1)) new
-  found_point count step i limit old new lt is all by was =
-      found_more (length m.functions) (count - step) old was (body.EntryPoint i) done limit new (λ k below. tt)
-      (λ k before below. omega (arith, all, below)) by (length m.functions) (count - (step + 1)) more
+  pub found_point : (step limit : ℕ) (old new : List (Vec PassedBy)) → limit ≡ length m.functions →
+      Finds (rules_at m known (body.EntryPoint step)) (passes_at m (body.EntryPoint step)) (body.EntryPoint step) limit [] old new →
+      AreFound m known (length m.functions) step old → AreFound m known (length m.functions) (step + 1) new
+  found_point step limit old new all by was =
+      found_more (length m.functions) step old was (body.EntryPoint step) done limit new (λ k below. tt)
+      (λ k before below. omega (arith, all, below)) by (length m.functions) (step + 1) more
     where
-      done : (caller : BodyLocation) → IsBefore m (body.EntryPoint i) caller → IsDone (length m.functions) (count - step) caller
-      done (body.Function k) before = absurd before
-      done (body.EntryPoint k) before = omega (arith, before, is, lt)
+      done : (caller : BodyLocation) (pass : Pass) → body.EntryPoint step ≡ body.Function pass.function →
+          IsBefore m (body.EntryPoint step) caller → Contains (passes_at m caller) pass → IsDone (length m.functions) step caller
+      done caller pass same before within = absurd (cc)
 
-      more : (other : BodyLocation) → IsDone (length m.functions) (count - (step + 1)) other →
-          IsDone (length m.functions) (count - step) other ⊎ (other ≡ body.EntryPoint i)
+      more : (other : BodyLocation) → IsDone (length m.functions) (step + 1) other →
+          IsDone (length m.functions) step other ⊎ (other ≡ body.EntryPoint step)
       more (body.Function k) le = inl le
-      more (body.EntryPoint k) le = elim (cases_lt k (count - step)) [
-        | inl below ↦ inr (ap body.EntryPoint (omega (arith, below, le, lt, is)))
-        | inr past ↦ inl past
+      more (body.EntryPoint k) lt = elim (cases_lt k step) [
+        | inl below ↦ inl below
+        | inr past ↦ inr (ap body.EntryPoint (omega (arith, lt, past)))
       ]
 
   -- one more function
   pub found_function : (count step i : ℕ) (v : Vec PassedBy) (firsts : List Fact) (old new : List (Vec PassedBy)) → step < count →
       i ≡ count - 1 - step → count ≡ length m.functions → v ≡ slice_index_or old i v → firsts ≡ firsts_of v.items →
       Finds (rules_at m known (body.Function i)) (passes_at m (body.Function i)) (body.Function i) i firsts old new →
-      AreFound m known (count - step) 0 old → AreFound m known (count - (step + 1)) 0 new
+      AreFound m known (count - step) (length m.entry_points) old → AreFound m known (count - (step + 1)) (length m.entry_points) new
   found_function count step i v firsts old new lt is all read at by was =
       let F : List Fact → Type 0 =
       λ x. Finds (rules_at m known (body.Function i)) (passes_at m (body.Function i)) (body.Function i) i x old new in
-      found_more (count - step) 0 old was (body.Function i) done i new (λ k below. below) (λ k before below. before)
-      (subst F same by) (count - (step + 1)) 0 more
+      found_more (count - step) (length m.entry_points) old was (body.Function i) done i new (λ k below. below) (λ k before below. before)
+      (subst F same by) (count - (step + 1)) (length m.entry_points) more
     where
       same : firsts ≡ firsts_of (passed_to old i)
       same =
@@ -188,24 +193,28 @@ module _ (m : Module) (known : List (List Rule)) where
           at ∙ ap (λ (x : Vec PassedBy). firsts_of x.items) read
           ∙ ap (λ (x : List PassedBy). firsts_of x) (sym (read_at old i v (omega (arith, long, is, lt, all))))
 
-      done : (caller : BodyLocation) → IsBefore m (body.Function i) caller → IsDone (count - step) 0 caller
-      done (body.Function k) before = omega (arith, before, is, lt)
-      done (body.EntryPoint k) before = omega arith
+      done : (caller : BodyLocation) (pass : Pass) → body.Function i ≡ body.Function pass.function →
+          IsBefore m (body.Function i) caller → Contains (passes_at m caller) pass →
+          IsDone (count - step) (length m.entry_points) caller
+      done (body.Function k) pass same before within = omega (arith, before, is, lt)
+      done (body.EntryPoint k) pass same before within = point_inside m k pass within
 
-      more : (other : BodyLocation) → IsDone (count - (step + 1)) 0 other → IsDone (count - step) 0 other ⊎ (other ≡ body.Function i)
+      more : (other : BodyLocation) → IsDone (count - (step + 1)) (length m.entry_points) other →
+          IsDone (count - step) (length m.entry_points) other ⊎ (other ≡ body.Function i)
       more (body.Function k) le = elim (cases_lt k (count - step)) [
         | inl below ↦ inr (ap body.Function (omega (arith, below, le, lt, is)))
         | inr past ↦ inl past
       ]
-      more (body.EntryPoint k) le = inl le
+      more (body.EntryPoint k) lt = inl lt
 
   -- all bodies
-  pub found_all : (callers : List (Vec PassedBy)) → AreFound m known 0 0 callers → AreCallers m known callers
+  pub found_all : (callers : List (Vec PassedBy)) → AreFound m known 0 (length m.entry_points) callers → AreCallers m known callers
   found_all callers found = record {
-    sound = λ place by h. sound_at 0 0 callers found place by h;
-    complete = λ place fact b. begun_at 0 0 callers found place (λ caller before. done caller) fact b;
+    sound = λ place by h. sound_at 0 (length m.entry_points) callers found place by h;
+    complete = λ place fact b. begun_at 0 (length m.entry_points) callers found place
+        (λ caller pass same before within. done caller pass within) fact b;
   }
     where
-      done : (caller : BodyLocation) → IsDone 0 0 caller
-      done (body.Function k) = omega arith
-      done (body.EntryPoint k) = omega arith
+      done : (caller : BodyLocation) (pass : Pass) → Contains (passes_at m caller) pass → IsDone 0 (length m.entry_points) caller
+      done (body.Function k) pass within = omega arith
+      done (body.EntryPoint k) pass within = point_inside m k pass within

@@ -36,10 +36,10 @@ beginning_of by = by.pass.beginning
 abbrev pub firsts_of : List PassedBy → List Fact
 firsts_of calls = map beginning_of calls
 
--- a function or entry point from some numbers on
+-- a function from a number on, or one of the first entry points
 abbrev pub IsDone : (functions points : ℕ) → BodyLocation → Type 0
 IsDone functions points (body.Function i) = functions ≤ i
-IsDone functions points (body.EntryPoint i) = points ≤ i
+IsDone functions points (body.EntryPoint i) = i < points
 
 -- `known`: what is known of the functions
 module _ (m : Module) (known : List (List Rule)) where
@@ -56,7 +56,7 @@ module _ (m : Module) (known : List (List Rule)) where
     pub complete : (place : BodyLocation) (fact : Fact) → Begins m known place fact →
         Contains (Always ∷ firsts_of (passed_at callers place)) fact
 
-  -- the callers are found that are done, those from some numbers on
+  -- the callers are found that are done, those from a number on and so many entry points
   pub record AreFound (functions points : ℕ) (callers : List (Vec PassedBy)) : Type 0 where
     pub long : length callers ≡ length m.functions
     pub sound : (i : ℕ) (by : PassedBy) → Contains (passed_to callers i) by → IsPassed (body.Function i) by

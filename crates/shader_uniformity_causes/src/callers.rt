@@ -1,4 +1,4 @@
-//! The calls that pass facts to functions, from the last body of a module back to the first one.
+//! The calls that pass facts to functions: those by entry points, and then those by functions from the last one back.
 ghost use Rattle.std.specs.Prelude.{◌≡◌, ◌∷◌, ◌≤◌, ℕ, [], IfOk, IsTrue, OnOk, length};
 ghost use Rattle.shader_uniformity.specs.Traces.{rules_at};
 ghost use Rattle.shader_uniformity_needs.specs.Passes.{passes_at};
@@ -128,13 +128,14 @@ fn find_in_points(
     known: &[Items<Rule>],
     callers: &mut Vec<Vec<PassedBy>>,
 ) -> Result<(), AllocError>
-    requires { AreFound «module».now known.now (length «module».now.functions) (length «module».now.entry_points) callers.old.items }
-    ensures { OnOk result (AreFound «module».now known.now (length «module».now.functions) 0 callers.new.items) }
+    requires { AreFound «module».now known.now (length «module».now.functions) 0 callers.old.items }
+    ensures { OnOk result (AreFound «module».now known.now (length «module».now.functions) (length «module».now.entry_points)
+        callers.new.items) }
 {
     let count = module.entry_points.len();
     let limit = callers.len();
-    for step in 0..count {
-        let place = BodyLocation::EntryPoint(count - 1 - step);
+    for index in 0..count {
+        let place = BodyLocation::EntryPoint(index);
         find_in(alloc, module, known, callers, place, limit, &[])?;
     }
     Ok(())
@@ -158,8 +159,8 @@ fn find_in_functions(
     known: &[Items<Rule>],
     callers: &mut Vec<Vec<PassedBy>>,
 ) -> Result<(), AllocError>
-    requires { AreFound «module».now known.now (length «module».now.functions) 0 callers.old.items }
-    ensures { OnOk result (AreFound «module».now known.now 0 0 callers.new.items) }
+    requires { AreFound «module».now known.now (length «module».now.functions) (length «module».now.entry_points) callers.old.items }
+    ensures { OnOk result (AreFound «module».now known.now 0 (length «module».now.entry_points) callers.new.items) }
 {
     let count = callers.len();
     for step in 0..count {
@@ -183,8 +184,8 @@ fn no_callers(alloc: Global, functions: usize) -> Result<Vec<Vec<PassedBy>>, All
     Ok(callers)
 }
 
-/// Finds for each function the calls that pass it facts, where what passes them may be true: one for each fact. Only calls by later
-/// functions and by entry points count.
+/// Finds for each function the calls that pass it facts, where what passes them may be true: one for each fact, by the first entry point
+/// with such a call, or else by the last function. Only calls by later functions and by entry points count.
 ///
 /// `known` has the summaries that `find_divergence` returns.
 ///

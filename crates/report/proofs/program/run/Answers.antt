@@ -4,17 +4,17 @@ use Rattle.report_answers.specs.Reports.{IsReport}
 use Rattle.report.proofs.RunLemmas.{answered, begun, begun_as_long, refused, refused_as_long, spelled}
 use Rattle.report.proofs.program.run.Given.{Over}
 use Rattle.report.proofs.program.run.Goals as goal
-use Rattle.report.proofs.program.run.Goals.{After-drop-report}
+use Rattle.report.proofs.program.run.Goals.{After-drop-input-in-Ok-of-2}
 
 -- the report is on what was read
-read : (g : Over) (c : After-drop-report g) →
-    Consumes (g.R.Source.remaining c.args.reader.now) (g.R.Source.remaining c.read_input.new.reader) c.as_slice.result.now
+read : (g : Over) (c : After-drop-input-in-Ok-of-2 g) →
+    Consumes (g.R.Source.remaining c.args.reader.now) (g.R.Source.remaining c.read_input.new.reader) c.as_slice-bytes.result.now
 read g c = subst (λ input. Consumes (g.R.Source.remaining c.args.reader.now) (g.R.Source.remaining c.read_input.new.reader) input)
-    (sym c.as_slice.ensures.value) c.in-Ok.ensures.bytes
+    (sym c.as_slice-bytes.ensures.value) c.in-Ok.ensures.bytes
 
-report : (g : Over) (c : After-drop-report g) →
-    IsReport c.args.options c.as_slice.result.now c.in-Ok-of-2.report.outcome c.in-Ok-of-2.report.text.items
-report g c = c.in-Ok-of-2.ensures c.as_slice.result.now c.in-Ok-of.ensures
+report : (g : Over) (c : After-drop-input-in-Ok-of-2 g) →
+    IsReport c.args.options c.as_slice-bytes.result.now c.in-Ok-of-2.report.outcome c.in-Ok-of-2.report.text.items
+report g c = c.in-Ok-of-2.ensures c.in-Ok-of.ensures
 
 pub returns-in-Ok-of-2-clause-json : goal.returns-in-Ok-of-2-clause-json
 returns-in-Ok-of-2-clause-json g c =

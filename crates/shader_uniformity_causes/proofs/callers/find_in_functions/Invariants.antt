@@ -5,5 +5,5 @@ use Rattle.shader_uniformity_causes.proofs.callers.find_in_functions.Given as go
 abbrev pub invariant-loop-step : goal.invariant-loop-step
 invariant-loop-step l = record {
   all : l.count ≡ length l.«module».functions;
-  found : AreFound l.«module» l.known (l.count - l.step) 0 l.callers.items;
+  found : AreFound l.«module» l.known (l.count - l.step) (length l.«module».entry_points) l.callers.items;
 }

@@ -13,7 +13,7 @@ use Rattle.report_answers.proofs.reports.Report.json_on.Goals as goal
 
 pub returns : goal.returns
 returns c = λ j root.
-    let diagnosed = c.in_ok-diagnostics.ensures.diagnostics in
+    let diagnosed = c.in_ok-faults.ensures.diagnostics in
     let word = c.verdict_of-verdict.ensures ∙ ap word_of c.is_accepted.ensures in
     let same : c.deref.result.now ≡ c.in_ok-diagnostics.diagnostics.items = search rules in
     let told = subst (λ (verdict : Verdict). Adds c.begin_object.new.self c.write_head.new.writer
@@ -26,6 +26,6 @@ returns c = λ j root.
     let sections = c.in_ok-write_sections.ensures in
     let adds = writes_then c.in_ok-begin_object.ensures (adds_then head (adds_then verdict (adds_then found.2
     (adds_then sections.2 (writes_last c.in_ok-end_object.ensures))))) in
-    object_written c.args.options j c.args.module.now c.args.analyzed.now c.new-writer.result c.end_object.new.self c.into_inner-text.result.items
-    c.push.new.self.items _ found.0 sections.0 (search rules) c.new-writer.ensures.tokens diagnosed found.1 (sections.1 j root) adds
+    object_written c.args.options c.args.input.now j c.args.module.now c.args.analyzed.now c.new-writer.result c.end_object.new.self c.into_inner-text.result.items
+    c.push.new.self.items _ _ found.0 sections.0 (search rules) c.new-writer.ensures.tokens diagnosed c.in_ok-diagnostics.ensures found.1 (sections.1 j root) adds
     c.into_inner-text.ensures.items c.in_ok-push.ensures.items

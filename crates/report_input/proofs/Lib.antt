@@ -1,0 +1,2 @@
+pub mod LocatedLemmas
+pub mod SpanLemmas

@@ -1,0 +1,11 @@
+use Rattle.std.proofs.Common.{◌≡◌, ◌++◌, map}
+use Rattle.json.specs.Value.{value_view}
+use Rattle.shader_report_resources.specs.DeclaredLines.{global_row, global_rows}
+use Rattle.shader_report_resources.proofs.declared_lines.global_rows.Given as goal
+
+abbrev pub invariant-loop-handle : goal.invariant-loop-handle
+invariant-loop-handle l =
+    (goal.iterator-loop-handle).can_next l.handle-iterator
+    × (goal.iterator-loop-handle).is_finite l.handle-iterator
+    × (l.rows.items ++ map (global_row (value_view l.root) l.«module» l.layouter) l.handle-iterator
+    ≡ global_rows (value_view l.root) l.«module» l.layouter)
