@@ -1,9 +1,9 @@
 -- The report on a module, by what was found of it.
-use Rattle.std.proofs.Common.{refl, ◌≡◌, ◌∙◌, ◌++◌, ◌∷◌, [], ap, append_assoc, subst, sym, inr, rules}
-use Rattle.std.proofs.Common.{ℕ, Bool, true, false, List, Option, Some, None, Ok, Err, Result}
+use Rattle.std.proofs.Common.{refl, ◌≡◌, ◌∙◌, ◌++◌, ◌∷◌, [], ap, append_assoc, subst, sym, inr}
+use Rattle.std.proofs.Common.{ℕ, Bool, true, false, List, Option, Some, None}
 use Rattle.std.proofs.Common.{IsSome, String, string_bytes}
 use Rattle.std.proofs.lemmas.Str.{IsUtf8-string_bytes}
-use Rattle.std.specs.Prelude.{IfOk, MatchOption, is_some}
+use Rattle.std.specs.Prelude.{MatchOption}
 use Rattle.std.specs.Str.{IsUtf8}
 use Rattle.json.specs.Json.{Json, document}
 use Rattle.json.specs.Print.{print}
@@ -19,7 +19,6 @@ use Rattle.report_model.specs.declared.analyzed.Analyzed.{Analyzed}
 use Rattle.shader_analysis_spec.specs.Program.{Module}
 use Rattle.shader_json_module.specs.Modules.{IsModule, IsTextOf}
 use Rattle.shader_report_json.specs.Answers.{AreModuleMembers}
-use Rattle.shader_uniformity.specs.declared.divergence.Uniformity.{Uniformity}
 use Rattle.report_answers.specs.Verdicts.{verdict_members}
 use Rattle.report_answers.specs.Options.{checks_uniformity, settings}
 use Rattle.report_answers.specs.Reading.{IsRead}

@@ -1,6 +1,6 @@
 -- What a table has as steady is steady.
 use Rattle.std.proofs.Common.{◌≡◌, ◌∙◌, ◌⊎◌, ◌++◌, ◌∷◌, [], ◌&&◌, ℕ, zero, suc, ◌+◌, Bool, true, false, not, List, Some, inl, inr, refl}
-use Rattle.std.proofs.Common.{ap, subst, sym, arith, append_assoc, length, length-append, map, slice_get}
+use Rattle.std.proofs.Common.{ap, subst, sym, arith, append_assoc, length, length-append, slice_get}
 use Rattle.std.specs.List.{Contains, enumerate_from, list_all}
 use Rattle.std.proofs.lemmas.Bool.{and_from, and_parts}
 use Rattle.std.proofs.lemmas.List.Elements.{Contains-append_cases}
@@ -9,7 +9,7 @@ use Rattle.shader_ir.specs.declared.function.Function.{Function}
 use Rattle.shader_ir.specs.declared.module.Module.{Module}
 use Rattle.shader_uniformity.proofs.KnownLemmas.{nowhere, one}
 use Rattle.shader_uniformity.specs.Places.{place_at, places}
-use Rattle.report_findings.specs.Steady.{IsSteady, changes, has_steady_operands, is_let, is_steady_by, is_steady_next, is_steady_value}
+use Rattle.report_findings.specs.Steady.{IsSteady, changes, has_steady_operands, is_let, is_steady_by, is_steady_next}
 use Rattle.report_findings.specs.Steady.{operands_of, steady_after, steady_table}
 use Rattle.report_findings.specs.Steady.IsSteady.{reads_nothing}
 

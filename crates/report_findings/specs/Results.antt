@@ -10,6 +10,8 @@ use Rattle.shader_uniformity.specs.declared.facts.BodyLocation.TheVariants as bo
 use Rattle.shader_uniformity.specs.declared.facts.Fact.TheVariants.{Always, Gives}
 use Rattle.shader_uniformity.specs.declared.facts.Rule.{Rule}
 use Rattle.report_diagnostics.specs.declared.diagnostic.Related.{Related}
+use Rattle.report_places.specs.declared.body_place.BodyPlace.TheVariants as place
+use Rattle.report_findings.specs.Sites.{expression_location}
 
 -- there are causes if a trace leads from the result back to a source, and none if the result doesn't differ
 abbrev pub AreCausesOfResult : Module → (known : List (List Rule)) → ℕ → Option (Vec Related) → Type 0
@@ -21,12 +23,12 @@ AreCausesOfResult m known index None = Marked (rules_at m known (body.EntryPoint
 abbrev pub recorded_source : Recorded → ℕ → Option ℕ
 recorded_source infos index = option_and_then (λ info. info.uniformity.non_uniform_result) (slice_get infos.entry_points index)
 
-abbrev pub IsAtSource : Option ℕ → Option Related → Type 0
-IsAtSource (Some source) (Some cause) = cause.location.expression ≡ Some source
-IsAtSource (Some source) None = ⊥
-IsAtSource None (Some cause) = ⊥
-IsAtSource None None = ⊤
+abbrev pub IsAtSource : Module → ℕ → Option ℕ → Option Related → Type 0
+IsAtSource m index (Some source) (Some cause) = cause.location ≡ expression_location m (place.EntryPoint index) source
+IsAtSource m index (Some source) None = ⊥
+IsAtSource m index None (Some cause) = ⊥
+IsAtSource m index None None = ⊤
 
--- the cause is at that expression, if there is one
-abbrev pub HasSource : Recorded → ℕ → Option Related → Type 0
-HasSource infos index found = IsAtSource (recorded_source infos index) found
+-- the cause is at that expression of the entry point, if there is one
+abbrev pub HasSource : Module → Recorded → ℕ → Option Related → Type 0
+HasSource m infos index found = IsAtSource m index (recorded_source infos index) found

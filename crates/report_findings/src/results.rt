@@ -49,7 +49,7 @@ pub fn source_of_result(
     infos: &ModuleInfo,
     index: usize,
 ) -> Result<Option<Related>, AllocError>
-    ensures { IfOk result (HasSource infos.now index) }
+    ensures { IfOk result (HasSource «module».now infos.now index) }
 {
     if index >= infos.entry_point_count() {
         return Ok(None);

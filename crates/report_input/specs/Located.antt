@@ -44,6 +44,7 @@ pub record IsMoved (text : List ℕ) (before : Location) (path pointer : List �
   pub ty : after.ty ≡ before.ty
   pub path_is : after.path ≡ Some path
   pub pointer_is : after.pointer ≡ Some pointer
+  pub input_pointer : after.input_pointer ≡ before.input_pointer
   pub line : after.line ≡ Some (line_of (place_in text byte))
   pub column : after.column ≡ Some (column_of (place_in text byte))
   pub byte_is : after.byte ≡ Some byte
@@ -53,6 +54,9 @@ pub record IsSame (before after : Diagnostic) : Type 0 where
   pub code : after.code ≡ before.code
   pub severity : after.severity ≡ before.severity
   pub message : after.message ≡ before.message
+  pub text : after.text ≡ before.text
+  pub label : after.label ≡ before.label
+  pub field : after.field ≡ before.field
   pub facts : after.«data».list.items ≡ before.«data».list.items
   pub related : after.related.items ≡ before.related.items
   pub omitted : after.omitted ≡ before.omitted
@@ -69,9 +73,13 @@ pub record IsLocatedAs (text : List ℕ) (before after : Diagnostic) : Type 0 wh
   pub location : IsMoved text before.location path pointer span.begin after.location
   pub end : after.end ≡ Some span.end
 
--- where the fault shows in the JSON, and is found there
+-- where the fault shows in the JSON, and is found there; another diagnostic stays as it is
+abbrev IsLocatedIf : Bool → List ℕ → Diagnostic → Diagnostic → Type 0
+IsLocatedIf true text before after = (after ≡ before) ⊎ IsLocatedAs text before after
+IsLocatedIf false text before after = after ≡ before
+
 abbrev pub IsLocated : List ℕ → Diagnostic → Diagnostic → Type 0
-IsLocated text before after = (after ≡ before) ⊎ IsLocatedAs text before after
+IsLocated text before after = IsLocatedIf (code_is_of_json before.code) text before after
 
 -- each of them
 abbrev pub AreLocated : List ℕ → List Diagnostic → List Diagnostic → Type 0
