@@ -187,7 +187,11 @@ module _ (options : Options) (before after : Option (List ℕ)) where
   refused_as_long failed old new errors told read NotModule consumed long (text, refusal, is_told) = (
     text,
     longer (λ input. IsReport options input outcomes.NotModule text) before after read consumed long
-        (λ input is_long. inl (record { error = TooLong; accurate = is_long; refusal = of_length options.is_json input text refusal })),
+        (λ input is_long. inl (record {
+          error = TooLong;
+          accurate = record { accurate = is_long; no_module = λ is. absurd is };
+          refusal = of_length options.is_json input text refusal;
+        })),
     is_told,
   )
 
@@ -203,7 +207,11 @@ module _ (options : Options) (before after : Option (List ℕ)) where
     outcomes.NotModule,
     text,
     longer (λ input. IsReport options input outcomes.NotModule text) before after read consumed long
-        (λ input is_long. inl (record { error = TooLong; accurate = is_long; refusal = of_length options.is_json input text refusal })),
+        (λ input is_long. inl (record {
+          error = TooLong;
+          accurate = record { accurate = is_long; no_module = λ is. absurd is };
+          refusal = of_length options.is_json input text refusal;
+        })),
     begun,
   )
   begun_as_long old new read OutOfMemory consumed long h = tt

@@ -17,8 +17,7 @@ use Rattle.report_summary.specs.Summaries.{IsSummaryText}
 use Rattle.shader_analysis_spec.specs.Program.{Module}
 use Rattle.shader_interface.specs.declared.bound.ResourceBinding.{ResourceBinding}
 use Rattle.shader_interface.specs.declared.workgroup.WorkgroupSize.{WorkgroupSize}
-use Rattle.shader_json_module.specs.Modules.{IsTextOf}
-use Rattle.shader_json_reader.specs.Errors.{IsAccurate}
+use Rattle.shader_json_module.specs.Modules.{IsErrorOf, IsTextOf}
 use Rattle.shader_json_reader.specs.declared.error.ReadError.{ReadError}
 use Rattle.shader_report_json.specs.Answers.{AreModuleMembers}
 use Rattle.shader_resolve.specs.Nesting.{NestsWithin}
@@ -166,10 +165,10 @@ pub record IsDeepReport (options : Options) (input text : List ℕ) : Type 0 whe
   pub stands : IsTextOf input m
   pub nested : IsDeep options m text
 
--- the text is that of an error that is accurate of the input
+-- the text is that of an error of the input: it is no JSON, nests too deep, is too long, or stands for no module
 pub record IsReadRefusal (options : Options) (input text : List ℕ) : Type 0 where
   pub error : ReadError
-  pub accurate : IsAccurate input error
+  pub accurate : IsErrorOf input error
   pub refusal : IsRefusal options input error text
 
 abbrev pub IsReport : Options → List ℕ → Outcome → List ℕ → Type 0

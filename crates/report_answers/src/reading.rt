@@ -4,9 +4,8 @@ ghost use Rattle.std.specs.Str.{IsUtf8};
 ghost use Rattle.json.specs.Json.{document};
 ghost use Rattle.json.specs.Value.{value_view};
 ghost use Rattle.report_answers.specs.Reading.{IsRead, IsReading};
-ghost use Rattle.shader_json_module.specs.Modules.{IsModule};
+ghost use Rattle.shader_json_module.specs.Modules.{IsErrorOf, IsModule};
 ghost use Rattle.shader_json_module.specs.Parts.{AreModuleParts};
-ghost use Rattle.shader_json_reader.specs.Errors.{IsAccurate};
 
 use crate::options::Options;
 use crate::progress::{Progress, Stage};
@@ -81,7 +80,7 @@ impl Reading {
         input: &[u8],
         error: &ReadError,
     ) -> Result<Reading, AllocError>
-        requires { IsAccurate input.now error.now }
+        requires { IsErrorOf input.now error.now }
         ensures { IfOk result (λ reading. IsReading options input.now reading) }
     {
         let report = Report::on_error(alloc, options, input, error)?;
@@ -120,6 +119,7 @@ impl Reading {
     }
 
     /// Reads the JSON value of an input.
+    #[tactic(auto, using(crate::proofs::ReadingLemmas::error_of_value))]
     fn of_value<P: Progress>(
         alloc: Global,
         options: Options,
@@ -138,6 +138,7 @@ impl Reading {
     }
 
     /// Reads an input as one JSON value.
+    #[tactic(auto, using(crate::proofs::ReadingLemmas::error_of_json))]
     fn of_whole<P: Progress>(
         alloc: Global,
         options: Options,

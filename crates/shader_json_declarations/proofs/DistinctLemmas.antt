@@ -1,6 +1,7 @@
 -- Lists in which no item stands twice.
 use Rattle.std.proofs.Common.{◌≡◌, ◌≢◌, ◌∙◌, ap, sym, subst, refl, Bool, true, false, not, ◌||◌}
-use Rattle.std.proofs.Common.{if◌then◌else◌, Option, List, [], ◌∷◌, ◌++◌, length}
+use Rattle.std.proofs.Common.{if◌then◌else◌, Option, List, [], ◌∷◌, ◌++◌, ◌+◌, length, arith}
+use Rattle.std.proofs.lemmas.List.{length-append}
 use Rattle.std.proofs.lemmas.Bool.{true≢false}
 use Rattle.std.proofs.lemmas.Map.Made.{is_some-lookup}
 use Rattle.std.specs.Cmp.{IsEquivalence}
@@ -8,6 +9,7 @@ use Rattle.std.specs.List.{list_any}
 use Rattle.std.specs.Map.{keys_of, lookup}
 use Rattle.std.specs.Option.{is_some}
 use Rattle.shader_arena.specs.Unique.{has_equal, with_item}
+use Rattle.shader_ir.specs.Same.{DecidesSame}
 use Rattle.shader_json_reader.specs.Shapes.{AreDistinct, IsAbsent}
 
 IsAbsent-append : {A : Type 0} (x : A) (ys : List A) (z : A) → IsAbsent x ys → (z ≢ x) → IsAbsent x (ys ++ z ∷ [])
@@ -28,6 +30,10 @@ distinct_more xs x more added absent distinct =
 keys_of-append : {K V : Type 0} (es : List (K × V)) (e : K × V) → keys_of (es ++ e ∷ []) ≡ keys_of es ++ e.0 ∷ []
 keys_of-append [] e = refl
 keys_of-append (f ∷ es) e = ap (λ ks. f.0 ∷ ks) (keys_of-append es e)
+
+keys_of-both : {K V : Type 0} (es fs : List (K × V)) → keys_of (es ++ fs) ≡ keys_of es ++ keys_of fs
+keys_of-both [] fs = refl
+keys_of-both (e ∷ es) fs = ap (λ ks. e.0 ∷ ks) (keys_of-both es fs)
 
 -- one more entry, whose key was absent
 pub keys_more : {K V : Type 0} (es : List (K × V)) (e : K × V) (more : List (K × V)) → more ≡ es ++ e ∷ [] → IsAbsent e.0 (keys_of es)
@@ -70,3 +76,44 @@ absent_grown eq laws x ys more is grown = by (has_equal eq ys x) refl
     by : (b : Bool) → has_equal eq ys x ≡ b → IsAbsent x ys
     by true found = absurd (grown (ap length (is ∙ ap (λ (b : Bool). if b then ys else ys ++ x ∷ []) found)))
     by false none = absent_from_any eq laws x ys none
+
+-- what is absent equals no item, by an equality that decides
+none_of : (b rest : Bool) → (b ≡ true → ⊥) → rest ≡ false → (b || rest) ≡ false
+none_of true rest other none = absurd (other refl)
+none_of false rest other none = none
+
+any_absent : {A : Type 0} (eq : A → A → Bool) → DecidesSame eq → (x : A) (ys : List A) → IsAbsent x ys → list_any (eq x) ys ≡ false
+any_absent eq decides x [] absent = refl
+any_absent eq decides x (y ∷ ys) absent =
+    none_of (eq x y) (list_any (eq x) ys) (λ same. absent.0 (sym ((decides x y).0 same))) (any_absent eq decides x ys absent.1)
+
+pub not_in_map : {K V X : Type 0} (eq : K → K → Bool) → DecidesSame eq → (k : K) (es : List (K × V)) (old : Option V)
+    → old ≡ lookup (eq k) es → true ≡ is_some old → IsAbsent k (keys_of es) → X
+not_in_map eq decides k es old found some absent =
+    absurd (true≢false (some ∙ (ap is_some found ∙ (is_some-lookup (eq k) es ∙ any_absent eq decides k (keys_of es) absent))))
+
+pub not_in_set : {A X : Type 0} (eq : A → A → Bool) → DecidesSame eq → (x : A) (ys : List A) (new : Bool)
+    → new ≡ not (list_any (eq x) ys) → false ≡ new → IsAbsent x ys → X
+not_in_set eq decides x ys new is known absent =
+    absurd (true≢false (sym (known ∙ (is ∙ ap not (any_absent eq decides x ys absent)))))
+
+pub not_in_arena : {A X : Type 0} (eq : A → A → Bool) → DecidesSame eq → (x : A) (ys more : List A) → more ≡ with_item eq ys x
+    → length more ≡ length ys → IsAbsent x ys → X
+not_in_arena eq decides x ys more is same absent =
+    let grown : more ≡ ys ++ x ∷ [] = is ∙ ap (λ (b : Bool). if b then ys else ys ++ x ∷ []) (any_absent eq decides x ys absent) in
+    let longer : length more ≡ length ys + 1 = ap length grown ∙ length-append ys (x ∷ []) in
+    absurd (omega (arith, longer, same))
+
+-- an item among others is none of those before it
+apart_from : {A : Type 0} (y : A) (ys : List A) (x : A) (rest : List A) → IsAbsent y (ys ++ x ∷ rest) → y ≢ x
+apart_from y [] x rest absent = λ same. absent.0 (sym same)
+apart_from y (z ∷ ys) x rest absent = apart_from y ys x rest absent.1
+
+pub absent_before : {A : Type 0} (ys : List A) (x : A) (rest : List A) → AreDistinct (ys ++ x ∷ rest) → IsAbsent x ys
+absent_before [] x rest distinct = tt
+absent_before (y ∷ ys) x rest distinct = (apart_from y ys x rest distinct.0, absent_before ys x rest distinct.1)
+
+pub key_before : {K V : Type 0} (es : List (K × V)) (e : K × V) (rest : List (K × V)) → AreDistinct (keys_of (es ++ e ∷ rest))
+    → IsAbsent e.0 (keys_of es)
+key_before es e rest distinct =
+    absent_before (keys_of es) e.0 (keys_of rest) (subst (λ (ks : List _). AreDistinct ks) (keys_of-both es (e ∷ rest)) distinct)

@@ -1,21 +1,25 @@
 -- Entries of maps that are read one after another.
 use Rattle.std.proofs.Common.{◌≡◌, ℕ, ◌+◌, ◌<◌, ◌≤◌, ◌∙◌, ap, sym, subst, Bool, true, false, Option, Some, None, List, [], ◌∷◌, ◌++◌}
-use Rattle.std.proofs.Common.{take, get_or, length, Global, Vec, Result, Ok, Err, OnOk, OnErr}
+use Rattle.std.proofs.lemmas.Bool.{true≢false}
+use Rattle.std.proofs.Common.{zero, suc, refl, arith, take, get_or, length, Global, Vec, Result, Ok, Err, OnOk, OnErr}
 use Rattle.std.specs.Borrow.{Bor}
 use Rattle.std.specs.Map.{keys_of, lookup}
 use Rattle.std.specs.Option.{is_some}
 use Rattle.std.proofs.lemmas.List.{take_more}
 use Rattle.indexmap.proofs.MapLemmas.{absent_from_lookup, insert_entry-absent}
 use Rattle.indexmap.specs.IndexMap.{insert_entry}
-use Rattle.json.specs.Json.{Json, Items, no_items, item, array, object}
+use Rattle.json.specs.Json.{Json, Items, no_items, item, array, number, object}
 use Rattle.json.specs.Value.{items_view, members_view, value_view}
 use Rattle.json.specs.declared.value.Value.{Object, Value}
 use Rattle.json.proofs.Trees.{view-Object}
 use Rattle.shader_ir.specs.declared.module.PredeclaredType.{PredeclaredType}
 use Rattle.shader_ir.specs.declared.scalar.Scalar.{Scalar}
+use Rattle.shader_json_reader.proofs.AnswerLemmas.{of_members}
+use Rattle.shader_json_reader.proofs.NumberLemmas.{handle_same, text_same}
 use Rattle.shader_json_reader.specs.Numbers.{IsText}
-use Rattle.shader_json_reader.specs.Shapes.{AreDistinct, Each, IsObject, Reading}
+use Rattle.shader_json_reader.specs.Shapes.{AreDistinct, Determines, Each, IsAbsent, IsObject, Reading}
 use Rattle.shader_json_declarations.specs.NamedExpressions.{AreNamedExpressions, AreNames, IsHandleKey}
+use Rattle.shader_json_declarations.proofs.DistinctLemmas.{key_before}
 use Rattle.shader_json_declarations.proofs.ListLemmas.{take_over}
 use Rattle.shader_json_declarations.specs.SpecialTypes.{ArePredeclared, IsDroppedEntry, IsEntry, item_unless, items_unless, recorded}
 use Rattle.shader_json_declarations.specs.SpecialTypes.{unrecorded}
@@ -82,6 +86,39 @@ all_names j v ms i names is listed end so_far distinct =
       distinct,
     )
 
+-- the members of an object whose names are read
+of_names : (j : Value Global) (v : Vec Member Global) (ms : List Member) (names : List (ℕ × List ℕ)) → j ≡ Object v → ms ≡ v.items
+    → AreNamedExpressions (value_view j) names → AreNames (members_view ms) names
+of_names j v ms names is listed h =
+    of_members (λ ns. AreNames ns names) (value_view j) (members_view ms)
+    (ap value_view is ∙ view-Object v ∙ ap (λ ns. object (members_view ns)) (sym listed)) h.0
+
+split_names : {X : Type 0} (ms : List Member) (i : ℕ) (m : Member) (ys xs : List (ℕ × List ℕ)) → i < length ms → m ≡ get_or ms i m
+    → AreNames (members_view (take i ms)) ys → AreNames (members_view ms) xs
+    → ((x : ℕ × List ℕ) (rest : List (ℕ × List ℕ)) → IsHandleKey m.0.now x.0 → IsText (value_view m.1) x.1 → xs ≡ ys ++ x ∷ rest → X) → X
+split_names [] i m ys xs within same so_far all f = absurd (omega arith)
+split_names (n ∷ ms) zero m [] [] within same so_far all f = absurd all
+split_names (n ∷ ms) zero m [] (x ∷ xs) within same so_far all f =
+    f x xs (subst (λ (k : Member). IsHandleKey k.0.now x.0) (sym same) all.0)
+    (subst (λ (k : Member). IsText (value_view k.1) x.1) (sym same) all.1) refl
+split_names (n ∷ ms) zero m (y ∷ ys) xs within same so_far all f = absurd so_far
+split_names (n ∷ ms) (suc i) m [] xs within same so_far all f = absurd so_far
+split_names (n ∷ ms) (suc i) m (y ∷ ys) [] within same so_far all f = absurd all
+split_names (n ∷ ms) (suc i) m (y ∷ ys) (x ∷ xs) within same so_far all f =
+    let key : x.0 ≡ y.0 = handle_same (number n.0.now) x.0 y.0 all.0.1 so_far.0.1 in
+    let text : x.1 ≡ y.1 = text_same (value_view n.1) x.1 y.1 all.1 so_far.1 in
+    split_names ms i m ys xs (omega arith) same so_far.2 all.2 (λ z rest k r is. f z rest k r (λ e. (key e, text e) ∷ is e))
+
+-- the name at a member
+pub name_at : {X : Type 0} (j : Value Global) (v : Vec Member Global) (ms : List Member) (i : ℕ) (m : Member) (ys xs : List (ℕ × List ℕ))
+    → j ≡ Object v → ms ≡ v.items → i < length ms → m ≡ get_or ms i m → AreNames (members_view (take i ms)) ys
+    → AreNamedExpressions (value_view j) xs
+    → ((x : ℕ × List ℕ) → IsHandleKey m.0.now x.0 → IsText (value_view m.1) x.1 → IsAbsent x.0 (keys_of ys) → X) → X
+name_at j v ms i m ys xs is listed within same so_far all f =
+    split_names ms i m ys xs within same so_far (of_names j v ms xs is listed all)
+    (λ x rest key text split. f x key text
+    (key_before ys x rest (subst (λ (zs : List (ℕ × List ℕ)). AreDistinct (keys_of zs)) split all.1)))
+
 -- ---- items that are left out by a test
 
 module _ {A : Type 0} (R : Reading A) (test : Json → Bool) where
@@ -99,6 +136,42 @@ module _ {A : Type 0} (R : Reading A) (test : Json → Bool) where
   unless-append (w ∷ vs) v xs ys so_far here =
       each_unless (test (value_view w)) (value_view w) (items_unless test (items_view vs)) (items_unless test (items_view (vs ++ v ∷ [])))
       xs ys (λ rest h. unless-append vs v rest ys h here) so_far
+
+  kept_item : (b : Bool) (j : Json) (js : Items) (xs : List A) → b ≡ false → Each R (item_unless b j js) xs → Each R (item j js) xs
+  kept_item true j js xs kept h = absurd (true≢false kept)
+  kept_item false j js xs kept h = h
+
+  module _ {X : Type 0} (determined : Determines R) (v : Value Global) where
+    split_step : (b : Bool) (j : Json) (some all : Items) (ys xs : List A) → Each R (item_unless b j some) ys
+        → Each R (item_unless b j all) xs
+        → ((us ws : List A) → Each R some us → Each R all ws
+        → ((x : A) (rest : List A) → R (value_view v) x → ws ≡ us ++ x ∷ rest → X) → X)
+        → ((x : A) (rest : List A) → R (value_view v) x → xs ≡ ys ++ x ∷ rest → X) → X
+    split_step true j some all ys xs u w more f = more ys xs u w f
+    split_step false j some all [] xs u w more f = absurd u
+    split_step false j some all (y ∷ ys) [] u w more f = absurd w
+    split_step false j some all (y ∷ ys) (x ∷ xs) u w more f =
+        more ys xs u.1 w.1 (λ z rest r is. f z rest r (λ k. determined j x y w.0 u.0 k ∷ is k))
+
+    first_item : (j : Json) (js : Items) (xs : List A) → j ≡ value_view v → Each R (item j js) xs
+        → ((x : A) (rest : List A) → R (value_view v) x → xs ≡ x ∷ rest → X) → X
+    first_item j js [] is h f = absurd h
+    first_item j js (x ∷ xs) is h f = f x xs (subst (λ (k : Json). R k x) is h.0) refl
+
+    -- what stands for all items begins with what stands for the first ones
+    pub split_unless : (vs : List (Value Global)) (i : ℕ) (ys xs : List A) → i < length vs → v ≡ get_or vs i v
+        → test (value_view v) ≡ false → Each R (items_unless test (items_view (take i vs))) ys
+        → Each R (items_unless test (items_view vs)) xs
+        → ((x : A) (rest : List A) → R (value_view v) x → xs ≡ ys ++ x ∷ rest → X) → X
+    split_unless [] i ys xs within same kept so_far all f = absurd (omega arith)
+    split_unless (w ∷ vs) zero (y ∷ ys) xs within same kept so_far all f = absurd so_far
+    split_unless (w ∷ vs) zero [] xs within same kept so_far all f =
+        first_item (value_view w) (items_unless test (items_view vs)) xs (sym (ap value_view same))
+        (kept_item (test (value_view w)) (value_view w) (items_unless test (items_view vs)) xs
+        (subst (λ (u : Value Global). test (value_view u) ≡ false) same kept) all) f
+    split_unless (w ∷ vs) (suc i) ys xs within same kept so_far all f =
+        split_step (test (value_view w)) (value_view w) (items_unless test (items_view (take i vs))) (items_unless test (items_view vs)) ys
+        xs so_far all (λ us ws u r g. split_unless vs i us ws (omega arith) same kept u r g) f
 
   -- one more item is read
   pub unless_more : (vs : List (Value Global)) (i : ℕ) (v : Value Global) (xs more : List A) → i < length vs → v ≡ get_or vs i v

@@ -1,6 +1,12 @@
+pub mod ArenaLemmas
+pub mod DeterminedDeclarations
+pub mod DeterminedScalars
+pub mod DeterminedTypes
 pub mod DistinctLemmas
 pub mod EntryLemmas
 pub mod FieldLemmas
+pub mod InnerLemmas
 pub mod KeyLemmas
 pub mod ListLemmas
+pub mod PayloadLemmas
 pub mod RowLemmas

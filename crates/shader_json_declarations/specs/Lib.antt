@@ -1,3 +1,4 @@
+pub mod Arenas
 pub mod BuiltIns
 pub mod Declarations
 pub mod Filters

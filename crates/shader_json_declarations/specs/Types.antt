@@ -3,7 +3,6 @@ use Rattle.std.specs.Prelude.{ℕ, List, Option, codes}
 use Rattle.json.specs.Json.{Json}
 use Rattle.shader_ir.specs.declared.binding.Binding.{Binding}
 use Rattle.shader_ir.specs.declared.binding.Binding.TheVariants as bindings
-use Rattle.shader_ir.specs.declared.binding.BuiltIn.{BuiltIn}
 use Rattle.shader_ir.specs.declared.types.AddressSpace.{AddressSpace}
 use Rattle.shader_ir.specs.declared.types.AddressSpace.TheVariants as spaces
 use Rattle.shader_ir.specs.declared.types.ArraySize.{ArraySize}
@@ -14,7 +13,8 @@ use Rattle.shader_ir.specs.declared.types.TypeInner.{TypeInner}
 use Rattle.shader_ir.specs.declared.types.TypeInner.TheVariants as t
 use Rattle.shader_json_reader.specs.Numbers.{IsCount, IsHandle, IsText, IsTruth, IsU32}
 use Rattle.shader_json_reader.specs.Shapes.{AreDistinct, IsObject, IsVariant, IsUnit, IsNewtype, IsStruct, IsList, HasField, MayHaveField}
-use Rattle.shader_json_declarations.specs.BuiltIns.{IsKnownOrFurther, known_built_in}
+use Rattle.shader_json_declarations.specs.Arenas.{IsArena}
+use Rattle.shader_json_declarations.specs.BuiltIns.{IsBuiltIn}
 use Rattle.shader_json_declarations.specs.Scalars.{IsScalar, IsSize, IsCooperativeSize, IsRole, IsDimension, IsClass, IsAccess}
 
 abbrev pub IsSpaceOf : List ℕ → Option Json → AddressSpace → Type 0
@@ -41,13 +41,6 @@ IsLengthOf name payload lengths.Dynamic = IsUnit (codes "Dynamic") name payload
 -- the size of an array
 abbrev pub IsLength : Json → ArraySize → Type 0
 IsLength j size = IsVariant j (λ name payload. IsLengthOf name payload size)
-
--- The value that naga has with that name and payload. Of others it leaves the number open.
-abbrev pub IsBuiltInOf : List ℕ → Option Json → BuiltIn → Type 0
-IsBuiltInOf name payload builtin = IsKnownOrFurther (known_built_in name payload) builtin
-
-abbrev pub IsBuiltIn : Json → BuiltIn → Type 0
-IsBuiltIn j builtin = IsVariant j (λ name payload. IsBuiltInOf name payload builtin)
 
 abbrev pub IsBindingOf : List ℕ → Option Json → Binding → Type 0
 IsBindingOf name payload (bindings.BuiltIn builtin) = IsNewtype (codes "BuiltIn") name payload (λ j. IsBuiltIn j builtin)
@@ -103,4 +96,4 @@ IsType j ty = IsObject j (λ ms. MayHaveField IsText (codes "name") ms ty.name �
 
 -- the types of a module, which differ
 abbrev pub AreTypes : Json → List «Type» → Type 0
-AreTypes j types = IsList IsType j types × AreDistinct types
+AreTypes j types = IsArena IsType j types × AreDistinct types

@@ -2,6 +2,7 @@
 ghost use Rattle.std.specs.Prelude.{◌≡◌, ◌∷◌, [], IfOk, Ok, OnOk, Some, option_map};
 ghost use Rattle.json.specs.Json.{object};
 ghost use Rattle.json.specs.Value.{members_view, value_view};
+ghost use Rattle.shader_json_reader.specs.Answers.{Accepts, IsUnrefused};
 ghost use Rattle.shader_json_reader.specs.Shapes.{HasField, HasOnly, IsObject, IsOnlyOrNull, MayHaveField, kept, values_of, variant_of};
 
 use crate::values::Read;
@@ -23,8 +24,9 @@ impl<'v, 'a> Fields<'v, 'a> {
     /// # Errors
     ///
     /// A value that is no object.
-    pub fn of(context: &Context, value: &'v Value<'a>) -> Result<Fields<'v, 'a>, Failure>
-        ensures { IfOk result (λ fields. value_view value.now ≡ object (members_view fields.members.now)) }
+    pub fn of(context: Context, value: &'v Value<'a>) -> Result<Fields<'v, 'a>, Failure>
+        ensures reads { IfOk result (λ fields. value_view value.now ≡ object (members_view fields.members.now)) }
+        ensures accepts { Accepts (λ ms. value_view value.now ≡ object ms) result }
     {
         match value {
             Value::Object(members) => Ok(Fields {
@@ -40,8 +42,9 @@ impl<'v, 'a> Fields<'v, 'a> {
     /// # Errors
     ///
     /// A field that is absent, occurs twice or can't be read.
-    pub fn needed<T: Read>(self, context: &mut Context, name: &'static str) -> Result<T, Failure>
-        ensures { IfOk result (λ x. HasField T.reads name.now (members_view self.entry.members.now) x) }
+    pub fn needed<T: Read>(self, context: Context, name: &'static str) -> Result<T, Failure>
+        ensures reads { IfOk result (λ x. HasField T.reads name.now (members_view self.entry.members.now) x) }
+        ensures accepts { Accepts (λ x. HasField T.reads name.now (members_view self.entry.members.now) x) result }
     {
         match self.member(context, name) {
             Ok((index, value)) => self.seen(within(index, T::read(context, value))),
@@ -56,12 +59,14 @@ impl<'v, 'a> Fields<'v, 'a> {
     /// A field that is absent, occurs twice or can't be read.
     pub fn pair<A: Read + Drop, B: Read>(
         self,
-        context: &mut Context,
+        context: Context,
         first: &'static str,
         second: &'static str,
     ) -> Result<(A, B), Failure>
-        ensures { IfOk result (λ p. HasField A.reads first.now (members_view self.entry.members.now) p.0
+        ensures reads { IfOk result (λ p. HasField A.reads first.now (members_view self.entry.members.now) p.0
             × HasField B.reads second.now (members_view self.entry.members.now) p.1) }
+        ensures accepts { Accepts (λ (p : A × B). HasField A.reads first.now (members_view self.entry.members.now) p.0
+            × HasField B.reads second.now (members_view self.entry.members.now) p.1) result }
     {
         let first = self.needed(context, first)?;
         Ok((first, self.needed(context, second)?))
@@ -74,14 +79,17 @@ impl<'v, 'a> Fields<'v, 'a> {
     /// A field that is absent, occurs twice or can't be read.
     pub fn triple<A: Read + Drop, B: Read + Drop, C: Read>(
         self,
-        context: &mut Context,
+        context: Context,
         first: &'static str,
         second: &'static str,
         third: &'static str,
     ) -> Result<(A, B, C), Failure>
-        ensures { IfOk result (λ p. HasField A.reads first.now (members_view self.entry.members.now) p.0
+        ensures reads { IfOk result (λ p. HasField A.reads first.now (members_view self.entry.members.now) p.0
             × HasField B.reads second.now (members_view self.entry.members.now) p.1
             × HasField C.reads third.now (members_view self.entry.members.now) p.2) }
+        ensures accepts { Accepts (λ (p : A × B × C). HasField A.reads first.now (members_view self.entry.members.now) p.0
+            × HasField B.reads second.now (members_view self.entry.members.now) p.1
+            × HasField C.reads third.now (members_view self.entry.members.now) p.2) result }
     {
         let (first, second) = self.pair(context, first, second)?;
         Ok((first, second, self.needed(context, third)?))
@@ -92,8 +100,9 @@ impl<'v, 'a> Fields<'v, 'a> {
     /// # Errors
     ///
     /// A field that occurs twice or can't be read.
-    pub fn optional<T: Read>(self, context: &mut Context, name: &str) -> Result<Option<T>, Failure>
-        ensures { IfOk result (λ x. MayHaveField T.reads name.now (members_view self.entry.members.now) x) }
+    pub fn optional<T: Read>(self, context: Context, name: &str) -> Result<Option<T>, Failure>
+        ensures reads { IfOk result (λ x. MayHaveField T.reads name.now (members_view self.entry.members.now) x) }
+        ensures accepts { Accepts (λ x. MayHaveField T.reads name.now (members_view self.entry.members.now) x) result }
     {
         self.nullable(context, name)
     }
@@ -103,9 +112,11 @@ impl<'v, 'a> Fields<'v, 'a> {
     /// # Errors
     ///
     /// A field that occurs twice or can't be read.
-    pub fn nullable<T: Read>(self, context: &mut Context, name: &str) -> Result<T, Failure>
-        ensures { IfOk result (λ x. IsOnlyOrNull (λ j. T.reads j x)
+    pub fn nullable<T: Read>(self, context: Context, name: &str) -> Result<T, Failure>
+        ensures reads { IfOk result (λ x. IsOnlyOrNull (λ j. T.reads j x)
             (values_of name.now (members_view self.entry.members.now))) }
+        ensures accepts { Accepts (λ x. IsOnlyOrNull (λ j. T.reads j x)
+            (values_of name.now (members_view self.entry.members.now))) result }
     {
         match self.find(context, name) {
             Ok(Some((index, value))) => self.seen(within(index, T::read(context, value))),
@@ -121,10 +132,11 @@ impl<'v, 'a> Fields<'v, 'a> {
     /// A field that is absent or occurs twice.
     pub fn member(
         self,
-        context: &Context,
+        context: Context,
         name: &'static str,
     ) -> Result<(usize, &'v Value<'a>), Failure>
-        ensures { IfOk result (λ found. values_of name.now (members_view self.entry.members.now) ≡ value_view found.1.now ∷ []) }
+        ensures reads { IfOk result (λ found. values_of name.now (members_view self.entry.members.now) ≡ value_view found.1.now ∷ []) }
+        ensures accepts { Accepts (λ j. values_of name.now (members_view self.entry.members.now) ≡ j ∷ []) result }
     {
         match self.find(context, name)? {
             Some(member) => Ok(member),
@@ -139,12 +151,13 @@ impl<'v, 'a> Fields<'v, 'a> {
     /// Such a field, of which `wanted` is said.
     pub fn only(
         self,
-        context: &Context,
+        context: Context,
         first: &str,
         second: &str,
         wanted: &'static str,
     ) -> Result<(), Failure>
-        ensures { OnOk result (HasOnly first.now second.now (members_view self.entry.members.now)) }
+        ensures reads { OnOk result (HasOnly first.now second.now (members_view self.entry.members.now)) }
+        ensures accepts { HasOnly first.now second.now (members_view self.entry.members.now) → IsUnrefused result }
     {
         for (index, member) in self.members.iter().enumerate() {
             if member.0 != first && member.0 != second {
@@ -157,7 +170,8 @@ impl<'v, 'a> Fields<'v, 'a> {
     /// Returns the result of reading a field. The path of a failure, which begins at the object so far, then begins at the value that is
     /// read: at the enum if the object is a variant's payload.
     pub fn seen<T>(self, read: Result<T, Failure>) -> Result<T, Failure>
-        ensures { IfOk result (λ x. read ≡ Ok x) }
+        ensures reads { IfOk result (λ x. read ≡ Ok x) }
+        ensures accepts { IsUnrefused read → IsUnrefused result }
     {
         if self.of_variant {
             within(0, read)
@@ -167,9 +181,10 @@ impl<'v, 'a> Fields<'v, 'a> {
     }
 
     /// Returns the index and the value of the field of that name, and rejects one that occurs twice.
-    fn find(self, context: &Context, name: &str) -> Result<Option<(usize, &'v Value<'a>)>, Failure>
-        ensures { IfOk result (λ found. values_of name.now (members_view self.entry.members.now)
+    fn find(self, context: Context, name: &str) -> Result<Option<(usize, &'v Value<'a>)>, Failure>
+        ensures reads { IfOk result (λ found. values_of name.now (members_view self.entry.members.now)
             ≡ kept (option_map (λ f. value_view f.1.now) found)) }
+        ensures accepts { Accepts (λ found. values_of name.now (members_view self.entry.members.now) ≡ kept found) result }
     {
         let mut found: Option<(usize, &'v Value<'a>)> = None;
         for (index, member) in self.members.iter().enumerate() {
@@ -197,8 +212,9 @@ impl<'v, 'a> Data<'v, 'a> {
     /// # Errors
     ///
     /// A value that can't be read.
-    pub fn read<T: Read>(self, context: &mut Context) -> Result<T, Failure>
-        ensures { IfOk result (λ x. T.reads (value_view self.entry.value.now) x) }
+    pub fn read<T: Read>(self, context: Context) -> Result<T, Failure>
+        ensures reads { IfOk result (λ x. T.reads (value_view self.entry.value.now) x) }
+        ensures accepts { Accepts (T.reads (value_view self.entry.value.now)) result }
     {
         within(0, T::read(context, self.value))
     }
@@ -208,8 +224,9 @@ impl<'v, 'a> Data<'v, 'a> {
     /// # Errors
     ///
     /// A value that is no object.
-    pub fn fields(self, context: &Context) -> Result<Fields<'v, 'a>, Failure>
-        ensures { IfOk result (λ fields. value_view self.entry.value.now ≡ object (members_view fields.members.now)) }
+    pub fn fields(self, context: Context) -> Result<Fields<'v, 'a>, Failure>
+        ensures reads { IfOk result (λ fields. value_view self.entry.value.now ≡ object (members_view fields.members.now)) }
+        ensures accepts { Accepts (λ ms. value_view self.entry.value.now ≡ object ms) result }
     {
         match Fields::of(context, self.value) {
             Ok(Fields { members, .. }) => Ok(Fields {
@@ -225,8 +242,9 @@ impl<'v, 'a> Data<'v, 'a> {
     /// # Errors
     ///
     /// A value that is no object; or a field that is absent, occurs twice or can't be read.
-    pub fn field<T: Read>(self, context: &mut Context, name: &'static str) -> Result<T, Failure>
-        ensures { IfOk result (λ x. IsObject (value_view self.entry.value.now) (λ ms. HasField T.reads name.now ms x)) }
+    pub fn field<T: Read>(self, context: Context, name: &'static str) -> Result<T, Failure>
+        ensures reads { IfOk result (λ x. IsObject (value_view self.entry.value.now) (λ ms. HasField T.reads name.now ms x)) }
+        ensures accepts { Accepts (λ x. IsObject (value_view self.entry.value.now) (λ ms. HasField T.reads name.now ms x)) result }
     {
         self.fields(context)?.needed(context, name)
     }
@@ -238,12 +256,14 @@ impl<'v, 'a> Data<'v, 'a> {
     /// A value that is no object; or a field that is absent, occurs twice or can't be read.
     pub fn pair<A: Read + Drop, B: Read>(
         self,
-        context: &mut Context,
+        context: Context,
         first: &'static str,
         second: &'static str,
     ) -> Result<(A, B), Failure>
-        ensures { IfOk result (λ p. IsObject (value_view self.entry.value.now) (λ ms. HasField A.reads first.now ms p.0
+        ensures reads { IfOk result (λ p. IsObject (value_view self.entry.value.now) (λ ms. HasField A.reads first.now ms p.0
             × HasField B.reads second.now ms p.1)) }
+        ensures accepts { Accepts (λ (p : A × B). IsObject (value_view self.entry.value.now) (λ ms. HasField A.reads first.now ms p.0
+            × HasField B.reads second.now ms p.1)) result }
     {
         self.fields(context)?.pair(context, first, second)
     }
@@ -255,13 +275,15 @@ impl<'v, 'a> Data<'v, 'a> {
     /// A value that is no object; or a field that is absent, occurs twice or can't be read.
     pub fn triple<A: Read + Drop, B: Read + Drop, C: Read>(
         self,
-        context: &mut Context,
+        context: Context,
         first: &'static str,
         second: &'static str,
         third: &'static str,
     ) -> Result<(A, B, C), Failure>
-        ensures { IfOk result (λ p. IsObject (value_view self.entry.value.now) (λ ms. HasField A.reads first.now ms p.0
+        ensures reads { IfOk result (λ p. IsObject (value_view self.entry.value.now) (λ ms. HasField A.reads first.now ms p.0
             × HasField B.reads second.now ms p.1 × HasField C.reads third.now ms p.2)) }
+        ensures accepts { Accepts (λ (p : A × B × C). IsObject (value_view self.entry.value.now) (λ ms. HasField A.reads first.now ms p.0
+            × HasField B.reads second.now ms p.1 × HasField C.reads third.now ms p.2)) result }
     {
         self.fields(context)?.triple(context, first, second, third)
     }
@@ -282,9 +304,10 @@ impl<'v, 'a> Variant<'v, 'a> {
     /// # Errors
     ///
     /// Any other value.
-    pub fn of(context: &Context, value: &'v Value<'a>) -> Result<Variant<'v, 'a>, Failure>
-        ensures { IfOk result (λ v. variant_of (value_view value.now)
+    pub fn of(context: Context, value: &'v Value<'a>) -> Result<Variant<'v, 'a>, Failure>
+        ensures reads { IfOk result (λ v. variant_of (value_view value.now)
             ≡ Some (v.name.now, option_map (λ d. value_view d.value.now) v.payload)) }
+        ensures accepts { Accepts (λ v. variant_of (value_view value.now) ≡ Some v) result }
     {
         match value {
             Value::String(name) => Ok(Variant {

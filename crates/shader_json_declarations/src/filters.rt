@@ -16,7 +16,7 @@ impl Spelled for Severity {
 impl Read for Severity {
     ghost reads = { λ j severity. IsSeverity j severity };
 
-    fn read(context: &mut Context, value: &Value<'_>) -> Result<Severity, Failure> {
+    fn read(context: Context, value: &Value<'_>) -> Result<Severity, Failure> {
         let table = [
             ("Off", Severity::Off),
             ("Info", Severity::Info),
@@ -34,7 +34,7 @@ struct StandardRule(DiagnosticRule);
 impl Read for StandardRule {
     ghost reads = { λ j rule. IsStandardRule j rule.0 };
 
-    fn read(context: &mut Context, value: &Value<'_>) -> Result<StandardRule, Failure> {
+    fn read(context: Context, value: &Value<'_>) -> Result<StandardRule, Failure> {
         match value.as_str() {
             Some("DerivativeUniformity") => {
                 Ok(StandardRule(DiagnosticRule::DerivativeUniformity))
@@ -50,7 +50,7 @@ struct UserRule;
 impl Read for UserRule {
     ghost reads = { λ j _. IsUserRule j };
 
-    fn read(context: &mut Context, value: &Value<'_>) -> Result<UserRule, Failure> {
+    fn read(context: Context, value: &Value<'_>) -> Result<UserRule, Failure> {
         let wanted = "an array of 2 strings";
         let Value::Array(items) = value else {
             return Err(context.refused(wanted));
@@ -69,7 +69,7 @@ impl Read for UserRule {
 impl Read for DiagnosticRule {
     ghost reads = { λ j rule. IsRule j rule };
 
-    fn read(context: &mut Context, value: &Value<'_>) -> Result<DiagnosticRule, Failure> {
+    fn read(context: Context, value: &Value<'_>) -> Result<DiagnosticRule, Failure> {
         let Variant { name, payload } = Variant::of(context, value)?;
         match (name, payload) {
             ("Standard", Some(payload)) => {
@@ -98,7 +98,7 @@ struct Filter {
 impl Read for Filter {
     ghost reads = { λ j filter. IsFilter j filter.severity filter.rule };
 
-    fn read(context: &mut Context, value: &Value<'_>) -> Result<Filter, Failure> {
+    fn read(context: Context, value: &Value<'_>) -> Result<Filter, Failure> {
         let fields = Fields::of(context, value)?;
         let (severity, rule) = fields.pair(context, "new_severity", "triggering_rule")?;
         Ok(Filter { severity, rule })
@@ -108,7 +108,7 @@ impl Read for Filter {
 impl Read for DiagnosticFilterNode {
     ghost reads = { λ j node. IsFilterNode j node };
 
-    fn read(context: &mut Context, value: &Value<'_>) -> Result<DiagnosticFilterNode, Failure> {
+    fn read(context: Context, value: &Value<'_>) -> Result<DiagnosticFilterNode, Failure> {
         let fields = Fields::of(context, value)?;
         let Filter { severity, rule } = fields.needed(context, "inner")?;
         Ok(DiagnosticFilterNode {

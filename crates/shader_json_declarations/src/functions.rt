@@ -1,5 +1,5 @@
 //! Reads the contents of functions except expressions and statements.
-ghost use Rattle.std.specs.Prelude.{IfSome};
+ghost use Rattle.std.specs.Prelude.{ℕ, IfNone, IfSome};
 ghost use Rattle.shader_json_declarations.specs.Declarations.{IsArgument, IsLocal, IsResult, IsStage};
 ghost use Rattle.shader_json_declarations.specs.NamedExpressions.{AreNamedExpressions, IsHandleKey};
 ghost use Rattle.shader_json_declarations.specs.Names.{stage_name};
@@ -18,7 +18,7 @@ use shader_json_reader::{Context, Failure, within};
 impl Read for FunctionArgument {
     ghost reads = { λ j argument. IsArgument j argument };
 
-    fn read(context: &mut Context, value: &Value<'_>) -> Result<FunctionArgument, Failure> {
+    fn read(context: Context, value: &Value<'_>) -> Result<FunctionArgument, Failure> {
         let fields = Fields::of(context, value)?;
         Ok(FunctionArgument {
             name: fields.optional(context, "name")?,
@@ -31,7 +31,7 @@ impl Read for FunctionArgument {
 impl Read for FunctionResult {
     ghost reads = { λ j returned. IsResult j returned };
 
-    fn read(context: &mut Context, value: &Value<'_>) -> Result<FunctionResult, Failure> {
+    fn read(context: Context, value: &Value<'_>) -> Result<FunctionResult, Failure> {
         let fields = Fields::of(context, value)?;
         Ok(FunctionResult {
             ty: fields.needed(context, "ty")?,
@@ -43,7 +43,7 @@ impl Read for FunctionResult {
 impl Read for LocalVariable {
     ghost reads = { λ j variable. IsLocal j variable };
 
-    fn read(context: &mut Context, value: &Value<'_>) -> Result<LocalVariable, Failure> {
+    fn read(context: Context, value: &Value<'_>) -> Result<LocalVariable, Failure> {
         let fields = Fields::of(context, value)?;
         Ok(LocalVariable {
             name: fields.optional(context, "name")?,
@@ -56,7 +56,7 @@ impl Read for LocalVariable {
 impl Read for NamedExpressions {
     ghost reads = { λ j names. AreNamedExpressions j names };
 
-    fn read(context: &mut Context, value: &Value<'_>) -> Result<NamedExpressions, Failure> {
+    fn read(context: Context, value: &Value<'_>) -> Result<NamedExpressions, Failure> {
         let Value::Object(members) = value else {
             return Err(context.refused("an object"));
         };
@@ -74,7 +74,8 @@ impl Read for NamedExpressions {
 
 /// Returns the handle that a key spells, in decimal without sign or leading zeros.
 fn handle_of(key: &str) -> Option<Handle<mark::Expression>>
-    ensures { IfSome result (λ handle. IsHandleKey key.now handle) }
+    ensures some { IfSome result (λ handle. IsHandleKey key.now handle) }
+    ensures none { IfNone result ((handle : ℕ) → IsHandleKey key.now handle → ⊥) }
 {
     match key.as_bytes() {
         [b'0'] => Some(Handle::from_index(0)),
@@ -93,7 +94,7 @@ impl Spelled for ShaderStage {
 impl Read for ShaderStage {
     ghost reads = { λ j stage. IsStage j stage };
 
-    fn read(context: &mut Context, value: &Value<'_>) -> Result<ShaderStage, Failure> {
+    fn read(context: Context, value: &Value<'_>) -> Result<ShaderStage, Failure> {
         let table = [
             ("Vertex", ShaderStage::Vertex),
             ("Fragment", ShaderStage::Fragment),

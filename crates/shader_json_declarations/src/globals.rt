@@ -10,7 +10,7 @@ use shader_json_reader::{Context, Failure};
 impl Read for Constant {
     ghost reads = { λ j constant. IsConstant j constant };
 
-    fn read(context: &mut Context, value: &Value<'_>) -> Result<Constant, Failure> {
+    fn read(context: Context, value: &Value<'_>) -> Result<Constant, Failure> {
         let fields = Fields::of(context, value)?;
         let name = fields.optional(context, "name")?;
         let (ty, init) = fields.pair(context, "ty", "init")?;
@@ -21,7 +21,7 @@ impl Read for Constant {
 impl Read for Override {
     ghost reads = { λ j override. IsOverride j override };
 
-    fn read(context: &mut Context, value: &Value<'_>) -> Result<Override, Failure> {
+    fn read(context: Context, value: &Value<'_>) -> Result<Override, Failure> {
         let fields = Fields::of(context, value)?;
         Ok(Override {
             name: fields.optional(context, "name")?,
@@ -34,7 +34,7 @@ impl Read for Override {
 impl Read for GlobalVariable {
     ghost reads = { λ j variable. IsGlobal j variable };
 
-    fn read(context: &mut Context, value: &Value<'_>) -> Result<GlobalVariable, Failure> {
+    fn read(context: Context, value: &Value<'_>) -> Result<GlobalVariable, Failure> {
         let fields = Fields::of(context, value)?;
         let name = fields.optional(context, "name")?;
         let (space, ty) = fields.pair(context, "space", "ty")?;

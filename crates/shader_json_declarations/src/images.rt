@@ -16,7 +16,7 @@ impl Spelled for ImageDimension {
 impl Read for ImageDimension {
     ghost reads = { λ j dimension. IsDimension j dimension };
 
-    fn read(context: &mut Context, value: &Value<'_>) -> Result<ImageDimension, Failure> {
+    fn read(context: Context, value: &Value<'_>) -> Result<ImageDimension, Failure> {
         let table = [
             ("D1", ImageDimension::D1),
             ("D2", ImageDimension::D2),
@@ -30,7 +30,7 @@ impl Read for ImageDimension {
 impl Read for StorageAccess {
     ghost reads = { λ j access. IsAccess j access };
 
-    fn read(context: &mut Context, value: &Value<'_>) -> Result<StorageAccess, Failure> {
+    fn read(context: Context, value: &Value<'_>) -> Result<StorageAccess, Failure> {
         flags(context, value, "names of `LOAD | STORE | ATOMIC`")
     }
 }
@@ -38,7 +38,7 @@ impl Read for StorageAccess {
 impl Read for ImageClass {
     ghost reads = { λ j class. IsClass j class };
 
-    fn read(context: &mut Context, value: &Value<'_>) -> Result<ImageClass, Failure> {
+    fn read(context: Context, value: &Value<'_>) -> Result<ImageClass, Failure> {
         let Variant { name, payload } = Variant::of(context, value)?;
         match (name, payload) {
             ("External", None) => Ok(ImageClass::External),
@@ -110,7 +110,7 @@ impl Spelled for StorageFormat {
 impl Read for StorageFormat {
     ghost reads = { λ j format. IsFormat j format };
 
-    fn read(context: &mut Context, value: &Value<'_>) -> Result<StorageFormat, Failure> {
+    fn read(context: Context, value: &Value<'_>) -> Result<StorageFormat, Failure> {
         named(context, value, &FORMATS, "the name of a storage format")
     }
 }

@@ -2,7 +2,6 @@
 //! here because its implementations for types of the IR have to be in its crate.
 #![tactic(auto)]
 
-mod built_ins;
 mod fields;
 mod filters;
 mod functions;

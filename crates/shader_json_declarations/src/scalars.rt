@@ -16,7 +16,7 @@ impl Spelled for ScalarKind {
 impl Read for ScalarKind {
     ghost reads = { λ j kind. IsKind j kind };
 
-    fn read(context: &mut Context, value: &Value<'_>) -> Result<ScalarKind, Failure> {
+    fn read(context: Context, value: &Value<'_>) -> Result<ScalarKind, Failure> {
         let table = [
             ("Sint", ScalarKind::Sint),
             ("Uint", ScalarKind::Uint),
@@ -32,7 +32,7 @@ impl Read for ScalarKind {
 impl Read for Scalar {
     ghost reads = { λ j scalar. IsScalar j scalar };
 
-    fn read(context: &mut Context, value: &Value<'_>) -> Result<Scalar, Failure> {
+    fn read(context: Context, value: &Value<'_>) -> Result<Scalar, Failure> {
         let (kind, width) = Fields::of(context, value)?.pair(context, "kind", "width")?;
         Ok(Scalar { kind, width })
     }
@@ -45,7 +45,7 @@ impl Spelled for VectorSize {
 impl Read for VectorSize {
     ghost reads = { λ j size. IsSize j size };
 
-    fn read(context: &mut Context, value: &Value<'_>) -> Result<VectorSize, Failure> {
+    fn read(context: Context, value: &Value<'_>) -> Result<VectorSize, Failure> {
         let table = [
             ("Bi", VectorSize::Bi),
             ("Tri", VectorSize::Tri),
@@ -62,7 +62,7 @@ impl Spelled for CooperativeSize {
 impl Read for CooperativeSize {
     ghost reads = { λ j size. IsCooperativeSize j size };
 
-    fn read(context: &mut Context, value: &Value<'_>) -> Result<CooperativeSize, Failure> {
+    fn read(context: Context, value: &Value<'_>) -> Result<CooperativeSize, Failure> {
         let table = [
             ("Eight", CooperativeSize::Eight),
             ("Sixteen", CooperativeSize::Sixteen),
@@ -78,7 +78,7 @@ impl Spelled for CooperativeRole {
 impl Read for CooperativeRole {
     ghost reads = { λ j role. IsRole j role };
 
-    fn read(context: &mut Context, value: &Value<'_>) -> Result<CooperativeRole, Failure> {
+    fn read(context: Context, value: &Value<'_>) -> Result<CooperativeRole, Failure> {
         let table = [
             ("A", CooperativeRole::A),
             ("B", CooperativeRole::B),

@@ -1,10 +1,12 @@
 //! Reads the types that built-in functions and ray queries return.
-ghost use Rattle.std.specs.Prelude.{◌≡◌, IfOk, IsTrue, OnOk};
+ghost use Rattle.std.specs.Prelude.{◌≡◌, ◌↔◌, ℕ, IfOk, IsTrue, OnOk};
 ghost use Rattle.std.specs.Map.{keys_of};
 ghost use Rattle.json.specs.Json.{no_members, object};
 ghost use Rattle.json.specs.Value.{value_view};
-ghost use Rattle.shader_json_declarations.specs.Keys.{IsKey, IsKeyed};
+ghost use Rattle.shader_json_declarations.specs.Keys.{IsKey, IsKeyed, IsNew};
+ghost use Rattle.shader_json_declarations.specs.declared.special_types.Key.{Key};
 ghost use Rattle.shader_json_declarations.specs.SpecialTypes.{ArePredeclared, AreSpecialTypes, HasShape, IsAdded, IsDropAdded};
+ghost use Rattle.shader_json_reader.specs.Answers.{Accepts};
 ghost use Rattle.shader_json_reader.specs.Shapes.{AreDistinct, IsObject};
 
 use crate::fields::{Fields, Variant};
@@ -33,7 +35,7 @@ struct Shape {
 impl Read for Shape {
     ghost reads = { λ j shape. IsObject j (λ ms. HasShape ms shape.size shape.scalar) };
 
-    fn read(context: &mut Context, value: &Value<'_>) -> Result<Shape, Failure> {
+    fn read(context: Context, value: &Value<'_>) -> Result<Shape, Failure> {
         let fields = Fields::of(context, value)?;
         Ok(Shape {
             size: fields.optional(context, "size")?,
@@ -45,7 +47,7 @@ impl Read for Shape {
 impl Read for Key {
     ghost reads = { λ j key. IsKey j key };
 
-    fn read(context: &mut Context, value: &Value<'_>) -> Result<Key, Failure> {
+    fn read(context: Context, value: &Value<'_>) -> Result<Key, Failure> {
         let Variant { name, payload } = Variant::of(context, value)?;
         match (name, payload) {
             ("ModfResult", Some(payload)) => {
@@ -73,11 +75,13 @@ struct Predeclared {
 
 impl Predeclared {
     /// Adds a key with its type.
-    fn add(&mut self, context: &mut Context, pair: &Value<'_>) -> Result<(), Failure>
+    fn add(&mut self, context: Context, pair: &Value<'_>) -> Result<(), Failure>
         ensures stored { OnOk result (IsAdded (value_view pair.now) self.old.stored self.new.stored) }
         ensures dropped { OnOk result (IsDropAdded (value_view pair.now) self.old.dropped.keys self.new.dropped.keys) }
         ensures keys { OnOk result (AreDistinct (keys_of self.old.stored) → AreDistinct (keys_of self.new.stored)) }
         ensures scalars { OnOk result (AreDistinct self.old.dropped.keys → AreDistinct self.new.dropped.keys) }
+        ensures accepts { Accepts (λ (keyed : Key × ℕ). IsKeyed (value_view pair.now) keyed.0 keyed.1
+            × IsNew keyed.0 (keys_of self.old.stored) self.old.dropped.keys) result }
     {
         match read_pair(context, pair)? {
             (Key::Supported(key), ty) => within(0, add_entry(context, &mut self.stored, key, ty)),
@@ -87,8 +91,9 @@ impl Predeclared {
 }
 
 /// Reads a key with its type.
-fn read_pair(context: &mut Context, pair: &Value<'_>) -> Result<(Key, Handle<mark::Type>), Failure>
-    ensures { IfOk result (λ keyed. IsKeyed (value_view pair.now) keyed.0 keyed.1) }
+fn read_pair(context: Context, pair: &Value<'_>) -> Result<(Key, Handle<mark::Type>), Failure>
+    ensures reads { IfOk result (λ keyed. IsKeyed (value_view pair.now) keyed.0 keyed.1) }
+    ensures accepts { Accepts (λ (keyed : Key × ℕ). IsKeyed (value_view pair.now) keyed.0 keyed.1) result }
 {
     let wanted = "an array of 2 items, key and type";
     let Value::Array(items) = pair else {
@@ -105,26 +110,29 @@ fn read_pair(context: &mut Context, pair: &Value<'_>) -> Result<(Key, Handle<mar
 
 /// Returns whether a value is an object without members.
 fn is_empty_object(value: &Value<'_>) -> bool
-    ensures { IsTrue result → value_view value.now ≡ object no_members }
+    ensures { IsTrue result ↔ (value_view value.now ≡ object no_members) }
 {
     match value {
-        Value::Object(members) => members.is_empty(),
+        Value::Object(members) => members.as_slice().is_empty(),
         _ => false,
     }
 }
 
-impl Read for Predeclared {
-    ghost reads = { λ j types. ArePredeclared j types.stored };
+/// The predeclared types that a module records.
+struct Recorded(Map<PredeclaredType, Handle<mark::Type>>);
+
+impl Read for Recorded {
+    ghost reads = { λ j types. ArePredeclared j types.0 };
 
     /// Reads an array of pairs. An object must be empty, since the keys of this map can't be keys
     /// of JSON.
-    fn read(context: &mut Context, value: &Value<'_>) -> Result<Predeclared, Failure> {
+    fn read(context: Context, value: &Value<'_>) -> Result<Recorded, Failure> {
         let mut types = Predeclared {
             stored: Map::new(context.alloc),
             dropped: IndexSet::new(context.alloc),
         };
         if is_empty_object(value) {
-            return Ok(types);
+            return Ok(Recorded(types.stored));
         }
         let Value::Array(pairs) = value else {
             return Err(context.refused("an array of pairs, or an empty object"));
@@ -132,22 +140,22 @@ impl Read for Predeclared {
         for (index, pair) in pairs.iter().enumerate() {
             within(index, types.add(context, pair))?;
         }
-        Ok(types)
+        Ok(Recorded(types.stored))
     }
 }
 
 impl Read for SpecialTypes {
     ghost reads = { λ j special. AreSpecialTypes j special };
 
-    fn read(context: &mut Context, value: &Value<'_>) -> Result<SpecialTypes, Failure> {
+    fn read(context: Context, value: &Value<'_>) -> Result<SpecialTypes, Failure> {
         let fields = Fields::of(context, value)?;
         let ray_intersection = fields.optional(context, "ray_intersection")?;
         let ray_vertex_return = fields.optional(context, "ray_vertex_return")?;
-        let Predeclared { stored, dropped: _ } = fields.needed(context, "predeclared_types")?;
+        let Recorded(predeclared_types) = fields.needed(context, "predeclared_types")?;
         Ok(SpecialTypes {
             ray_intersection,
             ray_vertex_return,
-            predeclared_types: stored,
+            predeclared_types,
         })
     }
 }

@@ -1,45 +1,68 @@
 //! Reads types, and the bindings of arguments, results and members.
 ghost use Rattle.json.specs.Value.{value_view};
-ghost use Rattle.shader_json_declarations.specs.Types.{AreTypes, IsBinding, IsBuiltIn, IsInner, IsInnerOf, IsLength};
-ghost use Rattle.shader_json_declarations.specs.Types.{IsMember, IsSpace, IsType};
-ghost use Rattle.std.specs.Prelude.{IfOk, Some};
+ghost use Rattle.shader_json_declarations.specs.BuiltIns.{IsBuiltIn, IsFlagOf};
+ghost use Rattle.shader_json_declarations.specs.Types.{AreTypes, IsBinding, IsInner, IsInnerOf, IsLength};
+ghost use Rattle.shader_json_declarations.specs.Types.{IsMember, IsSpace, IsSpaceOf, IsType};
+ghost use Rattle.shader_json_reader.specs.Answers.{Accepts};
+ghost use Rattle.std.specs.Prelude.{◌≡◌, IfOk, None, Some, codes};
 
-use crate::built_ins::known_built_in;
 use crate::fields::{Data, Fields, Variant};
 use crate::maps::add_item;
 use crate::values::{Read, read_item};
 use json::Value;
 use shader_arena::UniqueArena;
+use shader_builtins::{built_in_named, flag_named};
 use shader_ir::{AddressSpace, ArraySize, Binding, BuiltIn, StructMember, Type, TypeInner, mark};
 use shader_json_reader::{Context, Failure};
 
 impl Read for AddressSpace {
     ghost reads = { λ j space. IsSpace j space };
 
-    fn read(context: &mut Context, value: &Value<'_>) -> Result<AddressSpace, Failure> {
+    fn read(context: Context, value: &Value<'_>) -> Result<AddressSpace, Failure> {
         let Variant { name, payload } = Variant::of(context, value)?;
-        match (name, payload) {
-            ("Storage", Some(payload)) => Ok(AddressSpace::Storage {
-                access: payload.field(context, "access")?,
-            }),
-            ("Function", None) => Ok(AddressSpace::Function),
-            ("Private", None) => Ok(AddressSpace::Private),
-            ("WorkGroup", None) => Ok(AddressSpace::WorkGroup),
-            ("Uniform", None) => Ok(AddressSpace::Uniform),
-            ("Handle", None) => Ok(AddressSpace::Handle),
-            ("Immediate", None) => Ok(AddressSpace::Immediate),
-            ("TaskPayload", None) => Ok(AddressSpace::TaskPayload),
-            ("RayPayload", None) => Ok(AddressSpace::RayPayload),
-            ("IncomingRayPayload", None) => Ok(AddressSpace::IncomingRayPayload),
-            _ => Err(context.refused("an address space")),
+        match payload {
+            Some(payload) => storage(context, name, payload),
+            None => space(context, name),
         }
+    }
+}
+
+/// Reads the address space with a payload.
+fn storage(context: Context, name: &str, payload: Data<'_, '_>) -> Result<AddressSpace, Failure>
+    ensures reads { IfOk result (IsSpaceOf name.now (Some (value_view payload.entry.value.now))) }
+    ensures accepts { Accepts (IsSpaceOf name.now (Some (value_view payload.entry.value.now))) result }
+{
+    match name {
+        "Storage" => Ok(AddressSpace::Storage {
+            access: payload.field(context, "access")?,
+        }),
+        _ => Err(context.refused("an address space")),
+    }
+}
+
+/// Reads an address space without payload.
+fn space(context: Context, name: &str) -> Result<AddressSpace, Failure>
+    ensures reads { IfOk result (IsSpaceOf name.now None) }
+    ensures accepts { Accepts (IsSpaceOf name.now None) result }
+{
+    match name {
+        "Function" => Ok(AddressSpace::Function),
+        "Private" => Ok(AddressSpace::Private),
+        "WorkGroup" => Ok(AddressSpace::WorkGroup),
+        "Uniform" => Ok(AddressSpace::Uniform),
+        "Handle" => Ok(AddressSpace::Handle),
+        "Immediate" => Ok(AddressSpace::Immediate),
+        "TaskPayload" => Ok(AddressSpace::TaskPayload),
+        "RayPayload" => Ok(AddressSpace::RayPayload),
+        "IncomingRayPayload" => Ok(AddressSpace::IncomingRayPayload),
+        _ => Err(context.refused("an address space")),
     }
 }
 
 impl Read for ArraySize {
     ghost reads = { λ j size. IsLength j size };
 
-    fn read(context: &mut Context, value: &Value<'_>) -> Result<ArraySize, Failure> {
+    fn read(context: Context, value: &Value<'_>) -> Result<ArraySize, Failure> {
         let Variant { name, payload } = Variant::of(context, value)?;
         match (name, payload) {
             ("Constant", Some(payload)) => Ok(ArraySize::Constant(payload.read(context)?)),
@@ -53,20 +76,44 @@ impl Read for ArraySize {
 impl Read for BuiltIn {
     ghost reads = { λ j builtin. IsBuiltIn j builtin };
 
-    /// Reads a built-in value. Those that naga lacks are distinguished by their JSON.
-    fn read(context: &mut Context, value: &Value<'_>) -> Result<BuiltIn, Failure> {
+    fn read(context: Context, value: &Value<'_>) -> Result<BuiltIn, Failure> {
         let Variant { name, payload } = Variant::of(context, value)?;
-        match known_built_in(name, payload) {
-            Some(known) => Ok(known),
-            None => Ok(BuiltIn::Other(context.number_of(value)?)),
+        match payload {
+            Some(payload) => {
+                let flag = flag_of(context, name, payload)?;
+                known(context, built_in_named(name, Some(flag)))
+            }
+            None => known(context, built_in_named(name, None)),
         }
+    }
+}
+
+/// Returns the built-in value that was found, or rejects the value if naga has none.
+fn known(context: Context, found: Option<BuiltIn>) -> Result<BuiltIn, Failure>
+    ensures reads { IfOk result (λ built_in. found ≡ Some built_in) }
+    ensures accepts { Accepts (λ built_in. found ≡ Some built_in) result }
+{
+    match found {
+        Some(built_in) => Ok(built_in),
+        None => Err(context.refused("a built-in value")),
+    }
+}
+
+/// Reads the flag that is the payload of a built-in value with that name.
+fn flag_of(context: Context, name: &str, payload: Data<'_, '_>) -> Result<bool, Failure>
+    ensures reads { IfOk result (λ flag. IsFlagOf name.now (value_view payload.entry.value.now) flag) }
+    ensures accepts { Accepts (IsFlagOf name.now (value_view payload.entry.value.now)) result }
+{
+    match flag_named(name) {
+        Some(field) => payload.field(context, field),
+        None => Err(context.refused("a built-in value")),
     }
 }
 
 impl Read for Binding {
     ghost reads = { λ j binding. IsBinding j binding };
 
-    fn read(context: &mut Context, value: &Value<'_>) -> Result<Binding, Failure> {
+    fn read(context: Context, value: &Value<'_>) -> Result<Binding, Failure> {
         let Variant { name, payload } = Variant::of(context, value)?;
         match (name, payload) {
             ("BuiltIn", Some(payload)) => Ok(Binding::BuiltIn(payload.read(context)?)),
@@ -81,7 +128,7 @@ impl Read for Binding {
 impl Read for StructMember {
     ghost reads = { λ j member. IsMember j member };
 
-    fn read(context: &mut Context, value: &Value<'_>) -> Result<StructMember, Failure> {
+    fn read(context: Context, value: &Value<'_>) -> Result<StructMember, Failure> {
         let fields = Fields::of(context, value)?;
         Ok(StructMember {
             name: fields.optional(context, "name")?,
@@ -95,117 +142,174 @@ impl Read for StructMember {
 impl Read for TypeInner {
     ghost reads = { λ j inner. IsInner j inner };
 
-    fn read(context: &mut Context, value: &Value<'_>) -> Result<TypeInner, Failure> {
+    fn read(context: Context, value: &Value<'_>) -> Result<TypeInner, Failure> {
         let Variant { name, payload } = Variant::of(context, value)?;
         match payload {
-            Some(payload) => of_scalars(context, name, payload),
+            Some(payload) => inner(context, name, payload),
             None => Err(context.refused("a type, with its fields")),
         }
     }
 }
 
-/// Reads a type of scalars alone, or else one that `of_types` reads.
-fn of_scalars(
-    context: &mut Context,
-    name: &str,
-    payload: Data<'_, '_>,
-) -> Result<TypeInner, Failure>
-    ensures { IfOk result (λ inner. IsInnerOf name.now (Some (value_view payload.entry.value.now)) inner) }
+/// Reads the type of that name.
+fn inner(context: Context, name: &str, payload: Data<'_, '_>) -> Result<TypeInner, Failure>
+    ensures reads { IfOk result (IsInnerOf name.now (Some (value_view payload.entry.value.now))) }
+    ensures accepts { Accepts (IsInnerOf name.now (Some (value_view payload.entry.value.now))) result }
 {
     match name {
         "Scalar" => Ok(TypeInner::Scalar(payload.read(context)?)),
-        "Vector" => {
-            let (size, scalar) = payload.pair(context, "size", "scalar")?;
-            Ok(TypeInner::Vector { size, scalar })
-        }
-        "Matrix" => {
-            let (columns, rows, scalar) = payload.triple(context, "columns", "rows", "scalar")?;
-            Ok(TypeInner::Matrix {
-                columns,
-                rows,
-                scalar,
-            })
-        }
-        "CooperativeMatrix" => {
-            let fields = payload.fields(context)?;
-            let (columns, rows, scalar) = fields.triple(context, "columns", "rows", "scalar")?;
-            Ok(TypeInner::CooperativeMatrix {
-                columns,
-                rows,
-                scalar,
-                role: fields.needed(context, "role")?,
-            })
-        }
+        "Vector" => vector(context, payload),
+        "Matrix" => matrix(context, payload),
+        "CooperativeMatrix" => cooperative_matrix(context, payload),
         "Atomic" => Ok(TypeInner::Atomic(payload.read(context)?)),
-        _ => of_types(context, name, payload),
-    }
-}
-
-/// Reads a pointer or a type composed of other types, or else one that `resource` reads.
-fn of_types(context: &mut Context, name: &str, payload: Data<'_, '_>) -> Result<TypeInner, Failure>
-    ensures { IfOk result (λ inner. IsInnerOf name.now (Some (value_view payload.entry.value.now)) inner) }
-{
-    match name {
-        "Pointer" => {
-            let (base, space) = payload.pair(context, "base", "space")?;
-            Ok(TypeInner::Pointer { base, space })
-        }
-        "ValuePointer" => {
-            let fields = payload.fields(context)?;
-            let size = fields.optional(context, "size")?;
-            let (scalar, space) = fields.pair(context, "scalar", "space")?;
-            Ok(TypeInner::ValuePointer {
-                size,
-                scalar,
-                space,
-            })
-        }
-        "Array" => {
-            let (base, size, stride) = payload.triple(context, "base", "size", "stride")?;
-            Ok(TypeInner::Array { base, size, stride })
-        }
-        "Struct" => {
-            let (members, span) = payload.pair(context, "members", "span")?;
-            Ok(TypeInner::Struct { members, span })
-        }
-        _ => resource(context, name, payload),
-    }
-}
-
-/// Reads the type of a resource.
-fn resource(context: &mut Context, name: &str, payload: Data<'_, '_>) -> Result<TypeInner, Failure>
-    ensures { IfOk result (λ inner. IsInnerOf name.now (Some (value_view payload.entry.value.now)) inner) }
-{
-    match name {
-        "Image" => {
-            let (dim, arrayed, class) = payload.triple(context, "dim", "arrayed", "class")?;
-            Ok(TypeInner::Image {
-                dim,
-                arrayed,
-                class,
-            })
-        }
-        "Sampler" => Ok(TypeInner::Sampler {
-            comparison: payload.field(context, "comparison")?,
-        }),
-        "AccelerationStructure" => Ok(TypeInner::AccelerationStructure {
-            vertex_return: payload.field(context, "vertex_return")?,
-        }),
-        "RayQuery" => Ok(TypeInner::RayQuery {
-            vertex_return: payload.field(context, "vertex_return")?,
-        }),
-        "BindingArray" => {
-            let (base, size) = payload.pair(context, "base", "size")?;
-            Ok(TypeInner::BindingArray { base, size })
-        }
+        "Pointer" => pointer(context, payload),
+        "ValuePointer" => value_pointer(context, payload),
+        "Array" => array(context, payload),
+        "Struct" => structure(context, payload),
+        "Image" => image(context, payload),
+        "Sampler" => sampler(context, payload),
+        "AccelerationStructure" => acceleration_structure(context, payload),
+        "RayQuery" => ray_query(context, payload),
+        "BindingArray" => binding_array(context, payload),
         _ => Err(context.refused("a type")),
     }
+}
+
+/// Reads a vector.
+fn vector(context: Context, payload: Data<'_, '_>) -> Result<TypeInner, Failure>
+    ensures reads { IfOk result (IsInnerOf (codes "Vector") (Some (value_view payload.entry.value.now))) }
+    ensures accepts { Accepts (IsInnerOf (codes "Vector") (Some (value_view payload.entry.value.now))) result }
+{
+    let (size, scalar) = payload.pair(context, "size", "scalar")?;
+    Ok(TypeInner::Vector { size, scalar })
+}
+
+/// Reads a matrix.
+fn matrix(context: Context, payload: Data<'_, '_>) -> Result<TypeInner, Failure>
+    ensures reads { IfOk result (IsInnerOf (codes "Matrix") (Some (value_view payload.entry.value.now))) }
+    ensures accepts { Accepts (IsInnerOf (codes "Matrix") (Some (value_view payload.entry.value.now))) result }
+{
+    let (columns, rows, scalar) = payload.triple(context, "columns", "rows", "scalar")?;
+    Ok(TypeInner::Matrix {
+        columns,
+        rows,
+        scalar,
+    })
+}
+
+/// Reads a cooperative matrix.
+fn cooperative_matrix(context: Context, payload: Data<'_, '_>) -> Result<TypeInner, Failure>
+    ensures reads { IfOk result (IsInnerOf (codes "CooperativeMatrix") (Some (value_view payload.entry.value.now))) }
+    ensures accepts { Accepts (IsInnerOf (codes "CooperativeMatrix") (Some (value_view payload.entry.value.now))) result }
+{
+    let fields = payload.fields(context)?;
+    let (columns, rows, scalar) = fields.triple(context, "columns", "rows", "scalar")?;
+    Ok(TypeInner::CooperativeMatrix {
+        columns,
+        rows,
+        scalar,
+        role: fields.needed(context, "role")?,
+    })
+}
+
+/// Reads a pointer.
+fn pointer(context: Context, payload: Data<'_, '_>) -> Result<TypeInner, Failure>
+    ensures reads { IfOk result (IsInnerOf (codes "Pointer") (Some (value_view payload.entry.value.now))) }
+    ensures accepts { Accepts (IsInnerOf (codes "Pointer") (Some (value_view payload.entry.value.now))) result }
+{
+    let (base, space) = payload.pair(context, "base", "space")?;
+    Ok(TypeInner::Pointer { base, space })
+}
+
+/// Reads a pointer to a scalar or a vector that is no type of its own.
+fn value_pointer(context: Context, payload: Data<'_, '_>) -> Result<TypeInner, Failure>
+    ensures reads { IfOk result (IsInnerOf (codes "ValuePointer") (Some (value_view payload.entry.value.now))) }
+    ensures accepts { Accepts (IsInnerOf (codes "ValuePointer") (Some (value_view payload.entry.value.now))) result }
+{
+    let fields = payload.fields(context)?;
+    let size = fields.optional(context, "size")?;
+    let (scalar, space) = fields.pair(context, "scalar", "space")?;
+    Ok(TypeInner::ValuePointer {
+        size,
+        scalar,
+        space,
+    })
+}
+
+/// Reads an array.
+fn array(context: Context, payload: Data<'_, '_>) -> Result<TypeInner, Failure>
+    ensures reads { IfOk result (IsInnerOf (codes "Array") (Some (value_view payload.entry.value.now))) }
+    ensures accepts { Accepts (IsInnerOf (codes "Array") (Some (value_view payload.entry.value.now))) result }
+{
+    let (base, size, stride) = payload.triple(context, "base", "size", "stride")?;
+    Ok(TypeInner::Array { base, size, stride })
+}
+
+/// Reads a struct.
+fn structure(context: Context, payload: Data<'_, '_>) -> Result<TypeInner, Failure>
+    ensures reads { IfOk result (IsInnerOf (codes "Struct") (Some (value_view payload.entry.value.now))) }
+    ensures accepts { Accepts (IsInnerOf (codes "Struct") (Some (value_view payload.entry.value.now))) result }
+{
+    let (members, span) = payload.pair(context, "members", "span")?;
+    Ok(TypeInner::Struct { members, span })
+}
+
+/// Reads an image.
+fn image(context: Context, payload: Data<'_, '_>) -> Result<TypeInner, Failure>
+    ensures reads { IfOk result (IsInnerOf (codes "Image") (Some (value_view payload.entry.value.now))) }
+    ensures accepts { Accepts (IsInnerOf (codes "Image") (Some (value_view payload.entry.value.now))) result }
+{
+    let (dim, arrayed, class) = payload.triple(context, "dim", "arrayed", "class")?;
+    Ok(TypeInner::Image {
+        dim,
+        arrayed,
+        class,
+    })
+}
+
+/// Reads a sampler.
+fn sampler(context: Context, payload: Data<'_, '_>) -> Result<TypeInner, Failure>
+    ensures reads { IfOk result (IsInnerOf (codes "Sampler") (Some (value_view payload.entry.value.now))) }
+    ensures accepts { Accepts (IsInnerOf (codes "Sampler") (Some (value_view payload.entry.value.now))) result }
+{
+    Ok(TypeInner::Sampler {
+        comparison: payload.field(context, "comparison")?,
+    })
+}
+
+/// Reads an acceleration structure.
+fn acceleration_structure(context: Context, payload: Data<'_, '_>) -> Result<TypeInner, Failure>
+    ensures reads { IfOk result (IsInnerOf (codes "AccelerationStructure") (Some (value_view payload.entry.value.now))) }
+    ensures accepts { Accepts (IsInnerOf (codes "AccelerationStructure") (Some (value_view payload.entry.value.now))) result }
+{
+    Ok(TypeInner::AccelerationStructure {
+        vertex_return: payload.field(context, "vertex_return")?,
+    })
+}
+
+/// Reads a ray query.
+fn ray_query(context: Context, payload: Data<'_, '_>) -> Result<TypeInner, Failure>
+    ensures reads { IfOk result (IsInnerOf (codes "RayQuery") (Some (value_view payload.entry.value.now))) }
+    ensures accepts { Accepts (IsInnerOf (codes "RayQuery") (Some (value_view payload.entry.value.now))) result }
+{
+    Ok(TypeInner::RayQuery {
+        vertex_return: payload.field(context, "vertex_return")?,
+    })
+}
+
+/// Reads a binding array.
+fn binding_array(context: Context, payload: Data<'_, '_>) -> Result<TypeInner, Failure>
+    ensures reads { IfOk result (IsInnerOf (codes "BindingArray") (Some (value_view payload.entry.value.now))) }
+    ensures accepts { Accepts (IsInnerOf (codes "BindingArray") (Some (value_view payload.entry.value.now))) result }
+{
+    let (base, size) = payload.pair(context, "base", "size")?;
+    Ok(TypeInner::BindingArray { base, size })
 }
 
 impl Read for Type {
     ghost reads = { λ j ty. IsType j ty };
 
-    fn read(context: &mut Context, value: &Value<'_>) -> Result<Type, Failure> {
+    fn read(context: Context, value: &Value<'_>) -> Result<Type, Failure> {
         let fields = Fields::of(context, value)?;
         Ok(Type {
             name: fields.optional(context, "name")?,
@@ -217,10 +321,7 @@ impl Read for Type {
 impl Read for UniqueArena<Type, mark::Type> {
     ghost reads = { λ j types. AreTypes j types };
 
-    fn read(
-        context: &mut Context,
-        value: &Value<'_>,
-    ) -> Result<UniqueArena<Type, mark::Type>, Failure> {
+    fn read(context: Context, value: &Value<'_>) -> Result<UniqueArena<Type, mark::Type>, Failure> {
         let Value::Array(items) = value else {
             return Err(context.refused("an array"));
         };

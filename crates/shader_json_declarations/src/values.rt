@@ -2,10 +2,11 @@
 ghost use Rattle.std.specs.Prelude.{◌<◌, IfOk};
 ghost use Rattle.json.specs.Json.{Json};
 ghost use Rattle.json.specs.Value.{value_view};
+ghost use Rattle.shader_json_declarations.specs.Arenas.{IsArena};
 ghost use Rattle.shader_json_declarations.specs.Scalars.{IsRange};
 ghost use Rattle.shader_json_reader.specs.Numbers.{IsCount, IsHandle, IsI16, IsI32, IsI64, IsSigned, IsText, IsTruth};
 ghost use Rattle.shader_json_reader.specs.Numbers.{IsU16, IsU32, IsU64, IsU8, IsUnsigned};
-ghost use Rattle.shader_json_reader.specs.Answers.{Answers};
+ghost use Rattle.shader_json_reader.specs.Answers.{Accepts};
 ghost use Rattle.shader_json_reader.specs.Shapes.{IsList, IsNullable};
 
 use crate::fields::Fields;
@@ -24,8 +25,9 @@ pub trait Read: Sized {
     /// # Errors
     ///
     /// An allocation failure, or a value that naga doesn't print. Fields that aren't read may hold anything.
-    fn read(context: &mut Context, value: &Value<'_>) -> Result<Self, Failure>
-        ensures reads { IfOk result (λ read. reads (value_view value.now) read) };
+    fn read(context: Context, value: &Value<'_>) -> Result<Self, Failure>
+        ensures reads { IfOk result (λ read. reads (value_view value.now) read) }
+        ensures accepts { Accepts (reads (value_view value.now)) result };
 }
 
 /// Reads the item of an array at that index.
@@ -33,20 +35,17 @@ pub trait Read: Sized {
 /// # Errors
 ///
 /// A value that can't be read.
-pub fn read_item<T: Read>(
-    context: &mut Context,
-    index: usize,
-    value: &Value<'_>,
-) -> Result<T, Failure>
-    ensures { IfOk result (λ read. T.reads (value_view value.now) read) }
+pub fn read_item<T: Read>(context: Context, index: usize, value: &Value<'_>) -> Result<T, Failure>
+    ensures reads { IfOk result (λ read. T.reads (value_view value.now) read) }
+    ensures accepts { Accepts (T.reads (value_view value.now)) result }
 {
     within(index, T::read(context, value))
 }
 
 /// Reads an integer from 0 to `most`.
-fn integer(context: &Context, value: &Value<'_>, most: u64) -> Result<u64, Failure>
+fn integer(context: Context, value: &Value<'_>, most: u64) -> Result<u64, Failure>
     ensures reads { IfOk result (λ number. IsUnsigned most (value_view value.now) number) }
-    ensures answers { Answers (IsUnsigned most) (value_view value.now) result }
+    ensures accepts { Accepts (IsUnsigned most (value_view value.now)) result }
 {
     match unsigned(value, most) {
         Some(number) => Ok(number),
@@ -57,10 +56,7 @@ fn integer(context: &Context, value: &Value<'_>, most: u64) -> Result<u64, Failu
 impl Read for u8 {
     ghost reads = { λ j number. IsU8 j number };
 
-    fn read(context: &mut Context, value: &Value<'_>) -> Result<u8, Failure>
-        ensures reads { IfOk result (λ number. IsU8 (value_view value.now) number) }
-        ensures answers { Answers IsU8 (value_view value.now) result }
-    {
+    fn read(context: Context, value: &Value<'_>) -> Result<u8, Failure> {
         Ok(integer(context, value, 255)? as u8)
     }
 }
@@ -68,10 +64,7 @@ impl Read for u8 {
 impl Read for u16 {
     ghost reads = { λ j number. IsU16 j number };
 
-    fn read(context: &mut Context, value: &Value<'_>) -> Result<u16, Failure>
-        ensures reads { IfOk result (λ number. IsU16 (value_view value.now) number) }
-        ensures answers { Answers IsU16 (value_view value.now) result }
-    {
+    fn read(context: Context, value: &Value<'_>) -> Result<u16, Failure> {
         Ok(integer(context, value, 65_535)? as u16)
     }
 }
@@ -79,10 +72,7 @@ impl Read for u16 {
 impl Read for u32 {
     ghost reads = { λ j number. IsU32 j number };
 
-    fn read(context: &mut Context, value: &Value<'_>) -> Result<u32, Failure>
-        ensures reads { IfOk result (λ number. IsU32 (value_view value.now) number) }
-        ensures answers { Answers IsU32 (value_view value.now) result }
-    {
+    fn read(context: Context, value: &Value<'_>) -> Result<u32, Failure> {
         Ok(integer(context, value, 4_294_967_295)? as u32)
     }
 }
@@ -90,23 +80,20 @@ impl Read for u32 {
 impl Read for u64 {
     ghost reads = { λ j number. IsU64 j number };
 
-    fn read(context: &mut Context, value: &Value<'_>) -> Result<u64, Failure>
-        ensures reads { IfOk result (λ number. IsU64 (value_view value.now) number) }
-        ensures answers { Answers IsU64 (value_view value.now) result }
-    {
+    fn read(context: Context, value: &Value<'_>) -> Result<u64, Failure> {
         integer(context, value, u64::MAX)
     }
 }
 
 /// Reads an integer from `least` to `most`, which isn't negative.
 fn signed_integer(
-    context: &Context,
+    context: Context,
     value: &Value<'_>,
     least: i64,
     most: i64,
 ) -> Result<i64, Failure>
     ensures reads { IfOk result (λ number. IsSigned least most (value_view value.now) number) }
-    ensures answers { Answers (IsSigned least most) (value_view value.now) result }
+    ensures accepts { Accepts (IsSigned least most (value_view value.now)) result }
 {
     match signed(value, least, most) {
         Some(number) => Ok(number),
@@ -117,10 +104,7 @@ fn signed_integer(
 impl Read for i16 {
     ghost reads = { λ j number. IsI16 j number };
 
-    fn read(context: &mut Context, value: &Value<'_>) -> Result<i16, Failure>
-        ensures reads { IfOk result (λ number. IsI16 (value_view value.now) number) }
-        ensures answers { Answers IsI16 (value_view value.now) result }
-    {
+    fn read(context: Context, value: &Value<'_>) -> Result<i16, Failure> {
         Ok(signed_integer(context, value, -32_768, 32_767)? as i16)
     }
 }
@@ -128,10 +112,7 @@ impl Read for i16 {
 impl Read for i32 {
     ghost reads = { λ j number. IsI32 j number };
 
-    fn read(context: &mut Context, value: &Value<'_>) -> Result<i32, Failure>
-        ensures reads { IfOk result (λ number. IsI32 (value_view value.now) number) }
-        ensures answers { Answers IsI32 (value_view value.now) result }
-    {
+    fn read(context: Context, value: &Value<'_>) -> Result<i32, Failure> {
         Ok(signed_integer(context, value, -2_147_483_648, 2_147_483_647)? as i32)
     }
 }
@@ -139,10 +120,7 @@ impl Read for i32 {
 impl Read for i64 {
     ghost reads = { λ j number. IsI64 j number };
 
-    fn read(context: &mut Context, value: &Value<'_>) -> Result<i64, Failure>
-        ensures reads { IfOk result (λ number. IsI64 (value_view value.now) number) }
-        ensures answers { Answers IsI64 (value_view value.now) result }
-    {
+    fn read(context: Context, value: &Value<'_>) -> Result<i64, Failure> {
         signed_integer(context, value, i64::MIN, i64::MAX)
     }
 }
@@ -150,10 +128,7 @@ impl Read for i64 {
 impl Read for bool {
     ghost reads = { λ j truth. IsTruth j truth };
 
-    fn read(context: &mut Context, value: &Value<'_>) -> Result<bool, Failure>
-        ensures reads { IfOk result (λ truth. IsTruth (value_view value.now) truth) }
-        ensures answers { Answers IsTruth (value_view value.now) result }
-    {
+    fn read(context: Context, value: &Value<'_>) -> Result<bool, Failure> {
         match value.as_bool() {
             Some(read) => Ok(read),
             None => Err(context.refused("true or false")),
@@ -164,10 +139,7 @@ impl Read for bool {
 impl Read for Name {
     ghost reads = { λ j name. IsText j name };
 
-    fn read(context: &mut Context, value: &Value<'_>) -> Result<Name, Failure>
-        ensures reads { IfOk result (λ name. IsText (value_view value.now) name) }
-        ensures answers { Answers IsText (value_view value.now) result }
-    {
+    fn read(context: Context, value: &Value<'_>) -> Result<Name, Failure> {
         match value.as_str() {
             Some(text) => Ok(Name::from(text.to_string(context.alloc)?)),
             None => Err(context.refused("a string")),
@@ -178,10 +150,7 @@ impl Read for Name {
 impl Read for Count {
     ghost reads = { λ j count. IsCount j count };
 
-    fn read(context: &mut Context, value: &Value<'_>) -> Result<Count, Failure>
-        ensures reads { IfOk result (λ count. IsCount (value_view value.now) count) }
-        ensures answers { Answers IsCount (value_view value.now) result }
-    {
+    fn read(context: Context, value: &Value<'_>) -> Result<Count, Failure> {
         let count = match unsigned(value, 4_294_967_295) {
             Some(number) => Count::new(number as u32),
             None => None,
@@ -199,10 +168,10 @@ const LAST_POSITION: u64 = 4_294_967_294;
 impl<M> Read for Handle<M> {
     ghost reads = { λ j handle. IsHandle j handle };
 
-    fn read(context: &mut Context, value: &Value<'_>) -> Result<Handle<M>, Failure>
+    fn read(context: Context, value: &Value<'_>) -> Result<Handle<M>, Failure>
         ensures reads { IfOk result (λ handle. IsHandle (value_view value.now) handle) }
         ensures bound { IfOk result (λ handle. handle < 4294967295) }
-        ensures answers { Answers IsHandle (value_view value.now) result }
+        ensures accepts { Accepts (IsHandle (value_view value.now)) result }
     {
         let position = integer(context, value, LAST_POSITION)?;
         Ok(Handle::from_index(position as u32))
@@ -212,7 +181,7 @@ impl<M> Read for Handle<M> {
 impl<M> Read for Range<M> {
     ghost reads = { λ j range. IsRange j range };
 
-    fn read(context: &mut Context, value: &Value<'_>) -> Result<Range<M>, Failure> {
+    fn read(context: Context, value: &Value<'_>) -> Result<Range<M>, Failure> {
         let fields = Fields::of(context, value)?;
         let (start, end) = fields.pair(context, "start", "end")?;
         fields.only(context, "start", "end", "no field but start and end")?;
@@ -223,7 +192,7 @@ impl<M> Read for Range<M> {
 impl<T: Read> Read for Option<T> {
     ghost reads = { λ j read. IsNullable T.reads j read };
 
-    fn read(context: &mut Context, value: &Value<'_>) -> Result<Option<T>, Failure> {
+    fn read(context: Context, value: &Value<'_>) -> Result<Option<T>, Failure> {
         if value.is_null() {
             return Ok(None);
         }
@@ -234,35 +203,34 @@ impl<T: Read> Read for Option<T> {
     }
 }
 
-impl<T: Read + Drop> Read for Vec<T> {
-    ghost reads = { λ j list. IsList T.reads j list.items };
-
-    fn read(context: &mut Context, value: &Value<'_>) -> Result<Vec<T>, Failure> {
-        let Value::Array(items) = value else {
-            return Err(context.refused("an array"));
-        };
-        let mut list = Vec::with_capacity(context.alloc, items.len())?;
-        for (index, item) in items.iter().enumerate() {
-            let read = read_item(context, index, item)?;
-            list.push(read)?;
-        }
-        Ok(list)
-    }
-}
-
 impl<T: Read + Drop> Read for Items<T> {
     ghost reads = { λ j items. IsList T.reads j items };
 
-    fn read(context: &mut Context, value: &Value<'_>) -> Result<Items<T>, Failure> {
-        let list: Vec<T> = Vec::read(context, value)?;
-        Ok(Items::from(list))
+    fn read(context: Context, value: &Value<'_>) -> Result<Items<T>, Failure> {
+        Ok(Items::from(list(context, value)?))
     }
 }
 
-impl<T: Read + Drop, M> Read for Arena<T, M> {
-    ghost reads = { λ j items. IsList T.reads j items };
+/// Reads the items of an array.
+fn list<T: Read + Drop>(context: Context, value: &Value<'_>) -> Result<Vec<T>, Failure>
+    ensures reads { IfOk result (λ list. IsList T.reads (value_view value.now) list.items) }
+    ensures accepts { Accepts (IsList T.reads (value_view value.now)) result }
+{
+    let Value::Array(items) = value else {
+        return Err(context.refused("an array"));
+    };
+    let mut list = Vec::with_capacity(context.alloc, items.len())?;
+    for (index, item) in items.iter().enumerate() {
+        let read = read_item(context, index, item)?;
+        list.push(read)?;
+    }
+    Ok(list)
+}
 
-    fn read(context: &mut Context, value: &Value<'_>) -> Result<Arena<T, M>, Failure> {
+impl<T: Read + Drop, M> Read for Arena<T, M> {
+    ghost reads = { λ j items. IsArena T.reads j items };
+
+    fn read(context: Context, value: &Value<'_>) -> Result<Arena<T, M>, Failure> {
         let Value::Array(items) = value else {
             return Err(context.refused("an array"));
         };

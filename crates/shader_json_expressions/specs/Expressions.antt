@@ -8,7 +8,7 @@ use Rattle.shader_json_reader.specs.Shapes.{IsVariant, IsUnit, IsNewtype, IsStru
 use Rattle.shader_json_declarations.specs.Scalars.{IsCooperativeSize, IsKind, IsRole, IsSize}
 use Rattle.shader_json_expressions.specs.Literals.{IsLiteral}
 use Rattle.shader_json_expressions.specs.Operators.{IsAxis, IsBinaryOperator, IsComponent, IsControl, IsBuiltinFunction, IsLevel, IsQuery}
-use Rattle.shader_json_expressions.specs.Operators.{IsRelational, IsTile, IsUnaryOperator}
+use Rattle.shader_json_expressions.specs.Operators.{IsPattern, IsRelational, IsTile, IsUnaryOperator}
 
 abbrev pub IsExpressionOf : List ℕ → Option Json → Expression → Type 0
 IsExpressionOf name payload (e.Literal literal) = IsNewtype (codes "Literal") name payload (λ j. IsLiteral j literal)
@@ -25,7 +25,7 @@ IsExpressionOf name payload (e.Splat size value) = IsStruct (codes "Splat") name
     (λ ms. HasField IsSize (codes "size") ms size × HasField IsHandle (codes "value") ms value)
 IsExpressionOf name payload (e.Swizzle size vector pattern) = IsStruct (codes "Swizzle") name payload
     (λ ms. HasField IsSize (codes "size") ms size × HasField IsHandle (codes "vector") ms vector
-    × HasField (IsList IsComponent) (codes "pattern") ms pattern)
+    × HasField IsPattern (codes "pattern") ms pattern)
 IsExpressionOf name payload (e.FunctionArgument number) = IsNewtype (codes "FunctionArgument") name payload (λ j. IsU32 j number)
 IsExpressionOf name payload (e.GlobalVariable handle) = IsNewtype (codes "GlobalVariable") name payload (λ j. IsHandle j handle)
 IsExpressionOf name payload (e.LocalVariable handle) = IsNewtype (codes "LocalVariable") name payload (λ j. IsHandle j handle)

@@ -1,4 +1,5 @@
 pub mod Expressions
+pub mod Groups
 pub mod Literals
 pub mod Names
 pub mod Operators

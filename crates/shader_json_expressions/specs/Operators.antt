@@ -1,5 +1,5 @@
 -- Operators, built-in functions and modes of expressions in the JSON of modules.
-use Rattle.std.specs.Prelude.{◌≡◌, ℕ, List, Option, MatchOption, codes}
+use Rattle.std.specs.Prelude.{◌≡◌, ℕ, List, length, Option, codes}
 use Rattle.json.specs.Json.{Json, string}
 use Rattle.shader_ir.specs.declared.expression.CooperativeData.{CooperativeData}
 use Rattle.shader_ir.specs.declared.expression.ImageQuery.{ImageQuery}
@@ -14,7 +14,7 @@ use Rattle.shader_ir.specs.declared.operators.RelationalFunction.{RelationalFunc
 use Rattle.shader_ir.specs.declared.operators.SwizzleComponent.{SwizzleComponent}
 use Rattle.shader_ir.specs.declared.operators.UnaryOperator.{UnaryOperator}
 use Rattle.shader_json_reader.specs.Numbers.{IsHandle, IsTruth}
-use Rattle.shader_json_reader.specs.Shapes.{IsObject, IsVariant, IsUnit, IsNewtype, IsStruct, HasField, MayHaveField}
+use Rattle.shader_json_reader.specs.Shapes.{IsObject, IsVariant, IsUnit, IsNewtype, IsStruct, IsList, HasField, MayHaveField}
 use Rattle.shader_json_expressions.specs.Names.{unary_name, binary_name, axis_name, control_name, relational_name, component_name}
 use Rattle.shader_json_expressions.specs.Names.{function_name}
 
@@ -35,6 +35,10 @@ IsRelational j fun = j ≡ string (relational_name fun)
 
 abbrev pub IsComponent : Json → SwizzleComponent → Type 0
 IsComponent j component = j ≡ string (component_name component)
+
+-- the four components that a swizzle takes of a vector
+abbrev pub IsPattern : Json → List SwizzleComponent → Type 0
+IsPattern j pattern = IsList IsComponent j pattern × (length pattern ≡ 4)
 
 abbrev pub IsBuiltinFunction : Json → MathFunction → Type 0
 IsBuiltinFunction j fun = j ≡ string (function_name fun)

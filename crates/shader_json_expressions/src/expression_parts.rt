@@ -10,7 +10,7 @@ use shader_json_reader::{Context, Failure};
 impl Read for Code<SampleLevel> {
     ghost reads = { λ j level. IsLevel j level.0 };
 
-    fn read(context: &mut Context, value: &Value<'_>) -> Result<Code<SampleLevel>, Failure> {
+    fn read(context: Context, value: &Value<'_>) -> Result<Code<SampleLevel>, Failure> {
         let Variant { name, payload } = Variant::of(context, value)?;
         let found = match (name, payload) {
             ("Auto", None) => SampleLevel::Auto,
@@ -30,7 +30,7 @@ impl Read for Code<SampleLevel> {
 impl Read for Code<ImageQuery> {
     ghost reads = { λ j query. IsQuery j query.0 };
 
-    fn read(context: &mut Context, value: &Value<'_>) -> Result<Code<ImageQuery>, Failure> {
+    fn read(context: Context, value: &Value<'_>) -> Result<Code<ImageQuery>, Failure> {
         let Variant { name, payload } = Variant::of(context, value)?;
         let found = match (name, payload) {
             ("Size", Some(payload)) => ImageQuery::Size {
@@ -52,7 +52,7 @@ pub struct Tile(pub CooperativeData);
 impl Read for Tile {
     ghost reads = { λ j tile. IsTile j tile.0 };
 
-    fn read(context: &mut Context, value: &Value<'_>) -> Result<Tile, Failure> {
+    fn read(context: Context, value: &Value<'_>) -> Result<Tile, Failure> {
         let fields = Fields::of(context, value)?;
         let (pointer, stride, row_major) = fields.triple(
             context,

@@ -1,9 +1,11 @@
 //! Reads expressions.
-ghost use Rattle.std.specs.Prelude.{IfOk, Some, codes};
+ghost use Rattle.std.specs.Prelude.{◌≤◌, IfOk, Some, codes};
 ghost use Rattle.json.specs.Json.{object};
 ghost use Rattle.json.specs.Value.{members_view, value_view};
 ghost use Rattle.shader_json_expressions.specs.Expressions.{IsExpression, IsExpressionOf};
-ghost use Rattle.shader_json_reader.specs.Shapes.{IsList};
+ghost use Rattle.shader_json_expressions.specs.Groups.{group_of};
+ghost use Rattle.shader_json_declarations.specs.Arenas.{IsArena};
+ghost use Rattle.shader_json_reader.specs.Answers.{Accepts};
 
 use crate::code::Code;
 use crate::expression_parts::Tile;
@@ -19,9 +21,9 @@ use shader_json_reader::{Context, Failure, within};
 pub struct Expressions(pub Arena<Expression, mark::Expression>);
 
 impl Read for Expressions {
-    ghost reads = { λ j expressions. IsList IsExpression j expressions.0 };
+    ghost reads = { λ j expressions. IsArena IsExpression j expressions.0 };
 
-    fn read(context: &mut Context, value: &Value<'_>) -> Result<Expressions, Failure> {
+    fn read(context: Context, value: &Value<'_>) -> Result<Expressions, Failure> {
         let Value::Array(items) = value else {
             return Err(context.refused("an array"));
         };
@@ -38,12 +40,9 @@ impl Read for Expressions {
 }
 
 /// Reads the expression of this index.
-fn expression_at(
-    context: &mut Context,
-    index: usize,
-    value: &Value<'_>,
-) -> Result<Expression, Failure>
-    ensures { IfOk result (λ e. IsExpression (value_view value.now) e) }
+fn expression_at(context: Context, index: usize, value: &Value<'_>) -> Result<Expression, Failure>
+    ensures reads { IfOk result (λ e. IsExpression (value_view value.now) e) }
+    ensures accepts { Accepts (IsExpression (value_view value.now)) result }
 {
     within(index, read_expression(context, value))
 }
@@ -53,21 +52,23 @@ fn expression_at(
 /// # Errors
 ///
 /// An allocation failure, or a value that is no expression.
-pub fn read_expression(context: &mut Context, value: &Value<'_>) -> Result<Expression, Failure>
-    ensures { IfOk result (λ e. IsExpression (value_view value.now) e) }
+pub fn read_expression(context: Context, value: &Value<'_>) -> Result<Expression, Failure>
+    ensures reads { IfOk result (λ e. IsExpression (value_view value.now) e) }
+    ensures accepts { Accepts (IsExpression (value_view value.now)) result }
 {
     let Variant { name, payload } = Variant::of(context, value)?;
     match (name, payload) {
+        (_, Some(payload)) => leaf(context, name, payload),
         ("RayQueryProceedResult", None) => Ok(Expression::RayQueryProceedResult),
         ("SubgroupBallotResult", None) => Ok(Expression::SubgroupBallotResult),
-        (_, Some(payload)) => leaf(context, name, payload),
         _ => Err(context.refused("an expression")),
     }
 }
 
 /// Reads an expression without operands, or else one that `composite` reads.
-fn leaf(context: &mut Context, name: &str, payload: Data<'_, '_>) -> Result<Expression, Failure>
-    ensures { IfOk result (λ e. IsExpressionOf name.now (Some (value_view payload.entry.value.now)) e) }
+fn leaf(context: Context, name: &str, payload: Data<'_, '_>) -> Result<Expression, Failure>
+    ensures reads { IfOk result (λ e. IsExpressionOf name.now (Some (value_view payload.entry.value.now)) e) }
+    ensures accepts { Accepts (IsExpressionOf name.now (Some (value_view payload.entry.value.now))) result }
 {
     match name {
         "Literal" => Ok(Expression::Literal(payload.read::<Code<Literal>>(context)?.0)),
@@ -94,12 +95,9 @@ fn leaf(context: &mut Context, name: &str, payload: Data<'_, '_>) -> Result<Expr
 
 /// Reads an expression that builds a composite value or takes one apart, or else one that `image`
 /// reads.
-fn composite(
-    context: &mut Context,
-    name: &str,
-    payload: Data<'_, '_>,
-) -> Result<Expression, Failure>
-    ensures { IfOk result (λ e. IsExpressionOf name.now (Some (value_view payload.entry.value.now)) e) }
+fn composite(context: Context, name: &str, payload: Data<'_, '_>) -> Result<Expression, Failure>
+    ensures reads { IfOk result (λ e. IsExpressionOf name.now (Some (value_view payload.entry.value.now)) e) }
+    ensures accepts { Accepts (λ e. IsExpressionOf name.now (Some (value_view payload.entry.value.now)) e × (1 ≤ group_of e)) result }
 {
     match name {
         "Compose" => {
@@ -133,8 +131,9 @@ fn composite(
 }
 
 /// Reads an expression on an image, or else one that `operation` reads.
-fn image(context: &mut Context, name: &str, payload: Data<'_, '_>) -> Result<Expression, Failure>
-    ensures { IfOk result (λ e. IsExpressionOf name.now (Some (value_view payload.entry.value.now)) e) }
+fn image(context: Context, name: &str, payload: Data<'_, '_>) -> Result<Expression, Failure>
+    ensures reads { IfOk result (λ e. IsExpressionOf name.now (Some (value_view payload.entry.value.now)) e) }
+    ensures accepts { Accepts (λ e. IsExpressionOf name.now (Some (value_view payload.entry.value.now)) e × (2 ≤ group_of e)) result }
 {
     match name {
         "ImageSample" => sample(context, payload.fields(context)?),
@@ -148,8 +147,9 @@ fn image(context: &mut Context, name: &str, payload: Data<'_, '_>) -> Result<Exp
 }
 
 /// Reads the load of a texel.
-fn load(context: &mut Context, fields: Fields<'_, '_>) -> Result<Expression, Failure>
-    ensures { IfOk result (λ e. IsExpressionOf (codes "ImageLoad") (Some (object (members_view fields.entry.members.now))) e) }
+fn load(context: Context, fields: Fields<'_, '_>) -> Result<Expression, Failure>
+    ensures reads { IfOk result (λ e. IsExpressionOf (codes "ImageLoad") (Some (object (members_view fields.entry.members.now))) e) }
+    ensures accepts { Accepts (IsExpressionOf (codes "ImageLoad") (Some (object (members_view fields.entry.members.now)))) result }
 {
     let (image, coordinate) = fields.pair(context, "image", "coordinate")?;
     Ok(Expression::ImageLoad {
@@ -162,8 +162,9 @@ fn load(context: &mut Context, fields: Fields<'_, '_>) -> Result<Expression, Fai
 }
 
 /// Reads the sampling of an image.
-fn sample(context: &mut Context, fields: Fields<'_, '_>) -> Result<Expression, Failure>
-    ensures { IfOk result (λ e. IsExpressionOf (codes "ImageSample") (Some (object (members_view fields.entry.members.now))) e) }
+fn sample(context: Context, fields: Fields<'_, '_>) -> Result<Expression, Failure>
+    ensures reads { IfOk result (λ e. IsExpressionOf (codes "ImageSample") (Some (object (members_view fields.entry.members.now))) e) }
+    ensures accepts { Accepts (IsExpressionOf (codes "ImageSample") (Some (object (members_view fields.entry.members.now)))) result }
 {
     let Code(gather) = fields.nullable(context, "gather")?;
     let (Code(level), image, sampler) = fields.triple(context, "level", "image", "sampler")?;
@@ -181,12 +182,9 @@ fn sample(context: &mut Context, fields: Fields<'_, '_>) -> Result<Expression, F
 }
 
 /// Reads an operator on values, or else an expression that `function` reads.
-fn operation(
-    context: &mut Context,
-    name: &str,
-    payload: Data<'_, '_>,
-) -> Result<Expression, Failure>
-    ensures { IfOk result (λ e. IsExpressionOf name.now (Some (value_view payload.entry.value.now)) e) }
+fn operation(context: Context, name: &str, payload: Data<'_, '_>) -> Result<Expression, Failure>
+    ensures reads { IfOk result (λ e. IsExpressionOf name.now (Some (value_view payload.entry.value.now)) e) }
+    ensures accepts { Accepts (λ e. IsExpressionOf name.now (Some (value_view payload.entry.value.now)) e × (3 ≤ group_of e)) result }
 {
     match name {
         "Unary" => {
@@ -219,8 +217,9 @@ fn operation(
 }
 
 /// Reads a function of values, or else an expression that `memory` reads.
-fn function(context: &mut Context, name: &str, payload: Data<'_, '_>) -> Result<Expression, Failure>
-    ensures { IfOk result (λ e. IsExpressionOf name.now (Some (value_view payload.entry.value.now)) e) }
+fn function(context: Context, name: &str, payload: Data<'_, '_>) -> Result<Expression, Failure>
+    ensures reads { IfOk result (λ e. IsExpressionOf name.now (Some (value_view payload.entry.value.now)) e) }
+    ensures accepts { Accepts (λ e. IsExpressionOf name.now (Some (value_view payload.entry.value.now)) e × (4 ≤ group_of e)) result }
 {
     match name {
         "Relational" => {
@@ -242,8 +241,9 @@ fn function(context: &mut Context, name: &str, payload: Data<'_, '_>) -> Result<
 }
 
 /// Reads a call of a built-in function.
-fn math(context: &mut Context, fields: Fields<'_, '_>) -> Result<Expression, Failure>
-    ensures { IfOk result (λ e. IsExpressionOf (codes "Math") (Some (object (members_view fields.entry.members.now))) e) }
+fn math(context: Context, fields: Fields<'_, '_>) -> Result<Expression, Failure>
+    ensures reads { IfOk result (λ e. IsExpressionOf (codes "Math") (Some (object (members_view fields.entry.members.now))) e) }
+    ensures accepts { Accepts (IsExpressionOf (codes "Math") (Some (object (members_view fields.entry.members.now)))) result }
 {
     let (Code(fun), arg) = fields.pair(context, "fun", "arg")?;
     Ok(Expression::Math {
@@ -257,8 +257,9 @@ fn math(context: &mut Context, fields: Fields<'_, '_>) -> Result<Expression, Fai
 
 /// Reads a load, the length of an array or the result of a ray query, or else an expression that
 /// `cooperative` reads.
-fn memory(context: &mut Context, name: &str, payload: Data<'_, '_>) -> Result<Expression, Failure>
-    ensures { IfOk result (λ e. IsExpressionOf name.now (Some (value_view payload.entry.value.now)) e) }
+fn memory(context: Context, name: &str, payload: Data<'_, '_>) -> Result<Expression, Failure>
+    ensures reads { IfOk result (λ e. IsExpressionOf name.now (Some (value_view payload.entry.value.now)) e) }
+    ensures accepts { Accepts (λ e. IsExpressionOf name.now (Some (value_view payload.entry.value.now)) e × (5 ≤ group_of e)) result }
 {
     match name {
         "Load" => Ok(Expression::Load {
@@ -278,12 +279,9 @@ fn memory(context: &mut Context, name: &str, payload: Data<'_, '_>) -> Result<Ex
 }
 
 /// Reads an operation on cooperative matrices.
-fn cooperative(
-    context: &mut Context,
-    name: &str,
-    payload: Data<'_, '_>,
-) -> Result<Expression, Failure>
-    ensures { IfOk result (λ e. IsExpressionOf name.now (Some (value_view payload.entry.value.now)) e) }
+fn cooperative(context: Context, name: &str, payload: Data<'_, '_>) -> Result<Expression, Failure>
+    ensures reads { IfOk result (λ e. IsExpressionOf name.now (Some (value_view payload.entry.value.now)) e) }
+    ensures accepts { Accepts (λ e. IsExpressionOf name.now (Some (value_view payload.entry.value.now)) e × (6 ≤ group_of e)) result }
 {
     match name {
         "CooperativeLoad" => {

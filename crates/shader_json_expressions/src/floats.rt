@@ -16,7 +16,7 @@ pub(crate) struct Single(pub u32);
 impl Read for Double {
     ghost reads = { λ j float. IsDouble j float.0 };
 
-    fn read(context: &mut Context, value: &Value<'_>) -> Result<Double, Failure> {
+    fn read(context: Context, value: &Value<'_>) -> Result<Double, Failure> {
         match double_bits(value) {
             Some(bits) => Ok(Double(bits)),
             None => Err(context.refused("a number in the range of f64")),
@@ -27,7 +27,7 @@ impl Read for Double {
 impl Read for Single {
     ghost reads = { λ j float. IsSingle j float.0 };
 
-    fn read(context: &mut Context, value: &Value<'_>) -> Result<Single, Failure> {
+    fn read(context: Context, value: &Value<'_>) -> Result<Single, Failure> {
         match single_bits(value) {
             Some(bits) => Ok(Single(bits)),
             None => Err(context.refused("a number in the range of f32")),

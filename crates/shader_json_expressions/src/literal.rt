@@ -11,7 +11,7 @@ use shader_json_reader::{Context, Failure};
 impl Read for Code<Literal> {
     ghost reads = { λ j literal. IsLiteral j literal.0 };
 
-    fn read(context: &mut Context, value: &Value<'_>) -> Result<Code<Literal>, Failure> {
+    fn read(context: Context, value: &Value<'_>) -> Result<Code<Literal>, Failure> {
         let Variant { name, payload } = Variant::of(context, value)?;
         let Some(payload) = payload else {
             return Err(context.refused("a literal, with its value"));

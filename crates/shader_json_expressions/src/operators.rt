@@ -4,8 +4,9 @@ ghost use Rattle.json.specs.Value.{value_view};
 ghost use Rattle.shader_json_expressions.specs.Names.{axis_name, binary_name, component_name, control_name, function_name};
 ghost use Rattle.shader_json_expressions.specs.Names.{relational_name, unary_name};
 ghost use Rattle.shader_json_expressions.specs.Operators.{IsAxis, IsBinaryOperator, IsComponent, IsControl, IsBuiltinFunction};
-ghost use Rattle.shader_json_expressions.specs.Operators.{IsRelational, IsUnaryOperator};
-ghost use Rattle.shader_json_reader.specs.Shapes.{IsList, IsNullable};
+ghost use Rattle.shader_json_expressions.specs.Operators.{IsPattern, IsRelational, IsUnaryOperator};
+ghost use Rattle.shader_json_reader.specs.Answers.{Accepts};
+ghost use Rattle.shader_json_reader.specs.Shapes.{IsNullable};
 
 use crate::code::Code;
 use json::Value;
@@ -23,7 +24,7 @@ impl Spelled for Code<UnaryOperator> {
 impl Read for Code<UnaryOperator> {
     ghost reads = { λ j item. IsUnaryOperator j item.0 };
 
-    fn read(context: &mut Context, value: &Value<'_>) -> Result<Code<UnaryOperator>, Failure> {
+    fn read(context: Context, value: &Value<'_>) -> Result<Code<UnaryOperator>, Failure> {
         let table = [
             ("Negate", Code(UnaryOperator::Negate)),
             ("LogicalNot", Code(UnaryOperator::LogicalNot)),
@@ -62,7 +63,7 @@ impl Spelled for Code<BinaryOperator> {
 impl Read for Code<BinaryOperator> {
     ghost reads = { λ j item. IsBinaryOperator j item.0 };
 
-    fn read(context: &mut Context, value: &Value<'_>) -> Result<Code<BinaryOperator>, Failure> {
+    fn read(context: Context, value: &Value<'_>) -> Result<Code<BinaryOperator>, Failure> {
         named(
             context,
             value,
@@ -79,7 +80,7 @@ impl Spelled for Code<DerivativeAxis> {
 impl Read for Code<DerivativeAxis> {
     ghost reads = { λ j item. IsAxis j item.0 };
 
-    fn read(context: &mut Context, value: &Value<'_>) -> Result<Code<DerivativeAxis>, Failure> {
+    fn read(context: Context, value: &Value<'_>) -> Result<Code<DerivativeAxis>, Failure> {
         let table = [
             ("X", Code(DerivativeAxis::X)),
             ("Y", Code(DerivativeAxis::Y)),
@@ -96,7 +97,7 @@ impl Spelled for Code<DerivativeControl> {
 impl Read for Code<DerivativeControl> {
     ghost reads = { λ j item. IsControl j item.0 };
 
-    fn read(context: &mut Context, value: &Value<'_>) -> Result<Code<DerivativeControl>, Failure> {
+    fn read(context: Context, value: &Value<'_>) -> Result<Code<DerivativeControl>, Failure> {
         let table = [
             ("Coarse", Code(DerivativeControl::Coarse)),
             ("Fine", Code(DerivativeControl::Fine)),
@@ -113,7 +114,7 @@ impl Spelled for Code<RelationalFunction> {
 impl Read for Code<RelationalFunction> {
     ghost reads = { λ j item. IsRelational j item.0 };
 
-    fn read(context: &mut Context, value: &Value<'_>) -> Result<Code<RelationalFunction>, Failure> {
+    fn read(context: Context, value: &Value<'_>) -> Result<Code<RelationalFunction>, Failure> {
         let table = [
             ("All", Code(RelationalFunction::All)),
             ("Any", Code(RelationalFunction::Any)),
@@ -131,7 +132,7 @@ impl Spelled for Code<SwizzleComponent> {
 impl Read for Code<SwizzleComponent> {
     ghost reads = { λ j item. IsComponent j item.0 };
 
-    fn read(context: &mut Context, value: &Value<'_>) -> Result<Code<SwizzleComponent>, Failure> {
+    fn read(context: Context, value: &Value<'_>) -> Result<Code<SwizzleComponent>, Failure> {
         let table = [
             ("X", Code(SwizzleComponent::X)),
             ("Y", Code(SwizzleComponent::Y)),
@@ -146,7 +147,7 @@ impl Read for Code<Option<SwizzleComponent>> {
     ghost reads = { λ j item. IsNullable IsComponent j item.0 };
 
     fn read(
-        context: &mut Context,
+        context: Context,
         value: &Value<'_>,
     ) -> Result<Code<Option<SwizzleComponent>>, Failure> {
         if value.is_null() {
@@ -247,7 +248,7 @@ impl Spelled for Code<MathFunction> {
 impl Read for Code<MathFunction> {
     ghost reads = { λ j item. IsBuiltinFunction j item.0 };
 
-    fn read(context: &mut Context, value: &Value<'_>) -> Result<Code<MathFunction>, Failure> {
+    fn read(context: Context, value: &Value<'_>) -> Result<Code<MathFunction>, Failure> {
         named(
             context,
             value,
@@ -262,9 +263,9 @@ impl Read for Code<MathFunction> {
 pub(crate) struct Pattern(pub [SwizzleComponent; 4]);
 
 impl Read for Pattern {
-    ghost reads = { λ j pattern. IsList IsComponent j pattern.0 };
+    ghost reads = { λ j pattern. IsPattern j pattern.0 };
 
-    fn read(context: &mut Context, value: &Value<'_>) -> Result<Pattern, Failure> {
+    fn read(context: Context, value: &Value<'_>) -> Result<Pattern, Failure> {
         let wanted = "an array of 4 components";
         let Value::Array(items) = value else {
             return Err(context.refused(wanted));
@@ -282,12 +283,9 @@ impl Read for Pattern {
 }
 
 /// Reads the component at that index of a pattern.
-fn component(
-    context: &mut Context,
-    index: usize,
-    value: &Value<'_>,
-) -> Result<SwizzleComponent, Failure>
-    ensures { IfOk result (λ component. IsComponent (value_view value.now) component) }
+fn component(context: Context, index: usize, value: &Value<'_>) -> Result<SwizzleComponent, Failure>
+    ensures reads { IfOk result (λ component. IsComponent (value_view value.now) component) }
+    ensures accepts { Accepts (IsComponent (value_view value.now)) result }
 {
     let Code(component) = within(index, Code::read(context, value))?;
     Ok(component)

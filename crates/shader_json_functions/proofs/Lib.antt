@@ -1,3 +1,9 @@
+pub mod AcceptLemmas
+pub mod DeterminedOperations
+pub mod DeterminedSimple
+pub mod DeterminedStatements
 pub mod NextLemmas
+pub mod OperationLemmas
 pub mod PartsLemmas
+pub mod ShorterLemmas
 pub mod StatementLemmas

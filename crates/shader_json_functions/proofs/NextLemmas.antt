@@ -14,6 +14,8 @@ use Rattle.json.specs.Value.{items_of, members_view, value_view}
 use Rattle.json.specs.declared.value.Value.{Value}
 use Rattle.json.proofs.Grammar.{items_end, items_more, members_end, members_more, read_key-shorter, skip_value-shorter}
 use Rattle.json.proofs.Trees.{none_before}
+use Rattle.shader_arena.specs.Positions.{most_items}
+use Rattle.shader_json_declarations.specs.Arenas.{IsArena}
 use Rattle.shader_json_reader.specs.Shapes.{Each, IsList, IsOnly, Reading, cons_if, values_of}
 use Rattle.shader_json_functions.specs.Next.{AreParts, IsNext, Opens, member_unless, without}
 
@@ -108,6 +110,11 @@ module _ {A : Type 0} (R : Reading A) (depth : ℕ) (start : List Token) where
             ∙ opened_array depth start ∙ ap (parse_map array) read;
         stands = so_far.each;
       }
+
+-- a list that has a handle for each item
+pub few_enough : {A : Type 0} (R : Reading A) (depth : ℕ) (tokens rest : List Token) (xs : List A) → length xs ≤ most_items
+    → IsNext (IsList R) depth tokens rest xs → IsNext (IsArena R) depth tokens rest xs
+few_enough R depth tokens rest xs few read = record { j = read.j; next = read.next; stands = (read.stands, few) }
 
 -- ---- objects
 

@@ -8,6 +8,7 @@ use Rattle.json.specs.Json.{Json, Members, array, boolean, member, no_members, n
 use Rattle.json.specs.Token.{Token}
 use Rattle.shader_ir.specs.declared.function.EntryPoint.{EntryPoint}
 use Rattle.shader_ir.specs.declared.function.Function.{Function}
+use Rattle.shader_json_declarations.specs.Arenas.{IsArena}
 use Rattle.shader_json_declarations.specs.Declarations.{IsArgument, IsLocal, IsResult, IsStage}
 use Rattle.shader_json_declarations.specs.NamedExpressions.{AreNamedExpressions}
 use Rattle.shader_json_expressions.specs.Expressions.{IsExpression}
@@ -58,7 +59,7 @@ same_members ms ns same = ap members_in same
 
 -- the next value stands for a function if its code is read apart, and the rest declares what is beside it
 pub next_function : (depth : ℕ) (tokens rest : List Token) (left : Json) (ms : Members) (f : Function)
-    → AreParts (IsList IsExpression) IsBlock (codes "expressions") (codes "body") depth tokens rest f.expressions f.body left
+    → AreParts (IsArena IsExpression) IsBlock (codes "expressions") (codes "body") depth tokens rest f.expressions f.body left
     → left ≡ object ms → HasSignature ms f → IsNext IsFunction depth tokens rest f
 next_function depth tokens rest left ms f parts is has =
     let same : ms ≡ without (codes "expressions") (codes "body") parts.ms = same_members _ _ (sym is ∙ parts.left) in
@@ -72,7 +73,7 @@ next_function depth tokens rest left ms f parts is has =
         still_may_have (codes "expressions") (codes "body") IsText (codes "name") parts.ms f.name refl all.0,
         still_has (codes "expressions") (codes "body") (IsList IsArgument) (codes "arguments") parts.ms f.arguments refl all.1,
         still_may_have (codes "expressions") (codes "body") IsResult (codes "result") parts.ms f.result refl all.2,
-        still_has (codes "expressions") (codes "body") (IsList IsLocal) (codes "local_variables") parts.ms f.local_variables refl all.3,
+        still_has (codes "expressions") (codes "body") (IsArena IsLocal) (codes "local_variables") parts.ms f.local_variables refl all.3,
         still_may_have (codes "expressions") (codes "body") IsHandle (codes "diagnostic_filter_leaf") parts.ms f.diagnostic_filter_leaf
             refl all.4,
         still_has (codes "expressions") (codes "body") AreNamedExpressions (codes "named_expressions") parts.ms f.named_expressions

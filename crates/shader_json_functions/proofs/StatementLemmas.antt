@@ -10,17 +10,12 @@ use Rattle.shader_ir.specs.BodyOf.{body_of, cases_of, step_of}
 use Rattle.shader_ir.specs.declared.statement.Statement.{Statement}
 use Rattle.shader_ir.specs.declared.statement.SwitchCase.{SwitchCase}
 use Rattle.shader_json_reader.specs.Shapes.{Each, IsArray, IsList}
+use Rattle.shader_json_declarations.proofs.ListLemmas.{take_over}
 use Rattle.shader_json_functions.specs.Next.{IsNext}
 use Rattle.shader_json_functions.specs.Statements.{AreCases, AreStatements, IsBlock, IsCase, IsStatement}
 
 front : (vs : List (Value Global)) (i : ℕ) (v : Value Global) → i < length vs → v ≡ get_or vs i v → take i vs ++ v ∷ [] ≡ take (i + 1) vs
 front vs i v within is = sym (take_more vs i v within ∙ ap (λ w. take i vs ++ w ∷ []) (sym is))
-
-take_over : {A : Type 0} (xs : List A) (i : ℕ) → length xs ≤ i → take i xs ≡ xs
-take_over [] zero h = refl
-take_over [] (suc i) h = refl
-take_over (x ∷ xs) zero h = absurd (omega arith)
-take_over (x ∷ xs) (suc i) h = ap (λ ys. x ∷ ys) (take_over xs i (omega arith))
 
 AreStatements-append : (vs : List (Value Global)) (v : Value Global) (xs : List Statement) (x : Statement)
     → AreStatements (body_of xs) (items_view vs) → IsStatement (value_view v) (step_of x)

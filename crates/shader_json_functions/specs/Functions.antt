@@ -5,6 +5,7 @@ use Rattle.shader_ir.specs.declared.function.EntryPoint.{EntryPoint}
 use Rattle.shader_ir.specs.declared.function.Function.{Function}
 use Rattle.shader_json_reader.specs.Numbers.{IsHandle, IsText}
 use Rattle.shader_json_reader.specs.Shapes.{IsObject, IsList, HasField, MayHaveField}
+use Rattle.shader_json_declarations.specs.Arenas.{IsArena}
 use Rattle.shader_json_declarations.specs.Declarations.{IsArgument, IsLocal, IsResult, IsStage}
 use Rattle.shader_json_declarations.specs.NamedExpressions.{AreNamedExpressions}
 use Rattle.shader_json_expressions.specs.Expressions.{IsExpression}
@@ -14,15 +15,15 @@ use Rattle.shader_json_functions.specs.Statements.{IsBlock}
 abbrev pub HasSignature : Members → Function → Type 0
 HasSignature ms f =
     MayHaveField IsText (codes "name") ms f.name × HasField (IsList IsArgument) (codes "arguments") ms f.arguments
-    × MayHaveField IsResult (codes "result") ms f.result × HasField (IsList IsLocal) (codes "local_variables") ms f.local_variables
+    × MayHaveField IsResult (codes "result") ms f.result × HasField (IsArena IsLocal) (codes "local_variables") ms f.local_variables
     × MayHaveField IsHandle (codes "diagnostic_filter_leaf") ms f.diagnostic_filter_leaf
     × HasField AreNamedExpressions (codes "named_expressions") ms f.named_expressions
 
 abbrev pub HasFunction : Members → Function → Type 0
 HasFunction ms f =
-    HasField (IsList IsExpression) (codes "expressions") ms f.expressions × HasField IsBlock (codes "body") ms f.body
+    HasField (IsArena IsExpression) (codes "expressions") ms f.expressions × HasField IsBlock (codes "body") ms f.body
     × MayHaveField IsText (codes "name") ms f.name × HasField (IsList IsArgument) (codes "arguments") ms f.arguments
-    × MayHaveField IsResult (codes "result") ms f.result × HasField (IsList IsLocal) (codes "local_variables") ms f.local_variables
+    × MayHaveField IsResult (codes "result") ms f.result × HasField (IsArena IsLocal) (codes "local_variables") ms f.local_variables
     × MayHaveField IsHandle (codes "diagnostic_filter_leaf") ms f.diagnostic_filter_leaf
     × HasField AreNamedExpressions (codes "named_expressions") ms f.named_expressions
 

@@ -1,8 +1,10 @@
 //! Reads functions and entry points.
 ghost use Rattle.std.specs.Prelude.{IfOk, OnOk};
 ghost use Rattle.json.specs.Value.{members_view, value_view};
+ghost use Rattle.shader_json_declarations.specs.Arenas.{IsArena};
 ghost use Rattle.shader_json_declarations.specs.Declarations.{IsStage};
 ghost use Rattle.shader_json_functions.specs.Functions.{HasFunction, HasSignature, IsEntryPoint, IsFunction};
+ghost use Rattle.shader_json_reader.specs.Answers.{Accepts};
 ghost use Rattle.shader_json_reader.specs.Shapes.{IsList};
 
 use crate::next::{ReadNext, next_value};
@@ -20,12 +22,9 @@ use shader_json_reader::{Context, Failure, within};
 struct ReadFunction(Function);
 
 /// Fills an empty function from these fields, in a fixed order. A field that can't be read hides the errors of those after it.
-fn fill(
-    context: &mut Context,
-    fields: Fields<'_, '_>,
-    function: &mut Function,
-) -> Result<(), Failure>
-    ensures { OnOk result (HasFunction (members_view fields.entry.members.now) function.new) }
+fn fill(context: Context, fields: Fields<'_, '_>, function: &mut Function) -> Result<(), Failure>
+    ensures reads { OnOk result (HasFunction (members_view fields.entry.members.now) function.new) }
+    ensures accepts { Accepts (λ function. HasFunction (members_view fields.entry.members.now) function) result }
 {
     let Expressions(expressions) = fields.needed(context, "expressions")?;
     let Body(body) = fields.needed(context, "body")?;
@@ -37,11 +36,12 @@ fn fill(
 
 /// Fills an empty function with all that these fields declare except its code.
 fn fill_declarations(
-    context: &mut Context,
+    context: Context,
     fields: Fields<'_, '_>,
     function: &mut Function,
 ) -> Result<(), Failure>
-    ensures { OnOk result (HasSignature (members_view fields.entry.members.now) function.new) }
+    ensures reads { OnOk result (HasSignature (members_view fields.entry.members.now) function.new) }
+    ensures accepts { Accepts (λ function. HasSignature (members_view fields.entry.members.now) function) result }
 {
     function.name = fields.optional(context, "name")?;
     function.arguments = fields.needed(context, "arguments")?;
@@ -56,7 +56,7 @@ impl ReadNext for Function {
     ghost stands = { λ j function. IsFunction j function };
 
     fn read_next(
-        context: &mut Context,
+        context: Context,
         reader: &mut Reader<'_>,
         depth: usize,
     ) -> Result<Function, Failure> {
@@ -84,7 +84,7 @@ impl ReadNext for Function {
 impl Read for ReadFunction {
     ghost reads = { λ j function. IsFunction j function.0 };
 
-    fn read(context: &mut Context, value: &Value<'_>) -> Result<ReadFunction, Failure> {
+    fn read(context: Context, value: &Value<'_>) -> Result<ReadFunction, Failure> {
         let fields = Fields::of(context, value)?;
         let mut function = Function::new(context.alloc);
         fill(context, fields, &mut function)?;
@@ -97,9 +97,9 @@ impl Read for ReadFunction {
 pub struct Functions(pub Arena<Function, mark::Function>);
 
 impl Read for Functions {
-    ghost reads = { λ j functions. IsList IsFunction j functions.0 };
+    ghost reads = { λ j functions. IsArena IsFunction j functions.0 };
 
-    fn read(context: &mut Context, value: &Value<'_>) -> Result<Functions, Failure> {
+    fn read(context: Context, value: &Value<'_>) -> Result<Functions, Failure> {
         let Value::Array(items) = value else {
             return Err(context.refused("an array"));
         };
@@ -123,7 +123,7 @@ pub struct EntryPoints(pub Items<EntryPoint>);
 impl Read for EntryPoints {
     ghost reads = { λ j entry_points. IsList IsEntryPoint j entry_points.0 };
 
-    fn read(context: &mut Context, value: &Value<'_>) -> Result<EntryPoints, Failure> {
+    fn read(context: Context, value: &Value<'_>) -> Result<EntryPoints, Failure> {
         let Value::Array(items) = value else {
             return Err(context.refused("an array"));
         };
@@ -137,19 +137,17 @@ impl Read for EntryPoints {
 }
 
 /// Reads the entry point of this index.
-fn entry_point_at(
-    context: &mut Context,
-    index: usize,
-    value: &Value<'_>,
-) -> Result<EntryPoint, Failure>
-    ensures { IfOk result (λ entry_point. IsEntryPoint (value_view value.now) entry_point) }
+fn entry_point_at(context: Context, index: usize, value: &Value<'_>) -> Result<EntryPoint, Failure>
+    ensures reads { IfOk result (λ entry_point. IsEntryPoint (value_view value.now) entry_point) }
+    ensures accepts { Accepts (IsEntryPoint (value_view value.now)) result }
 {
     within(index, entry_point(context, value))
 }
 
 /// Reads an entry point.
-fn entry_point(context: &mut Context, value: &Value<'_>) -> Result<EntryPoint, Failure>
-    ensures { IfOk result (λ entry_point. IsEntryPoint (value_view value.now) entry_point) }
+fn entry_point(context: Context, value: &Value<'_>) -> Result<EntryPoint, Failure>
+    ensures reads { IfOk result (λ entry_point. IsEntryPoint (value_view value.now) entry_point) }
+    ensures accepts { Accepts (IsEntryPoint (value_view value.now)) result }
 {
     let fields = Fields::of(context, value)?;
     let (ReadFunction(function), name, stage) = fields.triple(
@@ -166,7 +164,7 @@ impl ReadNext for ShaderStage {
     ghost stands = { λ j stage. IsStage j stage };
 
     fn read_next(
-        context: &mut Context,
+        context: Context,
         reader: &mut Reader<'_>,
         depth: usize,
     ) -> Result<ShaderStage, Failure> {
@@ -179,7 +177,7 @@ impl ReadNext for EntryPoint {
     ghost stands = { λ j entry_point. IsEntryPoint j entry_point };
 
     fn read_next(
-        context: &mut Context,
+        context: Context,
         reader: &mut Reader<'_>,
         depth: usize,
     ) -> Result<EntryPoint, Failure> {

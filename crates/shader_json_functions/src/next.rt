@@ -3,6 +3,7 @@ ghost use Rattle.std.specs.Prelude.{◌≡◌, Some, IfOk};
 ghost use Rattle.json.specs.Json.{Json, value};
 ghost use Rattle.json.specs.Token as token;
 ghost use Rattle.json.specs.Value.{value_view};
+ghost use Rattle.shader_json_declarations.specs.Arenas.{IsArena};
 ghost use Rattle.shader_json_expressions.specs.Expressions.{IsExpression};
 ghost use Rattle.shader_json_functions.specs.Next.{IsNext, Opens};
 ghost use Rattle.shader_json_reader.specs.Shapes.{IsList};
@@ -25,17 +26,13 @@ pub trait ReadNext: Sized {
     /// # Errors
     ///
     /// An allocation failure, or a value that isn't there or can't be read.
-    fn read_next(
-        context: &mut Context,
-        reader: &mut Reader<'_>,
-        depth: usize,
-    ) -> Result<Self, Failure>
+    fn read_next(context: Context, reader: &mut Reader<'_>, depth: usize) -> Result<Self, Failure>
         ensures next { IfOk result (λ read. IsNext stands depth reader.old reader.new read) };
 }
 
 /// Reads the next value of a text as a JSON value.
 pub(crate) fn next_value<'a>(
-    context: &mut Context,
+    context: Context,
     reader: &mut Reader<'a>,
     depth: usize,
 ) -> Result<Value<'a>, Failure>
@@ -49,7 +46,7 @@ pub(crate) fn next_value<'a>(
 }
 
 /// Takes the bracket that opens an array. Returns how deep arrays and objects may nest inside the array.
-fn open_array(context: &Context, reader: &mut Reader<'_>, depth: usize) -> Result<usize, Failure>
+fn open_array(context: Context, reader: &mut Reader<'_>, depth: usize) -> Result<usize, Failure>
     ensures { IfOk result (λ inside. Opens token.begin_array depth reader.old reader.new inside) }
 {
     match reader.next() {
@@ -60,7 +57,7 @@ fn open_array(context: &Context, reader: &mut Reader<'_>, depth: usize) -> Resul
 
 /// Takes the brace that opens an object. Returns how deep arrays and objects may nest inside the object.
 pub(crate) fn open_object(
-    context: &Context,
+    context: Context,
     reader: &mut Reader<'_>,
     depth: usize,
 ) -> Result<usize, Failure>
@@ -76,7 +73,7 @@ impl ReadNext for Expression {
     ghost stands = { λ j expression. IsExpression j expression };
 
     fn read_next(
-        context: &mut Context,
+        context: Context,
         reader: &mut Reader<'_>,
         depth: usize,
     ) -> Result<Expression, Failure> {
@@ -89,7 +86,7 @@ impl<T: ReadNext + Drop> ReadNext for Items<T> {
     ghost stands = { λ j items. IsList T.stands j items };
 
     fn read_next(
-        context: &mut Context,
+        context: Context,
         reader: &mut Reader<'_>,
         depth: usize,
     ) -> Result<Items<T>, Failure> {
@@ -104,10 +101,10 @@ impl<T: ReadNext + Drop> ReadNext for Items<T> {
 }
 
 impl<T: ReadNext + Drop, M> ReadNext for Arena<T, M> {
-    ghost stands = { λ j arena. IsList T.stands j arena };
+    ghost stands = { λ j arena. IsArena T.stands j arena };
 
     fn read_next(
-        context: &mut Context,
+        context: Context,
         reader: &mut Reader<'_>,
         depth: usize,
     ) -> Result<Arena<T, M>, Failure> {

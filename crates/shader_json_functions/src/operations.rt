@@ -15,7 +15,7 @@ use shader_json_reader::{Context, Failure, flags};
 impl Read for Code<Barrier> {
     ghost reads = { λ j item. IsBarrier j item.0 };
 
-    fn read(context: &mut Context, value: &Value<'_>) -> Result<Code<Barrier>, Failure> {
+    fn read(context: Context, value: &Value<'_>) -> Result<Code<Barrier>, Failure> {
         Ok(Code(flags(
             context,
             value,
@@ -27,7 +27,7 @@ impl Read for Code<Barrier> {
 impl Read for Code<SwitchValue> {
     ghost reads = { λ j item. IsSwitchValue j item.0 };
 
-    fn read(context: &mut Context, value: &Value<'_>) -> Result<Code<SwitchValue>, Failure> {
+    fn read(context: Context, value: &Value<'_>) -> Result<Code<SwitchValue>, Failure> {
         let Variant { name, payload } = Variant::of(context, value)?;
         let found = match (name, payload) {
             ("I32", Some(payload)) => SwitchValue::I32(payload.read(context)?),
@@ -46,7 +46,7 @@ impl Spelled for Code<Direction> {
 impl Read for Code<Direction> {
     ghost reads = { λ j item. IsDirection j item.0 };
 
-    fn read(context: &mut Context, value: &Value<'_>) -> Result<Code<Direction>, Failure> {
+    fn read(context: Context, value: &Value<'_>) -> Result<Code<Direction>, Failure> {
         let table = [
             ("X", Code(Direction::X)),
             ("Y", Code(Direction::Y)),
@@ -63,7 +63,7 @@ impl Spelled for Code<SubgroupOperation> {
 impl Read for Code<SubgroupOperation> {
     ghost reads = { λ j item. IsOperation j item.0 };
 
-    fn read(context: &mut Context, value: &Value<'_>) -> Result<Code<SubgroupOperation>, Failure> {
+    fn read(context: Context, value: &Value<'_>) -> Result<Code<SubgroupOperation>, Failure> {
         let table = [
             ("All", Code(SubgroupOperation::All)),
             ("Any", Code(SubgroupOperation::Any)),
@@ -86,10 +86,7 @@ impl Spelled for Code<CollectiveOperation> {
 impl Read for Code<CollectiveOperation> {
     ghost reads = { λ j item. IsCollective j item.0 };
 
-    fn read(
-        context: &mut Context,
-        value: &Value<'_>,
-    ) -> Result<Code<CollectiveOperation>, Failure> {
+    fn read(context: Context, value: &Value<'_>) -> Result<Code<CollectiveOperation>, Failure> {
         let table = [
             ("Reduce", Code(CollectiveOperation::Reduce)),
             ("InclusiveScan", Code(CollectiveOperation::InclusiveScan)),
@@ -107,7 +104,7 @@ impl Read for Code<CollectiveOperation> {
 impl Read for Code<AtomicFunction> {
     ghost reads = { λ j item. IsAtomic j item.0 };
 
-    fn read(context: &mut Context, value: &Value<'_>) -> Result<Code<AtomicFunction>, Failure> {
+    fn read(context: Context, value: &Value<'_>) -> Result<Code<AtomicFunction>, Failure> {
         let Variant { name, payload } = Variant::of(context, value)?;
         let found = match (name, payload) {
             ("Add", None) => AtomicFunction::Add,
@@ -129,7 +126,7 @@ impl Read for Code<AtomicFunction> {
 impl Read for Code<GatherMode> {
     ghost reads = { λ j item. IsMode j item.0 };
 
-    fn read(context: &mut Context, value: &Value<'_>) -> Result<Code<GatherMode>, Failure> {
+    fn read(context: Context, value: &Value<'_>) -> Result<Code<GatherMode>, Failure> {
         let Variant { name, payload } = Variant::of(context, value)?;
         let found = match (name, payload) {
             ("BroadcastFirst", None) => GatherMode::BroadcastFirst,
@@ -151,7 +148,7 @@ impl Read for Code<GatherMode> {
 impl Read for Code<RayQueryFunction> {
     ghost reads = { λ j item. IsQueryFunction j item.0 };
 
-    fn read(context: &mut Context, value: &Value<'_>) -> Result<Code<RayQueryFunction>, Failure> {
+    fn read(context: Context, value: &Value<'_>) -> Result<Code<RayQueryFunction>, Failure> {
         let Variant { name, payload } = Variant::of(context, value)?;
         let found = match (name, payload) {
             ("ConfirmIntersection", None) => RayQueryFunction::ConfirmIntersection,
@@ -182,10 +179,7 @@ impl Read for Code<RayQueryFunction> {
 impl Read for Code<RayPipelineFunction> {
     ghost reads = { λ j item. IsPipelineFunction j item.0 };
 
-    fn read(
-        context: &mut Context,
-        value: &Value<'_>,
-    ) -> Result<Code<RayPipelineFunction>, Failure> {
+    fn read(context: Context, value: &Value<'_>) -> Result<Code<RayPipelineFunction>, Failure> {
         let Variant { name, payload } = Variant::of(context, value)?;
         let found = match (name, payload) {
             ("TraceRay", Some(payload)) => {

@@ -21,7 +21,7 @@ pub struct Parts<'a, A: Drop, B: Drop> {
 }
 
 /// Returns the name of the next member, or `None` at the end of the object.
-fn next_name<'a>(context: &Context, reader: &mut Reader<'a>) -> Result<Option<&'a str>, Failure>
+fn next_name<'a>(context: Context, reader: &mut Reader<'a>) -> Result<Option<&'a str>, Failure>
     ensures { IfOk result (λ name. read_key reader.old ≡ Some (option_map (λ text. text.now) name, reader.new)) }
 {
     match reader.next_key() {
@@ -37,7 +37,7 @@ impl<'a, A: ReadNext + Drop, B: ReadNext + Drop> Parts<'a, A, B> {
     ///
     /// An allocation failure; a value that is no object or lacks a member of these names; or a member that occurs twice or can't be read.
     pub fn read_next(
-        context: &mut Context,
+        context: Context,
         reader: &mut Reader<'a>,
         depth: usize,
         first_name: &'static str,

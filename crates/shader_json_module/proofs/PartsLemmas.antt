@@ -6,6 +6,7 @@ use Rattle.json.specs.Json.{Json, Members, if_last, max_depth, object}
 use Rattle.json.specs.Lex.{tokens}
 use Rattle.json.specs.Token.{Token}
 use Rattle.shader_ir.specs.declared.module.Module.{Module}
+use Rattle.shader_json_declarations.specs.Arenas.{IsArena}
 use Rattle.shader_json_declarations.specs.Declarations.{IsConstant, IsGlobal, IsOverride}
 use Rattle.shader_json_declarations.specs.Filters.{IsFilterNode}
 use Rattle.shader_json_declarations.specs.SpecialTypes.{AreSpecialTypes}
@@ -24,7 +25,7 @@ has : {A : Type 0} (R : Reading A) (name : List ℕ) (ms : Members) (x : A)
 has R name ms x apart field = still_has (codes "functions") (codes "entry_points") R name ms x apart field
 
 pub next_module : (now rest : List Token) (left : Json) (others : Members) (m : Module)
-    → AreParts (IsList IsFunction) (IsList IsEntryPoint) (codes "functions") (codes "entry_points") max_depth now rest m.functions
+    → AreParts (IsArena IsFunction) (IsList IsEntryPoint) (codes "functions") (codes "entry_points") max_depth now rest m.functions
     m.entry_points left
     → left ≡ object others → HasBesideCode others m → IsNextModule now rest m left
 next_module now rest left others m parts is beside =
@@ -37,16 +38,16 @@ next_module now rest left others m parts is beside =
       stands = (
         (
           has AreTypes (codes "types") ms m.types refl all.0,
-          has (IsList IsExpression) (codes "global_expressions") ms m.global_expressions refl all.1,
+          has (IsArena IsExpression) (codes "global_expressions") ms m.global_expressions refl all.1,
           parts.has_first,
           parts.has_second,
         ),
         (
           has AreSpecialTypes (codes "special_types") ms m.special_types refl all.2,
-          has (IsList IsConstant) (codes "constants") ms m.constants refl all.3,
-          has (IsList IsOverride) (codes "overrides") ms m.overrides refl all.4,
-          has (IsList IsGlobal) (codes "global_variables") ms m.global_variables refl all.5,
-          has (IsList IsFilterNode) (codes "diagnostic_filters") ms m.diagnostic_filters refl all.6,
+          has (IsArena IsConstant) (codes "constants") ms m.constants refl all.3,
+          has (IsArena IsOverride) (codes "overrides") ms m.overrides refl all.4,
+          has (IsArena IsGlobal) (codes "global_variables") ms m.global_variables refl all.5,
+          has (IsArena IsFilterNode) (codes "diagnostic_filters") ms m.diagnostic_filters refl all.6,
         ),
       );
       beside = parts.left;

@@ -1,3 +1,3 @@
-pub mod Fixed
+pub mod Laws
 pub mod Modules
 pub mod Parts

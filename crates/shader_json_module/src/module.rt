@@ -3,8 +3,9 @@ ghost use Rattle.std.specs.Prelude.{◌≡◌, ◌<◌, ◌↔◌, length, Err, 
 ghost use Rattle.std.specs.Str.{IsUtf8};
 ghost use Rattle.json.specs.Json.{document};
 ghost use Rattle.json.specs.Value.{members_view, value_view};
-ghost use Rattle.shader_json_module.specs.Modules.{HasBesideCode, HasCode, HasDeclarations, IsModule, IsOfValue, IsTextOf};
-ghost use Rattle.shader_json_reader.specs.Errors.{IsAccurate, most_text_bytes};
+ghost use Rattle.shader_json_module.specs.Modules.{HasBesideCode, HasCode, HasDeclarations, IsErrorOf, IsModule, IsOfValue, IsTextOf};
+ghost use Rattle.shader_json_reader.specs.Answers.{Accepts};
+ghost use Rattle.shader_json_reader.specs.Errors.{IsAccurate, IsOfModule, most_text_bytes};
 
 use crate::parts::read_parts;
 use json::{Scratch, Value};
@@ -17,9 +18,11 @@ use std::alloc::Global;
 use std::str;
 
 /// Fills an empty module from these fields, in a fixed order. A field that can't be read hides the errors of those after it.
-fn fill(context: &mut Context, fields: Fields<'_, '_>, module: &mut Module) -> Result<(), Failure>
+fn fill(context: Context, fields: Fields<'_, '_>, module: &mut Module) -> Result<(), Failure>
     ensures code { OnOk result (HasCode (members_view fields.entry.members.now) «module».new) }
     ensures declarations { OnOk result (HasDeclarations (members_view fields.entry.members.now) «module».new) }
+    ensures accepts { Accepts (λ m. HasCode (members_view fields.entry.members.now) m
+        × HasDeclarations (members_view fields.entry.members.now) m) result }
 {
     let types = fields.needed(context, "types")?;
     let Expressions(global_expressions) = fields.needed(context, "global_expressions")?;
@@ -35,11 +38,12 @@ fn fill(context: &mut Context, fields: Fields<'_, '_>, module: &mut Module) -> R
 
 /// Fills an empty module with special types, constants, overrides, global variables and diagnostic filters.
 fn fill_declarations(
-    context: &mut Context,
+    context: Context,
     fields: Fields<'_, '_>,
     module: &mut Module,
 ) -> Result<(), Failure>
-    ensures { OnOk result (HasDeclarations (members_view fields.entry.members.now) «module».new) }
+    ensures reads { OnOk result (HasDeclarations (members_view fields.entry.members.now) «module».new) }
+    ensures accepts { Accepts (λ m. HasDeclarations (members_view fields.entry.members.now) m) result }
 {
     module.special_types = fields.needed(context, "special_types")?;
     module.constants = fields.needed(context, "constants")?;
@@ -51,7 +55,7 @@ fn fill_declarations(
 
 /// Fills an empty module with all that these fields have except functions and entry points.
 pub(crate) fn fill_beside_code(
-    context: &mut Context,
+    context: Context,
     fields: Fields<'_, '_>,
     module: &mut Module,
 ) -> Result<(), Failure>
@@ -66,8 +70,9 @@ pub(crate) fn fill_beside_code(
 }
 
 /// Reads a module from a JSON value.
-fn module(context: &mut Context, value: &Value<'_>) -> Result<Module, Failure>
-    ensures { IfOk result (λ m. IsModule (value_view value.now) m) }
+fn module(context: Context, value: &Value<'_>) -> Result<Module, Failure>
+    ensures reads { IfOk result (λ m. IsModule (value_view value.now) m) }
+    ensures accepts { Accepts (IsModule (value_view value.now)) result }
 {
     let fields = Fields::of(context, value)?;
     let mut module = Module::new(context.alloc);
@@ -88,6 +93,7 @@ pub fn parse_bytes<'a>(
     ensures utf8 { OnOk result (IsUtf8 text.now) }
     ensures value { IfOk result (λ root. document text.now ≡ Some (value_view root)) }
     ensures err { IfErr result (IsAccurate text.now) }
+    ensures no_json { IfErr result (λ error. IsOfModule error → ⊥) }
     ensures too_long { (result ≡ Err ReadError.TooLong) ↔ (most_text_bytes < length text.now) }
 {
     if text.len() > MOST_BYTES {
@@ -112,7 +118,7 @@ pub fn read_value(alloc: Global, root: &Value<'_>) -> Result<Module, ReadError>
     ensures ok { IfOk result (λ m. IsModule (value_view root.now) m) }
     ensures err { IfErr result (IsOfValue (value_view root.now)) }
 {
-    match module(&mut Context::new(alloc), root) {
+    match module(Context::new(alloc), root) {
         Ok(module) => Ok(module),
         Err(failure) => Err(failure.into_read_error(alloc, root)),
     }
@@ -126,11 +132,11 @@ pub fn read_value(alloc: Global, root: &Value<'_>) -> Result<Module, ReadError>
 /// # Errors
 ///
 /// A text that is too long, is no JSON or is no module; or an allocation failure.
-#[tactic(auto, using(crate::proofs::AccurateLemmas::accurate, crate::proofs::PartsLemmas::text_of_parts))]
+#[tactic(auto, using(crate::proofs::AccurateLemmas::of_json, crate::proofs::AccurateLemmas::of_text, crate::proofs::PartsLemmas::text_of_parts))]
 pub fn read_module(alloc: Global, text: &[u8]) -> Result<Module, ReadError>
     ensures ok { OnOk result (IsUtf8 text.now × IsSome (document text.now)) }
     ensures text { IfOk result (λ m. IsTextOf text.now m) }
-    ensures err { IfErr result (IsAccurate text.now) }
+    ensures err { IfErr result (IsErrorOf text.now) }
     ensures too_long { (result ≡ Err ReadError.TooLong) ↔ (most_text_bytes < length text.now) }
 {
     if MOST_BYTES < text.len() {

@@ -26,10 +26,7 @@ pub struct ModuleParts<'a> {
 
 /// Reads the module that is next in a text.
 #[tactic(auto, using(crate::proofs::PartsLemmas::next_module))]
-fn next_module<'a>(
-    context: &mut Context,
-    reader: &mut Reader<'a>,
-) -> Result<ModuleParts<'a>, Failure>
+fn next_module<'a>(context: Context, reader: &mut Reader<'a>) -> Result<ModuleParts<'a>, Failure>
     ensures { IfOk result (λ parts. IsNextModule reader.old reader.new parts.module (value_view parts.rest)) }
 {
     let parts: Parts<'a, Arena<Function, mark::Function>, Items<EntryPoint>> = Parts::read_next(
@@ -74,7 +71,7 @@ pub fn read_parts<'a>(
         return Ok(None);
     };
     let mut reader = Reader::new(text, scratch)?;
-    match next_module(&mut Context::new(alloc), &mut reader) {
+    match next_module(Context::new(alloc), &mut reader) {
         Ok(parts) => {
             if reader.next().is_some() {
                 return Ok(None);

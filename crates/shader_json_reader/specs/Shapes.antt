@@ -7,6 +7,10 @@ use Rattle.json.specs.Json.{Json, null, boolean, number, string, array, object, 
 abbrev pub Reading : Type 0 → Type 1
 Reading A = Json → A → Type 0
 
+-- the value determines what it stands for
+abbrev pub Determines : {A : Type 0} → Reading A → Type 0
+Determines R = (j : Json) (x y : _) → R j x → R j y → x ≡ y
+
 -- the item before others, if the test holds
 abbrev pub cons_if : {A : Type 0} → Bool → A → List A → List A
 cons_if true x xs = x ∷ xs

@@ -1,11 +1,22 @@
 //! The lists of names that descriptions of required values abbreviate.
 
 /// Descriptions of required values, each with the same description that lists all allowed names.
-const LISTS: [(&str, &str); 21] = [
+const LISTS: [(&str, &str); 22] = [
     (
         "an address space",
         "an address space: `Function`, `Private`, `WorkGroup`, `Uniform`, `Handle`, `Immediate`, `TaskPayload`, `RayPayload`, \
-         `IncomingRayPayload` or `Storage` with its `access`",
+         `IncomingRayPayload` or `Storage` with its access",
+    ),
+    (
+        "a built-in value",
+        "a built-in value: `Position`, `ViewIndex`, `BaseInstance`, `BaseVertex`, `ClipDistance`, `CullDistance`, \
+         `InstanceIndex`, `PointSize`, `VertexIndex`, `DrawIndex`, `DrawID`, `FragDepth`, `PointCoord`, `FrontFacing`, \
+         `PrimitiveIndex`, `Barycentric`, `SampleIndex`, `SampleMask`, `GlobalInvocationId`, `LocalInvocationId`, \
+         `LocalInvocationIndex`, `WorkGroupId`, `WorkGroupSize`, `NumWorkGroups`, `NumSubgroups`, `SubgroupId`, `SubgroupSize`, \
+         `SubgroupInvocationId`, `MeshTaskSize`, `CullPrimitive`, `PointIndex`, `LineIndices`, `TriangleIndices`, \
+         `VertexCount`, `Vertices`, `PrimitiveCount`, `Primitives`, `RayInvocationId`, `NumRayInvocations`, \
+         `InstanceCustomData`, `GeometryIndex`, `WorldRayOrigin`, `WorldRayDirection`, `ObjectRayOrigin`, `ObjectRayDirection`, \
+         `RayTmin`, `RayTCurrentMax`, `ObjectToWorld`, `WorldToObject` or `HitKind`",
     ),
     (
         "the name of a kind of scalars",

@@ -17,13 +17,13 @@ use json::Value;
 ///
 /// A value that is no such text.
 pub fn flags<B: Flags>(
-    context: &Context,
+    context: Context,
     value: &Value<'_>,
     wanted: &'static str,
 ) -> Result<B, Failure>
     ensures memory { IfErr result (λ e. e ≢ OutOfMemory) }
     ensures flags { IfOk result (λ flags. B.exact → AreFlags B.table (value_view value.now) (B.set_of flags)) }
-    ensures accepts { B.exact → Accepts (AreFlags B.table) (value_view value.now) result }
+    ensures accepts { B.exact → Accepts (AreFlags B.table (value_view value.now)) result }
 {
     let Some(text) = value.as_str() else {
         return Err(context.refused(wanted));

@@ -3,7 +3,7 @@ ghost use Rattle.std.specs.Prelude.{◌≡◌, ◌⊎◌, Some, IfOk, IfErr};
 ghost use Rattle.json.specs.Json.{document};
 ghost use Rattle.json.specs.Value.{value_view};
 ghost use Rattle.shader_json_reader.specs.declared.error.ReadError.TheVariants.{OutOfMemory};
-ghost use Rattle.shader_json_reader.specs.Errors.{IsOfText, IsAccurate};
+ghost use Rattle.shader_json_reader.specs.Errors.{IsAccurate, IsOfModule, IsOfText};
 
 use crate::error::ReadError;
 use json::{Error, MAX_DEPTH, Reader, Scratch, Token, Value};
@@ -14,6 +14,7 @@ use std::alloc::Global;
 /// # Errors
 ///
 /// A text that is no JSON or nests more than 128 deep, with the byte at which that shows; or an allocation failure.
+#[tactic(auto, using(crate::proofs::AnswerLemmas::none_of_module))]
 pub fn parse<'a>(
     alloc: Global,
     text: &'a str,
@@ -21,6 +22,7 @@ pub fn parse<'a>(
 ) -> Result<Value<'a>, ReadError>
     ensures ok { IfOk result (λ value. document text.now ≡ Some (value_view value)) }
     ensures err { IfErr result (IsAccurate text.now) }
+    ensures no_json { IfErr result (λ error. IsOfModule error → ⊥) }
 {
     let mut reader = Reader::new(text, scratch)?;
     let value = match Value::read(alloc, &mut reader, MAX_DEPTH) {

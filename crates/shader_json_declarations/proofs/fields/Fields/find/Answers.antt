@@ -3,7 +3,7 @@ use Rattle.std.proofs.Math.Seq.{take-length}
 use Rattle.std.specs.Str.{bytes_eq}
 use Rattle.json.specs.Value.{value_view, members_view}
 use Rattle.shader_json_reader.specs.Shapes.{values_of, kept}
-use Rattle.shader_json_declarations.proofs.FieldLemmas.{values_of-more, first_value, other_value}
+use Rattle.shader_json_declarations.proofs.FieldLemmas.{first_value, no_second, other_value, values_of-more}
 use Rattle.shader_json_declarations.proofs.fields.Fields.find.Goals as goal
 use Rattle.shader_json_declarations.proofs.fields.Fields.find.Goals.{then-eq+else-is_some, else-eq}
 
@@ -25,8 +25,13 @@ loop-index-preserved c =
           ∙ sym (ap (λ found. kept (option_map (λ f. value_view f.1.now) found)) w.found-is)
     ]
 
-pub returns : goal.returns
-returns c =
+pub returns-clause-reads : goal.returns-clause-reads
+returns-clause-reads c =
     let ms = c.args.self.members.now in
     let end : length ms ≡ c.loop-index.index = omega arith in
     ap (λ xs. values_of c.args.name.now (members_view xs)) (sym (take-length ms) ∙ ap (λ n. take n ms) end) ∙ c.loop-index.invariant
+
+pub returns-then-is_some-clause-accepts : goal.returns-then-is_some-clause-accepts
+returns-then-is_some-clause-accepts c = λ one is.
+    no_second c.args.name.now c.args.self.members.now c.loop-index.index c.member-item.result c.loop-index.found one c.loop-index-test.true
+    c.member-item.is c.loop-index.invariant c.if-is_some.ensures c.if-eq.ensures is

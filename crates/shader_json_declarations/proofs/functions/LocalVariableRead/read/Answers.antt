@@ -1,0 +1,17 @@
+use Rattle.shader_json_reader.proofs.AnswerLemmas.{of_members, passed_on}
+use Rattle.shader_json_declarations.proofs.functions.LocalVariableRead.read.Goals as goal
+
+pub returns-in_err-optional-clause-accepts : goal.returns-in_err-optional-clause-accepts
+returns-in_err-optional-clause-accepts c = λ x h.
+    let f = of_members _ _ _ c.in_ok-fields.ensures.reads h in
+    passed_on _ _ c.from_residual-in_err-optional.ensures.1 (c.in_err-optional.ensures.accepts x.name f.0)
+
+pub returns-in_err-needed-clause-accepts : goal.returns-in_err-needed-clause-accepts
+returns-in_err-needed-clause-accepts c = λ x h.
+    let f = of_members _ _ _ c.in_ok-fields.ensures.reads h in
+    passed_on _ _ c.from_residual-in_err-needed.ensures.1 (c.in_err-needed.ensures.accepts x.ty f.1)
+
+pub returns-in_err-optional-2-clause-accepts : goal.returns-in_err-optional-2-clause-accepts
+returns-in_err-optional-2-clause-accepts c = λ x h.
+    let f = of_members _ _ _ c.in_ok-fields.ensures.reads h in
+    passed_on _ _ c.from_residual-in_err-optional-2.ensures.1 (c.in_err-optional-2.ensures.accepts x.init f.2)

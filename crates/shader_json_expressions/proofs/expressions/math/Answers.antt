@@ -1,0 +1,26 @@
+use Rattle.std.proofs.Common.{refl}
+use Rattle.json.specs.Json.{object}
+use Rattle.json.specs.Value.{members_view}
+use Rattle.shader_json_reader.proofs.AnswerLemmas.{passed_on}
+use Rattle.shader_json_expressions.proofs.VariantLemmas.{math}
+use Rattle.shader_json_expressions.proofs.expressions.math.Goals as goal
+
+pub returns-in_err-fun-clause-accepts : goal.returns-in_err-fun-clause-accepts
+returns-in_err-fun-clause-accepts c = λ x h. passed_on _ _ c.from_residual.ensures.1
+    (math _ (object (members_view c.args.fields.members.now))
+    (λ fun arg arg1 arg2 arg3 u. c.in_err-fun.ensures.accepts (record { 0 = fun }, arg) (u.1.0, u.1.1)) refl x h)
+
+pub returns-in_err-optional-clause-accepts : goal.returns-in_err-optional-clause-accepts
+returns-in_err-optional-clause-accepts c = λ x h. passed_on _ _ c.from_residual-in_err-optional.ensures.1
+    (math _ (object (members_view c.args.fields.members.now))
+    (λ fun arg arg1 arg2 arg3 u. c.in_err-optional.ensures.accepts arg1 u.1.2) refl x h)
+
+pub returns-in_err-optional-2-clause-accepts : goal.returns-in_err-optional-2-clause-accepts
+returns-in_err-optional-2-clause-accepts c = λ x h. passed_on _ _ c.from_residual-in_err-optional-2.ensures.1
+    (math _ (object (members_view c.args.fields.members.now))
+    (λ fun arg arg1 arg2 arg3 u. c.in_err-optional-2.ensures.accepts arg2 u.1.3) refl x h)
+
+pub returns-in_err-optional-3-clause-accepts : goal.returns-in_err-optional-3-clause-accepts
+returns-in_err-optional-3-clause-accepts c = λ x h. passed_on _ _ c.from_residual-in_err-optional-3.ensures.1
+    (math _ (object (members_view c.args.fields.members.now))
+    (λ fun arg arg1 arg2 arg3 u. c.in_err-optional-3.ensures.accepts arg3 u.1.4) refl x h)

@@ -1,0 +1,57 @@
+use Rattle.std.proofs.Common.{refl, arith}
+use Rattle.std.proofs.lemmas.Grind.{common_steps}
+use Rattle.shader_json_reader.proofs.AnswerLemmas.{passed_on}
+use Rattle.shader_json_expressions.specs.Operators.{IsComponent}
+use Rattle.shader_json_declarations.proofs.ListLemmas.{array_view, item_of, list_count}
+use Rattle.shader_json_expressions.proofs.PatternLemmas.{four_items}
+use Rattle.shader_json_expressions.proofs.operators.PatternRead.read.Goals.{in_default-as_slice-via-then-as_slice-lt4}
+use Rattle.shader_json_expressions.proofs.operators.PatternRead.read.Goals.{in_default-as_slice-via-else-as_slice-lt4+else-this-lt5}
+use Rattle.shader_json_expressions.proofs.operators.PatternRead.read.Goals as goal
+
+pub returns-in_err-component-in-len4-clause-accepts : goal.returns-in_err-component-in-len4-clause-accepts
+returns-in_err-component-in-len4-clause-accepts c = λ x h.
+    let items = c.as_slice.result.now in
+    let is = array_view c.args.value.now c.in-Array.items items c.in-Array.is c.as_slice.ensures.value in
+    passed_on _ _ c.from_residual.ensures.1 (item_of IsComponent _ items 0 c.x-item.result x.0 is (omega arith)
+    c.x-item.is c.in_err-component-in-len4.ensures.accepts h.0)
+
+pub returns-in_err-component-in-len4-2-clause-accepts : goal.returns-in_err-component-in-len4-2-clause-accepts
+returns-in_err-component-in-len4-2-clause-accepts c = λ x h.
+    let items = c.as_slice.result.now in
+    let is = array_view c.args.value.now c.in-Array.items items c.in-Array.is c.as_slice.ensures.value in
+    passed_on _ _ c.from_residual-in_err-component-in-len4-2.ensures.1 (item_of IsComponent _ items 1 c.y-item.result x.0 is (omega arith)
+    c.y-item.is c.in_err-component-in-len4-2.ensures.accepts h.0)
+
+pub returns-in_err-component-in-len4-3-clause-accepts : goal.returns-in_err-component-in-len4-3-clause-accepts
+returns-in_err-component-in-len4-3-clause-accepts c = λ x h.
+    let items = c.as_slice.result.now in
+    let is = array_view c.args.value.now c.in-Array.items items c.in-Array.is c.as_slice.ensures.value in
+    passed_on _ _ c.from_residual-in_err-component-in-len4-3.ensures.1 (item_of IsComponent _ items 2 c.z-item.result x.0 is (omega arith)
+    c.z-item.is c.in_err-component-in-len4-3.ensures.accepts h.0)
+
+pub returns-in_err-component-in-len4-4-clause-accepts : goal.returns-in_err-component-in-len4-4-clause-accepts
+returns-in_err-component-in-len4-4-clause-accepts c = λ x h.
+    let items = c.as_slice.result.now in
+    let is = array_view c.args.value.now c.in-Array.items items c.in-Array.is c.as_slice.ensures.value in
+    passed_on _ _ c.from_residual-in_err-component-in-len4-4.ensures.1 (item_of IsComponent _ items 3 c.w-item.result x.0 is (omega arith)
+    c.w-item.is c.in_err-component-in-len4-4.ensures.accepts h.0)
+
+pub returns-in_ok-component-in-len4-4-clause-reads : goal.returns-in_ok-component-in-len4-4-clause-reads
+returns-in_ok-component-in-len4-4-clause-reads c = (
+  four_items IsComponent _ _
+      (array_view c.args.value.now c.in-Array.items c.as_slice.result.now c.in-Array.is c.as_slice.ensures.value) _ _ _ _ _ _ _ _ (omega arith) c.x-item.is c.y-item.is
+      c.z-item.is c.w-item.is c.in_ok-component-in-len4.ensures.reads c.in_ok-component-in-len4-2.ensures.reads
+      c.in_ok-component-in-len4-3.ensures.reads c.in_ok-component-in-len4-4.ensures.reads,
+  refl,
+)
+
+pub returns-in_default-as_slice-clause-accepts : goal.returns-in_default-as_slice-clause-accepts
+returns-in_default-as_slice-clause-accepts c = λ x h.
+    let items = c.as_slice.result.now in
+    let is = array_view c.args.value.now c.in-Array.items items c.in-Array.is c.as_slice.ensures.value in
+    let long = list_count IsComponent _ items x.0 is h.0 in
+    let four = h.1 in
+    elim c.in_default-as_slice.branch [
+      | in_default-as_slice-via-then-as_slice-lt4 w ↦ absurd (grind (arith, common_steps))
+      | in_default-as_slice-via-else-as_slice-lt4+else-this-lt5 w ↦ absurd (grind (arith, common_steps))
+    ]

@@ -1,0 +1,12 @@
+use Rattle.std.proofs.Common.{codes, refl}
+use Rattle.shader_ir.specs.Body as s
+use Rattle.shader_json_reader.proofs.AnswerLemmas.{passed_on}
+use Rattle.shader_json_reader.proofs.ShapeLemmas.{apart}
+use Rattle.shader_json_functions.proofs.DeterminedSimple.{label_simple}
+use Rattle.shader_json_functions.proofs.AcceptLemmas.{swapped}
+use Rattle.shader_json_functions.proofs.statements.ray_query.Goals as goal
+
+pub returns-in_err-fun-clause-accepts : goal.returns-in_err-fun-clause-accepts
+returns-in_err-fun-clause-accepts c (s.RayQuery query fun) u =
+    passed_on _ _ c.from_residual.ensures.1 (c.in_err-fun.ensures.accepts (record { 0 = fun }, query) (swapped _ _ _ u.1))
+returns-in_err-fun-clause-accepts c x u = apart (codes "RayQuery") (label_simple x) refl u.0
