@@ -9,8 +9,6 @@ from decimal import Decimal
 
 from spelled_json import Number, Object, value_of
 
-# Whether the members are read that the IR of `report` lacks, and that tell the interface of a shader.
-READS_INTERFACE = False
 # The names of the variants without data, of each enum.
 UNITS = []
 GREATEST_HANDLE = 2**32 - 2
@@ -174,7 +172,7 @@ def beside(read_struct, read_interface):
     """Returns the reader of objects that have members of the interface beside those of the IR, which alone are compared."""
 
     def read(value, at):
-        if READS_INTERFACE and isinstance(value, Object):
+        if isinstance(value, Object):
             read_interface(value, at)
         return read_struct(value, at)
 
@@ -191,16 +189,8 @@ SAMPLING = {"interpolation": enum("Perspective Linear Flat PerVertex"), "samplin
 INTERPOLATED = struct("interpolation? sampling? blend_src?", blend_src=u32, **SAMPLING)
 IDENTIFIED = struct("id?", id=u16)
 BOUND = struct("binding?", binding=struct("group binding", group=u32, binding=u32))
-SIZED_BY_OVERRIDES = struct("workgroup_size_overrides?", workgroup_size_overrides=items(option(handle), 3))
-SIZED = struct("workgroup_size", workgroup_size=items(u32, 3))
-
-
-def sized(value, at):
-    """Reads the sizes of work groups, which may be absent, but not null."""
-    SIZED_BY_OVERRIDES(value, at)
-    if any(key == "workgroup_size" for key, _ in value):
-        SIZED(value, at)
-
+SIZES = {"workgroup_size": items(u32, 3), "workgroup_size_overrides": items(option(handle), 3)}
+SIZED = struct("workgroup_size? workgroup_size_overrides?", **SIZES)
 
 # Types. The payload of a built-in value is a flag, or there is none.
 BUILT_INS = enum(
@@ -436,7 +426,7 @@ MODULE = struct(
     global_variables=items(beside(struct("name? space ty init?", name=string, space=SPACE), BOUND)),
     global_expressions=items(EXPRESSION),
     functions=items(FUNCTION),
-    entry_points=items(beside(ENTRY_POINT, sized)),
+    entry_points=items(beside(ENTRY_POINT, SIZED)),
     diagnostic_filters=items(struct("inner parent?", inner=FILTER)),
 )
 

@@ -1,7 +1,7 @@
 -- naga's built-in values: their names with the flag that is their payload, the value of each in the IR, and its name in WGSL.
-use Rattle.std.specs.Prelude.{ℕ, List, [], ◌∷◌, map, Bool, true, false, not, ◌&&◌, Option, Some, None, codes, if◌then◌else◌, nat_lt}
+use Rattle.std.specs.Prelude.{ℕ, List, [], ◌∷◌, map, Bool, true, false, not, ◌&&◌, Option, Some, None, codes, if◌then◌else◌}
 use Rattle.std.specs.Borrow.{Bor}
-use Rattle.std.specs.List.{list_all, list_any}
+use Rattle.std.specs.List.{list_any}
 use Rattle.std.specs.Option.{option_eq, option_map}
 use Rattle.std.specs.Str.{bytes_eq}
 use Rattle.shader_ir.specs.contracts.binding.BuiltInPartialEq.TheImpl as equal
@@ -110,19 +110,10 @@ flag_named name =
 unfoldable pub wgsl_name : BuiltIn → Option (List ℕ)
 wgsl_name b = word_in built_ins b
 
--- the first number that no row has
-abbrev pub first_further : ℕ
-first_further = 256
-
 -- no two items are equal
 abbrev are_distinct : {A : Type 0} → (A → A → Bool) → List A → Bool
 are_distinct eq [] = true
 are_distinct eq (x ∷ xs) = not (list_any (eq x) xs) && are_distinct eq xs
-
--- the number of a built-in value is below the first further one
-abbrev is_below : BuiltIn → Bool
-is_below (Other n) = nat_lt n first_further
-is_below _ = true
 
 -- no two rows have a name and a flag in common
 abbrev pub names_are_distinct : Bool
@@ -131,7 +122,3 @@ names_are_distinct = are_distinct (λ row. is_named row.0 row.1) built_ins
 -- no two rows have a value in common
 abbrev pub values_are_distinct : Bool
 values_are_distinct = are_distinct (λ row other. equal.ghosts.eq row.2 other.2) built_ins
-
--- no row has a further number
-abbrev pub values_are_below : Bool
-values_are_below = list_all (λ row. is_below row.2) built_ins

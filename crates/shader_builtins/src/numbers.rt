@@ -2,9 +2,6 @@
 
 use shader_ir::BuiltIn;
 
-/// The first number that no built-in value of the table has.
-pub const FIRST_FURTHER: u32 = 256;
-
 /// The position of a vertex or a fragment (naga's `Position`, not invariant).
 pub const POSITION: BuiltIn = BuiltIn::Other(0);
 /// The same, invariant.

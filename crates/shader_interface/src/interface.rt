@@ -16,7 +16,7 @@ use json::Value;
 use std::alloc::{AllocError, Global};
 
 /// The JSON of a module, as serde prints naga's. Positions are those of the module's items: of handles, and of entry points in their list.
-/// A member that the JSON lacks, or has in another form than naga prints, is `None`.
+/// A member that is absent or null is `None`. One of another form than naga prints is, too, but JSON with such a member denotes no module.
 #[derive(Clone, Copy)]
 pub struct Interface<'v, 'a>(pub &'v Value<'a>);
 

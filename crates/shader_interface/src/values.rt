@@ -1,4 +1,5 @@
-//! Look-ups in values that may be absent. A value of another form than the one that is asked for counts as absent.
+//! Look-ups in values that may be absent. A value of another form than the one that is asked for counts as absent. The JSON of a module has
+//! none there.
 ghost use Rattle.std.specs.Prelude.{◌≡◌, option_and_then, option_map};
 ghost use Rattle.json.specs.Value.{value_view};
 ghost use Rattle.shader_interface.specs.Interface.{integer_in, integer_of, item_in, member_in, payload_of, seen};

@@ -108,7 +108,7 @@ binding_of : (name : List ℕ) (payload : Option Json) (x y : Binding) → IsBin
 binding_of name payload (bindings.BuiltIn builtin) (bindings.BuiltIn builtin′) u v = ap bindings.BuiltIn
     (newtype IsBuiltIn builtin_same payload builtin builtin′ u.1 v.1)
 binding_of name payload (bindings.Location location) (bindings.Location location′) u v = same_struct _ _ _ _
-    (λ ms p q i. bindings.Location (field IsU32 u32_same (codes "location") ms location location′ p q i)) payload u.1 v.1
+    (λ ms p q i. bindings.Location (field IsU32 u32_same (codes "location") ms location location′ p.0 q.0 i)) payload u.1 v.1
 binding_of name payload x y u v = apart (label_binding x) (label_binding y) refl
     (sym (labelled_binding name payload x u) ∙ labelled_binding name payload y v)
 

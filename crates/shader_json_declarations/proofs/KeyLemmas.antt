@@ -15,17 +15,30 @@ use Rattle.shader_ir.specs.declared.scalar.Scalar.{Scalar}
 use Rattle.shader_json_declarations.specs.Scalars.{IsScalar}
 use Rattle.shader_ir.specs.declared.scalar.VectorSize.{VectorSize}
 use Rattle.shader_json_reader.proofs.ShapeLemmas.{apart}
-use Rattle.shader_json_reader.specs.Shapes.{AreDistinct, Each, IsAbsent, IsNewtype, IsObject, IsVariant, variant_of}
+use Rattle.shader_json_reader.specs.Numbers.{IsHandle}
+use Rattle.shader_json_reader.specs.Shapes.{AreDistinct, Each, IsAbsent, IsArray, IsNewtype, IsObject, IsPair, IsVariant, variant_of}
 use Rattle.shader_json_declarations.proofs.DeterminedDeclarations.{dropped_same, entry_same}
 use Rattle.shader_json_declarations.proofs.DistinctLemmas.{absent_before, key_before}
 use Rattle.shader_json_declarations.proofs.EntryLemmas.{split_unless}
 use Rattle.shader_json_declarations.proofs.PayloadLemmas.{of_frexp, of_modf}
 use Rattle.shader_json_declarations.specs.Keys.{IsKey, IsKeyed, IsNew}
-use Rattle.shader_json_declarations.specs.SpecialTypes.{ArePredeclared, HasShape, IsDroppedEntry, IsEntry, IsPredeclaredOf, is_dropped}
-use Rattle.shader_json_declarations.specs.SpecialTypes.{item_unless, recorded}
-use Rattle.shader_json_declarations.specs.SpecialTypes.{unrecorded}
+use Rattle.shader_json_declarations.specs.SpecialTypes.{ArePredeclared, HasShape, IsDroppedEntry, IsEntry, IsExchangeResult, IsPredeclared}
+use Rattle.shader_json_declarations.specs.SpecialTypes.{IsPredeclaredOf, is_dropped, item_unless, recorded, unrecorded}
 use Rattle.shader_json_declarations.specs.declared.special_types.Key.{Key}
 use Rattle.shader_json_declarations.specs.declared.special_types.Key.TheVariants.{Dropped, Supported}
+
+-- a pair has a key and a type
+as_pair : {X : Type 0} (P : Json → Json → Type 0) (j : Json)
+    → ((key ty : Json) → j ≡ array (item key (item ty no_items)) → P key ty → X) → IsArray j (IsPair P) → X
+as_pair P null f h = absurd h
+as_pair P (boolean b) f h = absurd h
+as_pair P (number s) f h = absurd h
+as_pair P (string s) f h = absurd h
+as_pair P (array no_items) f h = absurd h
+as_pair P (array (item key no_items)) f h = absurd h
+as_pair P (array (item key (item ty no_items))) f h = f key ty refl h
+as_pair P (array (item key (item ty (item k js)))) f h = absurd h
+as_pair P (object ms) f h = absurd h
 
 -- the key of an entry is recorded
 recorded_of : (name : List ℕ) (payload : Option Json) (ty : PredeclaredType) → IsPredeclaredOf name payload ty
@@ -42,15 +55,8 @@ recorded_found None ty h = absurd h
 recorded_found (Some v) ty h = recorded_of v.0 v.1 ty h
 
 pub entry_recorded : (j : Json) (entry : PredeclaredType × ℕ) → IsEntry j entry → is_dropped j ≡ false
-entry_recorded null entry h = absurd h
-entry_recorded (boolean b) entry h = absurd h
-entry_recorded (number s) entry h = absurd h
-entry_recorded (string s) entry h = absurd h
-entry_recorded (array no_items) entry h = absurd h
-entry_recorded (array (item key no_items)) entry h = absurd h
-entry_recorded (array (item key (item ty no_items))) entry h = recorded_found (variant_of key) entry.0 h.0
-entry_recorded (array (item key (item ty (item k js)))) entry h = absurd h
-entry_recorded (object ms) entry h = absurd h
+entry_recorded j entry h = as_pair (λ key ty. IsPredeclared key entry.0 × IsHandle ty entry.1) j
+    (λ key ty is p. ap is_dropped is ∙ recorded_found (variant_of key) entry.0 p.0) h
 
 -- what an entry adds
 pub entry_added : (j : Json) (key : PredeclaredType) (ty : ℕ) → IsKeyed j (Supported key) ty
@@ -71,27 +77,19 @@ unrecorded_found : (found : Option (List ℕ × Option Json)) (scalar : Scalar)
 unrecorded_found None scalar h = absurd h
 unrecorded_found (Some v) scalar h = ap (λ n. bytes_eq n (codes "AtomicCompareExchangeWeakResult")) h.0
 
-pub dropped_found : (j : Json) (scalar : Scalar) (ty : ℕ) → IsKeyed j (Dropped scalar) ty → is_dropped j ≡ true
-dropped_found null scalar ty h = absurd h
-dropped_found (boolean b) scalar ty h = absurd h
-dropped_found (number s) scalar ty h = absurd h
-dropped_found (string s) scalar ty h = absurd h
-dropped_found (array no_items) scalar ty h = absurd h
-dropped_found (array (item key no_items)) scalar ty h = absurd h
-dropped_found (array (item key (item handle no_items))) scalar ty h = unrecorded_found (variant_of key) scalar h.0
-dropped_found (array (item key (item handle (item k js)))) scalar ty h = absurd h
-dropped_found (object ms) scalar ty h = absurd h
+module _ (j : Json) (scalar : Scalar) where
+  pub dropped_found : (handle : ℕ) → IsKeyed j (Dropped scalar) handle → is_dropped j ≡ true
+  dropped_found handle h = as_pair (λ key ty. IsExchangeResult key scalar × IsHandle ty handle) j
+      (λ key ty is p. ap is_dropped is ∙ unrecorded_found (variant_of key) scalar p.0) h
 
-dropped_entry : (j : Json) (scalar : Scalar) (ty : ℕ) → IsKeyed j (Dropped scalar) ty → IsDroppedEntry j scalar
-dropped_entry null scalar ty h = absurd h
-dropped_entry (boolean b) scalar ty h = absurd h
-dropped_entry (number s) scalar ty h = absurd h
-dropped_entry (string s) scalar ty h = absurd h
-dropped_entry (array no_items) scalar ty h = absurd h
-dropped_entry (array (item key no_items)) scalar ty h = absurd h
-dropped_entry (array (item key (item handle no_items))) scalar ty h = (h.0, (ty, h.1))
-dropped_entry (array (item key (item handle (item k js)))) scalar ty h = absurd h
-dropped_entry (object ms) scalar ty h = absurd h
+  dropped_entry : (handle : ℕ) → IsKeyed j (Dropped scalar) handle → IsDroppedEntry j scalar
+  dropped_entry handle h = as_pair (λ key ty. IsExchangeResult key scalar × IsHandle ty handle) j
+      (λ key ty is p. subst (λ (k : Json). IsDroppedEntry k scalar) (sym is) (p.0, (handle, p.1))) h
+
+  -- a dropped pair has some handle
+  with_handle : {X : Type 0} → ((handle : ℕ) → IsKeyed j (Dropped scalar) handle → X) → IsDroppedEntry j scalar → X
+  with_handle f h = as_pair (λ key ty. IsExchangeResult key scalar × ((handle : ℕ) × IsHandle ty handle)) j
+      (λ key ty is p. f p.1.0 (subst (λ (k : Json). IsKeyed k (Dropped scalar) p.1.0) (sym is) (p.0, p.1.1))) h
 
 -- what a dropped pair adds
 pub drop_added : (j : Json) (scalar : Scalar) (ty : ℕ) → IsKeyed j (Dropped scalar) ty
@@ -122,19 +120,6 @@ dropped_new j scalar handle (Dropped other) handle′ stored dropped h k new =
     (dropped_same j other scalar (dropped_entry j other handle′ k) (dropped_entry j scalar handle h)) new
 dropped_new j scalar handle (Supported ty) handle′ stored dropped h k new =
     absurd (true≢false (sym (dropped_found j scalar handle h) ∙ entry_recorded j (ty, handle′) k))
-
--- a dropped pair has some handle
-with_handle : {X : Type 0} (j : Json) (scalar : Scalar) → ((handle : ℕ) → IsKeyed j (Dropped scalar) handle → X) → IsDroppedEntry j scalar
-    → X
-with_handle null scalar f h = absurd h
-with_handle (boolean b) scalar f h = absurd h
-with_handle (number s) scalar f h = absurd h
-with_handle (string s) scalar f h = absurd h
-with_handle (array no_items) scalar f h = absurd h
-with_handle (array (item key no_items)) scalar f h = absurd h
-with_handle (array (item key (item ty no_items))) scalar f h = f h.1.0 (h.0, h.1.1)
-with_handle (array (item key (item ty (item k js)))) scalar f h = absurd h
-with_handle (object ms) scalar f h = absurd h
 
 module _ {X : Type 0} (vs : List (Value Global)) (i : ℕ) (v : Value Global) (within : i < length vs) (same : v ≡ get_or vs i v)
     (stored : List (PredeclaredType × ℕ)) (dropped : List Scalar)

@@ -107,3 +107,21 @@ split_each R determined (w ∷ vs) (suc i) v (y ∷ ys) [] within same so_far al
 split_each R determined (w ∷ vs) (suc i) v (y ∷ ys) (x ∷ xs) within same so_far all f =
     let first : x ≡ y = determined (value_view w) x y all.0 so_far.0 in
     split_each R determined vs i v ys xs (omega arith) same so_far.1 all.1 (λ z rest r is. f z rest r (λ k. first k ∷ is k))
+
+-- three items
+module _ {A : Type 0} (R : Reading A) where
+  three_each : (vs : List (Value Global)) (a b c : Value Global) (x y z : A) → length vs ≡ 3 → R (value_view (get_or vs 0 a)) x
+      → R (value_view (get_or vs 1 b)) y → R (value_view (get_or vs 2 c)) z → Each R (items_view vs) (x ∷ y ∷ z ∷ [])
+  three_each [] a b c x y z three p q r = absurd (omega arith)
+  three_each (k ∷ []) a b c x y z three p q r = absurd (omega arith)
+  three_each (k ∷ l ∷ []) a b c x y z three p q r = absurd (omega arith)
+  three_each (k ∷ l ∷ m ∷ []) a b c x y z three p q r = (p, (q, (r, tt)))
+  three_each (k ∷ l ∷ m ∷ n ∷ vs) a b c x y z three p q r = absurd (omega arith)
+
+  pub three_items : (j : Json) (vs : List (Value Global)) → j ≡ array (items_view vs) → (k l m : Value Global) (x y z : A)
+      → length vs ≡ 3 → k ≡ get_or vs 0 k → l ≡ get_or vs 1 l → m ≡ get_or vs 2 m → R (value_view k) x → R (value_view l) y
+      → R (value_view m) z → IsList R j (x ∷ y ∷ z ∷ [])
+  three_items j vs is k l m x y z three at_k at_l at_m p q r =
+      let all = three_each vs k l m x y z three (subst (λ (v : Value Global). R (value_view v) x) at_k p)
+      (subst (λ (v : Value Global). R (value_view v) y) at_l q) (subst (λ (v : Value Global). R (value_view v) z) at_m r) in
+      subst (λ (i : Json). IsList R i (x ∷ y ∷ z ∷ [])) (sym is) all

@@ -20,7 +20,7 @@ use Rattle.shader_ir.specs.declared.types.AddressSpace.TheVariants as spaces
 use Rattle.shader_ir.specs.declared.types.ArraySize.{ArraySize}
 use Rattle.shader_ir.specs.declared.types.ArraySize.TheVariants as lengths
 use Rattle.shader_json_reader.proofs.ShapeLemmas.{apart}
-use Rattle.shader_json_reader.specs.Numbers.{IsCount, IsHandle, IsTruth, IsU32}
+use Rattle.shader_json_reader.specs.Numbers.{IsCount, IsHandle, IsTruth}
 use Rattle.shader_json_reader.specs.Shapes.{HasField, IsObject}
 use Rattle.shader_json_declarations.proofs.DeterminedScalars.{label_class, labelled_class}
 use Rattle.shader_json_declarations.proofs.DeterminedTypes.{label_binding, label_length, label_space, labelled_binding, labelled_length}
@@ -29,7 +29,7 @@ use Rattle.shader_json_declarations.specs.BuiltIns.{IsBuiltIn}
 use Rattle.shader_json_declarations.specs.Filters.{IsRuleOf, IsStandardRule, IsUserRule}
 use Rattle.shader_json_declarations.specs.Scalars.{IsAccess, IsClassOf, IsFormat, IsKind}
 use Rattle.shader_json_declarations.specs.SpecialTypes.{HasShape, IsPredeclaredOf}
-use Rattle.shader_json_declarations.specs.Types.{IsBindingOf, IsLengthOf, IsSpaceOf}
+use Rattle.shader_json_declarations.specs.Types.{IsBindingOf, IsLengthOf, IsLocation, IsSpaceOf}
 
 -- the flag that is the payload of a built-in value
 pub with_flag : (found : Option (List ℕ)) (k : Json) (name : List ℕ) (flag : Bool) → found ≡ Some name
@@ -70,7 +70,7 @@ module _ {X : Type 0} (k : Json) where
   of_built_in (bindings.BuiltIn b) f u = f b u.1
   of_built_in x f u = apart (codes "BuiltIn") (label_binding x) refl (labelled_binding (codes "BuiltIn") (Some k) x u)
 
-  pub of_location : (x : Binding) → ((location : ℕ) → IsObject k (λ ms. HasField IsU32 (codes "location") ms location) → X)
+  pub of_location : (x : Binding) → ((location : ℕ) → IsObject k (λ ms. IsLocation ms location) → X)
       → IsBindingOf (codes "Location") (Some k) x → X
   of_location (bindings.Location location) f u = f location u.1
   of_location x f u = apart (codes "Location") (label_binding x) refl (labelled_binding (codes "Location") (Some k) x u)

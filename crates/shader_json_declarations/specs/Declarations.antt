@@ -8,8 +8,9 @@ use Rattle.shader_ir.specs.declared.function.ShaderStage.{ShaderStage}
 use Rattle.shader_ir.specs.declared.module.Constant.{Constant}
 use Rattle.shader_ir.specs.declared.module.GlobalVariable.{GlobalVariable}
 use Rattle.shader_ir.specs.declared.module.Override.{Override}
-use Rattle.shader_json_reader.specs.Numbers.{IsHandle, IsText}
-use Rattle.shader_json_reader.specs.Shapes.{IsObject, HasField, MayHaveField}
+use Rattle.shader_json_reader.specs.Numbers.{IsHandle, IsText, IsU16}
+use Rattle.shader_json_reader.specs.Shapes.{IsObject, HasField, MayHave, MayHaveField}
+use Rattle.shader_json_declarations.specs.Interface.{IsResourceBinding}
 use Rattle.shader_json_declarations.specs.Names.{stage_name}
 use Rattle.shader_json_declarations.specs.Types.{IsBinding, IsSpace}
 
@@ -21,12 +22,13 @@ IsConstant j c =
 abbrev pub IsOverride : Json → Override → Type 0
 IsOverride j o =
     IsObject j (λ ms. MayHaveField IsText (codes "name") ms o.name × HasField IsHandle (codes "ty") ms o.ty
-    × MayHaveField IsHandle (codes "init") ms o.init)
+    × MayHaveField IsHandle (codes "init") ms o.init × MayHave IsU16 (codes "id") ms)
 
 abbrev pub IsGlobal : Json → GlobalVariable → Type 0
 IsGlobal j v =
     IsObject j (λ ms. MayHaveField IsText (codes "name") ms v.name × HasField IsSpace (codes "space") ms v.space
-    × HasField IsHandle (codes "ty") ms v.ty × MayHaveField IsHandle (codes "init") ms v.init)
+    × HasField IsHandle (codes "ty") ms v.ty × MayHaveField IsHandle (codes "init") ms v.init
+    × MayHave IsResourceBinding (codes "binding") ms)
 
 abbrev pub IsArgument : Json → FunctionArgument → Type 0
 IsArgument j a =

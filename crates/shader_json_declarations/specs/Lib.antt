@@ -2,6 +2,7 @@ pub mod Arenas
 pub mod BuiltIns
 pub mod Declarations
 pub mod Filters
+pub mod Interface
 pub mod Keys
 pub mod NamedExpressions
 pub mod Names

@@ -1,6 +1,6 @@
 -- Types, and the bindings of arguments, results and members, in the JSON of modules.
 use Rattle.std.specs.Prelude.{ℕ, List, Option, codes}
-use Rattle.json.specs.Json.{Json}
+use Rattle.json.specs.Json.{Json, Members}
 use Rattle.shader_ir.specs.declared.binding.Binding.{Binding}
 use Rattle.shader_ir.specs.declared.binding.Binding.TheVariants as bindings
 use Rattle.shader_ir.specs.declared.types.AddressSpace.{AddressSpace}
@@ -12,9 +12,11 @@ use Rattle.shader_ir.specs.declared.types.Type.{«Type»}
 use Rattle.shader_ir.specs.declared.types.TypeInner.{TypeInner}
 use Rattle.shader_ir.specs.declared.types.TypeInner.TheVariants as t
 use Rattle.shader_json_reader.specs.Numbers.{IsCount, IsHandle, IsText, IsTruth, IsU32}
-use Rattle.shader_json_reader.specs.Shapes.{AreDistinct, IsObject, IsVariant, IsUnit, IsNewtype, IsStruct, IsList, HasField, MayHaveField}
+use Rattle.shader_json_reader.specs.Shapes.{AreDistinct, IsObject, IsVariant, IsUnit, IsNewtype, IsStruct, IsList, HasField, MayHave}
+use Rattle.shader_json_reader.specs.Shapes.{MayHaveField}
 use Rattle.shader_json_declarations.specs.Arenas.{IsArena}
 use Rattle.shader_json_declarations.specs.BuiltIns.{IsBuiltIn}
+use Rattle.shader_json_declarations.specs.Interface.{IsInterpolation, IsSampling}
 use Rattle.shader_json_declarations.specs.Scalars.{IsScalar, IsSize, IsCooperativeSize, IsRole, IsDimension, IsClass, IsAccess}
 
 abbrev pub IsSpaceOf : List ℕ → Option Json → AddressSpace → Type 0
@@ -42,10 +44,15 @@ IsLengthOf name payload lengths.Dynamic = IsUnit (codes "Dynamic") name payload
 abbrev pub IsLength : Json → ArraySize → Type 0
 IsLength j size = IsVariant j (λ name payload. IsLengthOf name payload size)
 
+-- a location that stages share, with what the IR lacks of it
+abbrev pub IsLocation : Members → ℕ → Type 0
+IsLocation ms location =
+    HasField IsU32 (codes "location") ms location × MayHave IsInterpolation (codes "interpolation") ms
+    × MayHave IsSampling (codes "sampling") ms × MayHave IsU32 (codes "blend_src") ms
+
 abbrev pub IsBindingOf : List ℕ → Option Json → Binding → Type 0
 IsBindingOf name payload (bindings.BuiltIn builtin) = IsNewtype (codes "BuiltIn") name payload (λ j. IsBuiltIn j builtin)
-IsBindingOf name payload (bindings.Location location) =
-    IsStruct (codes "Location") name payload (λ ms. HasField IsU32 (codes "location") ms location)
+IsBindingOf name payload (bindings.Location location) = IsStruct (codes "Location") name payload (λ ms. IsLocation ms location)
 
 abbrev pub IsBinding : Json → Binding → Type 0
 IsBinding j binding = IsVariant j (λ name payload. IsBindingOf name payload binding)

@@ -3,7 +3,8 @@ ghost use Rattle.std.specs.Prelude.{◌≡◌, ◌∷◌, [], IfOk, Ok, OnOk, So
 ghost use Rattle.json.specs.Json.{object};
 ghost use Rattle.json.specs.Value.{members_view, value_view};
 ghost use Rattle.shader_json_reader.specs.Answers.{Accepts, IsUnrefused};
-ghost use Rattle.shader_json_reader.specs.Shapes.{HasField, HasOnly, IsObject, IsOnlyOrNull, MayHaveField, kept, values_of, variant_of};
+ghost use Rattle.shader_json_reader.specs.Shapes.{HasField, HasOnly, IsObject, IsOnlyOrNull, MayHave, MayHaveField, kept};
+ghost use Rattle.shader_json_reader.specs.Shapes.{values_of, variant_of};
 
 use crate::values::Read;
 use json::Value;
@@ -123,6 +124,19 @@ impl<'v, 'a> Fields<'v, 'a> {
             Ok(None) => self.seen(T::read(context, &Value::Null)),
             Err(failure) => self.seen(Err(failure)),
         }
+    }
+
+    /// Checks that the field of that name, which is dropped, can be read as `T`, or is absent or null.
+    ///
+    /// # Errors
+    ///
+    /// A field that occurs twice or can't be read.
+    pub fn check_optional<T: Read + Drop>(self, context: Context, name: &str) -> Result<(), Failure>
+        ensures reads { OnOk result (MayHave T.reads name.now (members_view self.entry.members.now)) }
+        ensures accepts { MayHave T.reads name.now (members_view self.entry.members.now) → IsUnrefused result }
+    {
+        self.optional::<T>(context, name)?;
+        Ok(())
     }
 
     /// Returns the index and the value of the field of that name. A failure is seen from the object.

@@ -2,6 +2,7 @@
 ghost use Rattle.shader_json_declarations.specs.Declarations.{IsConstant, IsGlobal, IsOverride};
 
 use crate::fields::Fields;
+use crate::interface::ResourceBinding;
 use crate::values::Read;
 use json::Value;
 use shader_ir::{Constant, GlobalVariable, Override};
@@ -23,8 +24,10 @@ impl Read for Override {
 
     fn read(context: Context, value: &Value<'_>) -> Result<Override, Failure> {
         let fields = Fields::of(context, value)?;
+        let name = fields.optional(context, "name")?;
+        fields.check_optional::<u16>(context, "id")?;
         Ok(Override {
-            name: fields.optional(context, "name")?,
+            name,
             ty: fields.needed(context, "ty")?,
             init: fields.optional(context, "init")?,
         })
@@ -38,6 +41,7 @@ impl Read for GlobalVariable {
         let fields = Fields::of(context, value)?;
         let name = fields.optional(context, "name")?;
         let (space, ty) = fields.pair(context, "space", "ty")?;
+        fields.check_optional::<ResourceBinding>(context, "binding")?;
         Ok(GlobalVariable {
             name,
             space,

@@ -7,6 +7,7 @@ mod filters;
 mod functions;
 mod globals;
 mod images;
+mod interface;
 mod maps;
 mod names;
 mod scalars;
@@ -15,5 +16,6 @@ mod types;
 mod values;
 
 pub use fields::{Data, Fields, Variant};
+pub use interface::{Interpolation, ResourceBinding, Sampling};
 pub use names::{Spelled, named};
 pub use values::{Read, read_item};

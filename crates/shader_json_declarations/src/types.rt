@@ -1,12 +1,14 @@
 //! Reads types, and the bindings of arguments, results and members.
 ghost use Rattle.json.specs.Value.{value_view};
-ghost use Rattle.shader_json_declarations.specs.BuiltIns.{IsBuiltIn, IsFlagOf};
-ghost use Rattle.shader_json_declarations.specs.Types.{AreTypes, IsBinding, IsInner, IsInnerOf, IsLength};
+ghost use Rattle.shader_json_declarations.specs.BuiltIns.{IsBuiltIn, IsBuiltInOf, IsFlagOf};
+ghost use Rattle.shader_json_declarations.specs.Types.{AreTypes, IsBinding, IsInner, IsInnerOf, IsLength, IsLocation};
 ghost use Rattle.shader_json_declarations.specs.Types.{IsMember, IsSpace, IsSpaceOf, IsType};
 ghost use Rattle.shader_json_reader.specs.Answers.{Accepts};
+ghost use Rattle.shader_json_reader.specs.Shapes.{IsObject};
 ghost use Rattle.std.specs.Prelude.{◌≡◌, IfOk, None, Some, codes};
 
 use crate::fields::{Data, Fields, Variant};
+use crate::interface::{Interpolation, Sampling};
 use crate::maps::add_item;
 use crate::values::{Read, read_item};
 use json::Value;
@@ -14,6 +16,9 @@ use shader_arena::UniqueArena;
 use shader_builtins::{built_in_named, flag_named};
 use shader_ir::{AddressSpace, ArraySize, Binding, BuiltIn, StructMember, Type, TypeInner, mark};
 use shader_json_reader::{Context, Failure};
+
+/// What is wanted of a variant with a payload whose name stands alone.
+const KEYED: &str = "an object with this name as its key";
 
 impl Read for AddressSpace {
     ghost reads = { λ j space. IsSpace j space };
@@ -55,6 +60,7 @@ fn space(context: Context, name: &str) -> Result<AddressSpace, Failure>
         "TaskPayload" => Ok(AddressSpace::TaskPayload),
         "RayPayload" => Ok(AddressSpace::RayPayload),
         "IncomingRayPayload" => Ok(AddressSpace::IncomingRayPayload),
+        "Storage" => Err(context.refused(KEYED)),
         _ => Err(context.refused("an address space")),
     }
 }
@@ -83,7 +89,7 @@ impl Read for BuiltIn {
                 let flag = flag_of(context, name, payload)?;
                 known(context, built_in_named(name, Some(flag)))
             }
-            None => known(context, built_in_named(name, None)),
+            None => alone(context, name),
         }
     }
 }
@@ -96,6 +102,25 @@ fn known(context: Context, found: Option<BuiltIn>) -> Result<BuiltIn, Failure>
     match found {
         Some(built_in) => Ok(built_in),
         None => Err(context.refused("a built-in value")),
+    }
+}
+
+/// Returns the built-in value whose name stands alone.
+fn alone(context: Context, name: &str) -> Result<BuiltIn, Failure>
+    ensures reads { IfOk result (IsBuiltInOf name.now None) }
+    ensures accepts { Accepts (IsBuiltInOf name.now None) result }
+{
+    match built_in_named(name, None) {
+        Some(built_in) => Ok(built_in),
+        None => Err(context.refused(wanted_alone(name))),
+    }
+}
+
+/// Returns what is wanted in place of a name that stands alone and is no built-in value.
+fn wanted_alone(name: &str) -> &'static str {
+    match flag_named(name) {
+        Some(_) => KEYED,
+        None => "a built-in value",
     }
 }
 
@@ -117,12 +142,23 @@ impl Read for Binding {
         let Variant { name, payload } = Variant::of(context, value)?;
         match (name, payload) {
             ("BuiltIn", Some(payload)) => Ok(Binding::BuiltIn(payload.read(context)?)),
-            ("Location", Some(payload)) => Ok(Binding::Location(payload.field(
-                context, "location",
-            )?)),
+            ("Location", Some(payload)) => Ok(Binding::Location(location(context, payload)?)),
             _ => Err(context.refused("`BuiltIn` or `Location`")),
         }
     }
+}
+
+/// Reads a location that stages share. How its value is interpolated and blended is checked and dropped.
+fn location(context: Context, payload: Data<'_, '_>) -> Result<u32, Failure>
+    ensures reads { IfOk result (λ location. IsObject (value_view payload.entry.value.now) (λ ms. IsLocation ms location)) }
+    ensures accepts { Accepts (λ location. IsObject (value_view payload.entry.value.now) (λ ms. IsLocation ms location)) result }
+{
+    let fields = payload.fields(context)?;
+    let location = fields.needed(context, "location")?;
+    fields.check_optional::<Interpolation>(context, "interpolation")?;
+    fields.check_optional::<Sampling>(context, "sampling")?;
+    fields.check_optional::<u32>(context, "blend_src")?;
+    Ok(location)
 }
 
 impl Read for StructMember {

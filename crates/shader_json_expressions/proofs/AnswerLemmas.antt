@@ -1,9 +1,20 @@
 -- What stands for the parts of a value.
-use Rattle.std.proofs.Common.{◌≡◌, false, Option, Some, None, MatchOption}
+use Rattle.std.proofs.Common.{◌≡◌, ◌≢◌, ℕ, List, false, Option, Some, None, MatchOption, subst}
 use Rattle.std.proofs.lemmas.Bool.{true≢false}
 use Rattle.json.specs.Find.{is_null}
 use Rattle.json.specs.Json.{Json, null, boolean, number, string, array, object, Members}
+use Rattle.shader_ir.specs.declared.expression.Expression.{Expression}
 use Rattle.shader_json_reader.specs.Shapes.{IsNullable, IsObject, Reading}
+use Rattle.shader_json_expressions.specs.Expressions.{IsExpressionOf}
+
+-- what a name denotes is what an equal name denotes
+pub renamed : (name wanted : List ℕ) (payload : Option Json) (x : Expression) → name ≡ wanted → IsExpressionOf name payload x
+    → IsExpressionOf wanted payload x
+renamed name wanted payload x same u = subst (λ n. IsExpressionOf n payload x) same u
+
+-- a payload that is there isn't none
+pub given : (j : Json) → Some j ≢ None
+given j same = cc
 
 -- what follows of the members follows of the object
 pub with_parts : {P Q : Members → Type 0} (j : Json) → ((ms : Members) → P ms → Q ms) → IsObject j P → IsObject j Q

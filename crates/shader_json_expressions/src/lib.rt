@@ -7,6 +7,7 @@ mod expressions;
 mod floats;
 mod literal;
 mod operators;
+mod variants;
 
 pub use expression_parts::Tile;
 pub use expressions::{Expressions, read_expression};

@@ -12,9 +12,10 @@ use Rattle.shader_json_declarations.specs.Arenas.{IsArena}
 use Rattle.shader_json_declarations.specs.Declarations.{IsArgument, IsLocal, IsResult, IsStage}
 use Rattle.shader_json_declarations.specs.NamedExpressions.{AreNamedExpressions}
 use Rattle.shader_json_expressions.specs.Expressions.{IsExpression}
-use Rattle.shader_json_reader.specs.Numbers.{IsHandle, IsText}
-use Rattle.shader_json_reader.specs.Shapes.{HasField, IsList, IsOnly, IsOnlyOrNull, IsNullable, MayHaveField, Reading, cons_if, values_of}
-use Rattle.shader_json_functions.specs.Functions.{HasSignature, IsEntryPoint, IsFunction}
+use Rattle.shader_json_reader.specs.Numbers.{IsHandle, IsText, IsU32}
+use Rattle.shader_json_reader.specs.Shapes.{HasField, IsList, IsOnly, IsOnlyOrNull, IsNullable, IsTriple, MayHave, MayHaveField, Reading}
+use Rattle.shader_json_reader.specs.Shapes.{cons_if, values_of}
+use Rattle.shader_json_functions.specs.Functions.{HasSignature, HasWorkgroupSize, IsEntryPoint, IsFunction}
 use Rattle.shader_json_functions.specs.Next.{AreParts, IsNext, member_unless, without}
 use Rattle.shader_json_functions.specs.Statements.{IsBlock}
 
@@ -44,6 +45,10 @@ module _ (first second : List ℕ) where
       → (bytes_eq name first || bytes_eq name second) ≡ false → MayHaveField R name (without first second ms) x → MayHaveField R name ms x
   still_may_have R name ms x apart has =
       subst (λ (js : List Json). IsOnlyOrNull (λ j. IsNullable R j x) js) (values_of-without name ms apart) has
+
+  pub still_may : {A : Type 0} (R : Reading A) (name : List ℕ) (ms : Members) → (bytes_eq name first || bytes_eq name second) ≡ false
+      → MayHave R name (without first second ms) → MayHave R name ms
+  still_may R name ms apart (x, has) = (x, still_may_have R name ms x apart has)
 
 abbrev members_in : Json → Members
 members_in null = no_members
@@ -81,12 +86,26 @@ next_function depth tokens rest left ms f parts is has =
       );
     }
 
--- the next value stands for an entry point if its function and its stage are read apart, and the rest has its name
+-- the next value stands for an entry point if its function and its stage are read apart, and the rest has its name and size
 pub next_entry_point : (depth : ℕ) (tokens rest : List Token) (left : Json) (ms : Members) (e : EntryPoint)
     → AreParts IsFunction IsStage (codes "function") (codes "stage") depth tokens rest e.function e.stage left
-    → left ≡ object ms → HasField IsText (codes "name") ms e.name → IsNext IsEntryPoint depth tokens rest e
-next_entry_point depth tokens rest left ms e parts is has =
+    → left ≡ object ms → HasField IsText (codes "name") ms e.name → HasWorkgroupSize ms → IsNext IsEntryPoint depth tokens rest e
+next_entry_point depth tokens rest left ms e parts is has sized =
     let same : ms ≡ without (codes "function") (codes "stage") parts.ms = same_members _ _ (sym is ∙ parts.left) in
     let named = still_has (codes "function") (codes "stage") IsText (codes "name") parts.ms e.name refl
     (subst (λ ns. HasField IsText (codes "name") ns e.name) same has) in
-    record { j = object parts.ms; next = parts.next; stands = (parts.has_first, named, parts.has_second) }
+    let size : HasWorkgroupSize (without (codes "function") (codes "stage") parts.ms) = subst (λ ns. HasWorkgroupSize ns) same sized in
+    record {
+      j = object parts.ms;
+      next = parts.next;
+      stands = (
+        parts.has_first,
+        named,
+        parts.has_second,
+        (
+          still_may (codes "function") (codes "stage") (IsTriple IsU32) (codes "workgroup_size") parts.ms refl size.0,
+          still_may (codes "function") (codes "stage") (IsTriple (IsNullable IsHandle)) (codes "workgroup_size_overrides") parts.ms
+              refl size.1,
+        ),
+      );
+    }

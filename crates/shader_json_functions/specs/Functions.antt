@@ -3,8 +3,8 @@ use Rattle.std.specs.Prelude.{codes}
 use Rattle.json.specs.Json.{Json, Members}
 use Rattle.shader_ir.specs.declared.function.EntryPoint.{EntryPoint}
 use Rattle.shader_ir.specs.declared.function.Function.{Function}
-use Rattle.shader_json_reader.specs.Numbers.{IsHandle, IsText}
-use Rattle.shader_json_reader.specs.Shapes.{IsObject, IsList, HasField, MayHaveField}
+use Rattle.shader_json_reader.specs.Numbers.{IsHandle, IsText, IsU32}
+use Rattle.shader_json_reader.specs.Shapes.{IsObject, IsList, IsNullable, IsTriple, HasField, MayHave, MayHaveField}
 use Rattle.shader_json_declarations.specs.Arenas.{IsArena}
 use Rattle.shader_json_declarations.specs.Declarations.{IsArgument, IsLocal, IsResult, IsStage}
 use Rattle.shader_json_declarations.specs.NamedExpressions.{AreNamedExpressions}
@@ -30,7 +30,13 @@ HasFunction ms f =
 abbrev pub IsFunction : Json → Function → Type 0
 IsFunction j f = IsObject j (λ ms. HasFunction ms f)
 
+-- the size of an entry point's work groups, and the expressions that give it instead, which the IR lacks
+abbrev pub HasWorkgroupSize : Members → Type 0
+HasWorkgroupSize ms =
+    MayHave (IsTriple IsU32) (codes "workgroup_size") ms
+    × MayHave (IsTriple (IsNullable IsHandle)) (codes "workgroup_size_overrides") ms
+
 abbrev pub IsEntryPoint : Json → EntryPoint → Type 0
 IsEntryPoint j e =
     IsObject j (λ ms. HasField IsFunction (codes "function") ms e.function × HasField IsText (codes "name") ms e.name
-    × HasField IsStage (codes "stage") ms e.stage)
+    × HasField IsStage (codes "stage") ms e.stage × HasWorkgroupSize ms)

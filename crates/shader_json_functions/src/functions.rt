@@ -3,15 +3,15 @@ ghost use Rattle.std.specs.Prelude.{IfOk, OnOk};
 ghost use Rattle.json.specs.Value.{members_view, value_view};
 ghost use Rattle.shader_json_declarations.specs.Arenas.{IsArena};
 ghost use Rattle.shader_json_declarations.specs.Declarations.{IsStage};
-ghost use Rattle.shader_json_functions.specs.Functions.{HasFunction, HasSignature, IsEntryPoint, IsFunction};
-ghost use Rattle.shader_json_reader.specs.Answers.{Accepts};
+ghost use Rattle.shader_json_functions.specs.Functions.{HasFunction, HasSignature, HasWorkgroupSize, IsEntryPoint, IsFunction};
+ghost use Rattle.shader_json_reader.specs.Answers.{Accepts, IsUnrefused};
 ghost use Rattle.shader_json_reader.specs.Shapes.{IsList};
 
 use crate::next::{ReadNext, next_value};
 use crate::parts::Parts;
 use crate::statements::Body;
 use json::{Reader, Value};
-use shader_arena::Arena;
+use shader_arena::{Arena, Handle};
 use shader_ir::{EntryPoint, Expression, Function, Items, ShaderStage, mark};
 use shader_json_declarations::{Fields, Read, read_item};
 use shader_json_expressions::Expressions;
@@ -144,6 +144,18 @@ fn entry_point_at(context: Context, index: usize, value: &Value<'_>) -> Result<E
     within(index, entry_point(context, value))
 }
 
+/// Checks the size of the work groups of an entry point with these fields, which the IR lacks.
+fn check_workgroup_size(context: Context, fields: Fields<'_, '_>) -> Result<(), Failure>
+    ensures reads { OnOk result (HasWorkgroupSize (members_view fields.entry.members.now)) }
+    ensures accepts { HasWorkgroupSize (members_view fields.entry.members.now) → IsUnrefused result }
+{
+    fields.check_optional::<[u32; 3]>(context, "workgroup_size")?;
+    fields.check_optional::<[Option<Handle<mark::Expression>>; 3]>(
+        context,
+        "workgroup_size_overrides",
+    )
+}
+
 /// Reads an entry point.
 fn entry_point(context: Context, value: &Value<'_>) -> Result<EntryPoint, Failure>
     ensures reads { IfOk result (λ entry_point. IsEntryPoint (value_view value.now) entry_point) }
@@ -153,6 +165,7 @@ fn entry_point(context: Context, value: &Value<'_>) -> Result<EntryPoint, Failur
     let (ReadFunction(function), name, stage) = fields.triple(
         context, "function", "name", "stage",
     )?;
+    check_workgroup_size(context, fields)?;
     Ok(EntryPoint {
         name,
         stage,
@@ -189,7 +202,9 @@ impl ReadNext for EntryPoint {
             second: stage,
             rest,
         } = parts;
-        let name = Fields::of(context, &rest)?.needed(context, "name")?;
+        let fields = Fields::of(context, &rest)?;
+        let name = fields.needed(context, "name")?;
+        check_workgroup_size(context, fields)?;
         Ok(EntryPoint {
             name,
             stage,

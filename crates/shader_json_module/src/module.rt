@@ -13,7 +13,7 @@ use shader_ir::Module;
 use shader_json_declarations::Fields;
 use shader_json_expressions::Expressions;
 use shader_json_functions::{EntryPoints, Functions};
-use shader_json_reader::{Context, Failure, MOST_BYTES, ReadError, parse};
+use shader_json_reader::{Context, Failure, MOST_BYTES, ReadError, parse, refusal};
 use std::alloc::Global;
 use std::str;
 
@@ -85,6 +85,7 @@ fn module(context: Context, value: &Value<'_>) -> Result<Module, Failure>
 /// # Errors
 ///
 /// A text that is too long, is no JSON or nests too deep; or an allocation failure.
+#[tactic(auto, using(shader_json_reader::proofs::StopLemmas::accurate_before, shader_json_reader::proofs::StopLemmas::none_of_module))]
 pub fn parse_bytes<'a>(
     alloc: Global,
     text: &'a [u8],
@@ -101,9 +102,7 @@ pub fn parse_bytes<'a>(
     }
     match str::from_utf8(text) {
         Ok(text) => parse(alloc, text, scratch),
-        Err(error) => Err(ReadError::NotJson {
-            byte: error.valid_up_to(),
-        }),
+        Err(error) => Err(refusal(alloc, &text[..error.valid_up_to()])),
     }
 }
 

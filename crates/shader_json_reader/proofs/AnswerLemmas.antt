@@ -1,13 +1,10 @@
 -- Failures that are passed on.
-use Rattle.std.proofs.Common.{◌≡◌, ◌⊎◌, ap, inl, inr, option_map, refl, subst, sym, List, Option, Some, None, MatchOption, [], ◌∷◌, ℕ}
+use Rattle.std.proofs.Common.{◌≡◌, ap, option_map, refl, subst, sym, List, Option, Some, None, MatchOption, [], ◌∷◌, ℕ}
 use Rattle.std.proofs.Common.{Result, Ok, Err}
 use Rattle.std.specs.Result.{IsErrAnd}
 use Rattle.json.specs.Json.{Json, null, boolean, number, string, array, object, Items, Members}
 use Rattle.shader_json_reader.specs.Answers.{Accepts, IsOfMemory, IsUnrefused}
-use Rattle.shader_json_reader.specs.Errors.{IsOfModule, IsOfText}
 use Rattle.shader_json_reader.specs.Shapes.{IsArray, IsObject, IsOnly, IsVariant, variant_of}
-use Rattle.shader_json_reader.specs.declared.error.ReadError.{ReadError}
-use Rattle.shader_json_reader.specs.declared.error.ReadError.TheVariants as errors
 use Rattle.shader_json_reader.specs.declared.failure.Failure.{Failure}
 
 -- a failure for want of memory is passed on as one
@@ -66,15 +63,3 @@ pub in_arm : {A : Type 0} (P : List ℕ → Option Json → Type 0) (j : Json) (
 in_arm P j name wanted view payload k is named held h =
     subst (λ p. P wanted p) (ap (option_map view) held)
     (subst (λ n. P n (option_map view payload)) named (of_variant P j name (option_map view payload) is h))
-
--- an error of the text, or of memory, is none of a module
-of_text : (error : ReadError) → IsOfText error → IsOfModule error → ⊥
-of_text errors.OutOfMemory text is = is
-of_text errors.TooLong text is = is
-of_text (errors.NotJson byte) text is = is
-of_text (errors.TooDeep byte) text is = is
-of_text (errors.NotModule path wanted found) text is = text
-
-pub none_of_module : (error : ReadError) → (error ≡ errors.OutOfMemory) ⊎ IsOfText error → IsOfModule error → ⊥
-none_of_module error (inl memory) is = subst IsOfModule memory is
-none_of_module error (inr text) is = of_text error text is

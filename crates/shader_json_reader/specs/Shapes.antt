@@ -1,5 +1,5 @@
 -- The shapes that serde's derives give data in JSON: structs, enums, options and lists. A relation says what data a value stands for.
-use Rattle.std.specs.Prelude.{◌≡◌, ◌≢◌, ◌||◌, ℕ, List, [], ◌∷◌, Bool, true, false, IsTrue, Option, Some, None, MatchOption, ⊤}
+use Rattle.std.specs.Prelude.{◌≡◌, ◌≢◌, ◌||◌, ℕ, List, [], ◌∷◌, Bool, true, false, IsTrue, Option, Some, None, MatchOption, length, ⊤}
 use Rattle.std.specs.Str.{bytes_eq}
 use Rattle.json.specs.Json.{Json, null, boolean, number, string, array, object, Items, no_items, item, Members, no_members, member}
 
@@ -55,6 +55,10 @@ HasField R name ms x = IsOnly (λ j. R j x) (values_of name ms)
 abbrev pub MayHaveField : {A : Type 0} → Reading A → List ℕ → Members → Option A → Type 0
 MayHaveField R name ms x = IsOnlyOrNull (λ j. IsNullable R j x) (values_of name ms)
 
+-- the object has at most one member of that name, which stands for something unless it is null
+abbrev pub MayHave : {A : Type 0} → Reading A → List ℕ → Members → Type 0
+MayHave {A} R name ms = (x : Option A) × MayHaveField R name ms x
+
 -- the value is an object with such members
 abbrev pub IsObject : Json → (Members → Type 0) → Type 0
 IsObject null P = ⊥
@@ -95,6 +99,10 @@ IsPair P (item first (item second (item third js))) = ⊥
 -- an array stands for a list
 abbrev pub IsList : {A : Type 0} → Reading A → Reading (List A)
 IsList R j xs = IsArray j (λ js. Each R js xs)
+
+-- an array of three items stands for a list
+abbrev pub IsTriple : {A : Type 0} → Reading A → Reading (List A)
+IsTriple R j xs = IsList R j xs × (length xs ≡ 3)
 
 -- the item is none of a list
 abbrev pub IsAbsent : {A : Type 0} → A → List A → Type 0

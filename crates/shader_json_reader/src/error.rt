@@ -30,8 +30,8 @@ pub enum ReadError {
     /// The text has more than `MOST_BYTES` bytes.
     #[error("the text has more than 268,435,456 bytes")]
     TooLong,
-    /// The text isn't JSON from this byte on, counted from 0.
-    #[error("byte {byte}: what begins here isn't JSON")]
+    /// No JSON goes on with this byte, counted from 0, or it is the first that isn't UTF-8. Of a text that is too short it is the length.
+    #[error("byte {byte}: no JSON goes on here")]
     NotJson {
         byte: usize,
     },

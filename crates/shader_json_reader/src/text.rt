@@ -1,12 +1,14 @@
 //! Parses a text as a JSON value.
-ghost use Rattle.std.specs.Prelude.{◌≡◌, ◌⊎◌, Some, IfOk, IfErr};
+ghost use Rattle.std.specs.Prelude.{◌≡◌, ◌⊎◌, None, Some, IfOk, IfErr};
 ghost use Rattle.json.specs.Json.{document};
 ghost use Rattle.json.specs.Value.{value_view};
 ghost use Rattle.shader_json_reader.specs.declared.error.ReadError.TheVariants.{OutOfMemory};
-ghost use Rattle.shader_json_reader.specs.Errors.{IsAccurate, IsOfModule, IsOfText};
+ghost use Rattle.shader_json_reader.specs.Errors.{IsAccurate, IsOfModule, IsStoppedAt};
+ghost use Rattle.shader_json_reader.specs.Grammar.{stop_of};
 
 use crate::error::ReadError;
-use json::{Error, MAX_DEPTH, Reader, Scratch, Token, Value};
+use crate::grammar::Stop;
+use json::{Error, MAX_DEPTH, Reader, Scratch, Value};
 use std::alloc::Global;
 
 /// Parses a text as a JSON value.
@@ -14,7 +16,6 @@ use std::alloc::Global;
 /// # Errors
 ///
 /// A text that is no JSON or nests more than 128 deep, with the byte at which that shows; or an allocation failure.
-#[tactic(auto, using(crate::proofs::AnswerLemmas::none_of_module))]
 pub fn parse<'a>(
     alloc: Global,
     text: &'a str,
@@ -28,44 +29,31 @@ pub fn parse<'a>(
     let value = match Value::read(alloc, &mut reader, MAX_DEPTH) {
         Ok(value) => value,
         Err(Error::OutOfMemory) => return Err(ReadError::OutOfMemory),
-        Err(_) => return Err(refusal(alloc, text, reader.offset())),
+        Err(_) => return Err(refused(alloc, text)),
     };
     if reader.next().is_some() {
-        return Err(refusal(alloc, text, reader.offset()));
+        return Err(refused(alloc, text));
     }
     Ok(value)
 }
 
-/// Returns the error for a text that a reader rejects at that byte.
-fn refusal(alloc: Global, text: &str, byte: usize) -> ReadError
-    ensures { (result ≡ OutOfMemory) ⊎ IsOfText result }
+/// Returns the error for a text that is no JSON or nests too deep. This allocates.
+#[tactic(auto, using(crate::proofs::StopLemmas::accurate, crate::proofs::StopLemmas::none_of_module))]
+fn refused(alloc: Global, text: &str) -> ReadError
+    requires { document text.now ≡ None }
+    ensures err { IsAccurate text.now result }
+    ensures no_json { IsOfModule result → ⊥ }
 {
-    let mut scratch = Scratch::new(alloc);
-    match Reader::new(text, &mut scratch) {
-        Ok(reader) => match too_deep(reader, text.len()) {
-            Some(position) if position < byte => ReadError::TooDeep { byte: position },
-            _ => ReadError::NotJson { byte },
-        },
-        Err(_) => ReadError::OutOfMemory,
-    }
+    refusal(alloc, text.as_bytes())
 }
 
-/// Returns the start of the first array or object that is nested too deep, if it is among that many tokens.
-fn too_deep(mut reader: Reader<'_>, most_tokens: usize) -> Option<usize> {
-    let mut open: usize = 0;
-    for _token in 0..most_tokens {
-        let position = reader.offset();
-        match reader.next() {
-            Some(Token::BeginArray | Token::BeginObject) => {
-                if open == MAX_DEPTH {
-                    return Some(position);
-                }
-                open = open.saturating_add(1);
-            }
-            Some(Token::EndArray | Token::EndObject) => open = open.saturating_sub(1),
-            Some(_) => {}
-            None => return None,
-        }
+/// Returns the error for bytes that spell no JSON, at the byte at which they stop being the start of some. This allocates.
+pub fn refusal(alloc: Global, text: &[u8]) -> ReadError
+    ensures { (result ≡ OutOfMemory) ⊎ IsStoppedAt (stop_of text.now) result }
+{
+    match Stop::of(alloc, text) {
+        Ok(Stop::NotJson(byte)) => ReadError::NotJson { byte },
+        Ok(Stop::TooDeep(byte)) => ReadError::TooDeep { byte },
+        Err(_) => ReadError::OutOfMemory,
     }
-    None
 }

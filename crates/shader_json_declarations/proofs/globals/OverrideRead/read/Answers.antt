@@ -1,17 +1,22 @@
 use Rattle.shader_json_reader.proofs.AnswerLemmas.{of_members, passed_on}
 use Rattle.shader_json_declarations.proofs.globals.OverrideRead.read.Goals as goal
 
-pub returns-in_err-optional-clause-accepts : goal.returns-in_err-optional-clause-accepts
-returns-in_err-optional-clause-accepts c = λ x h.
+pub returns-in_err-name-clause-accepts : goal.returns-in_err-name-clause-accepts
+returns-in_err-name-clause-accepts c = λ x h.
     let f = of_members _ _ _ c.in_ok-fields.ensures.reads h in
-    passed_on _ _ c.from_residual-in_err-optional.ensures.1 (c.in_err-optional.ensures.accepts x.name f.0)
+    passed_on _ _ c.from_residual-in_err-name.ensures.1 (c.in_err-name.ensures.accepts x.name f.0)
+
+pub returns-in_err-check_optional-clause-accepts : goal.returns-in_err-check_optional-clause-accepts
+returns-in_err-check_optional-clause-accepts c = λ x h.
+    let f = of_members _ _ _ c.in_ok-fields.ensures.reads h in
+    passed_on _ _ c.from_residual-in_err-check_optional.ensures.1 (c.in_err-check_optional.ensures.accepts f.3)
 
 pub returns-in_err-needed-clause-accepts : goal.returns-in_err-needed-clause-accepts
 returns-in_err-needed-clause-accepts c = λ x h.
     let f = of_members _ _ _ c.in_ok-fields.ensures.reads h in
     passed_on _ _ c.from_residual-in_err-needed.ensures.1 (c.in_err-needed.ensures.accepts x.ty f.1)
 
-pub returns-in_err-optional-2-clause-accepts : goal.returns-in_err-optional-2-clause-accepts
-returns-in_err-optional-2-clause-accepts c = λ x h.
+pub returns-in_err-optional-clause-accepts : goal.returns-in_err-optional-clause-accepts
+returns-in_err-optional-clause-accepts c = λ x h.
     let f = of_members _ _ _ c.in_ok-fields.ensures.reads h in
-    passed_on _ _ c.from_residual-in_err-optional-2.ensures.1 (c.in_err-optional-2.ensures.accepts x.init f.2)
+    passed_on _ _ c.from_residual-in_err-optional.ensures.1 (c.in_err-optional.ensures.accepts x.init f.2)

@@ -9,9 +9,9 @@ returns-in_err-read-in-BuiltIn-Some-clause-accepts c = λ x h.
     let u = in_arm (λ name payload. IsBindingOf name payload x) _ _ _ _ _ arm.payload c.in_ok-name.ensures.reads arm.is-BuiltIn-0 arm.is-1 h in
     passed_on _ _ c.from_residual-in_err-read-in-BuiltIn-Some.ensures.1 (of_built_in _ x c.in_err-read-in-BuiltIn-Some.ensures.accepts u)
 
-pub returns-in_err-field-in-Location-Some-clause-accepts : goal.returns-in_err-field-in-Location-Some-clause-accepts
-returns-in_err-field-in-Location-Some-clause-accepts c = λ x h.
+pub returns-in_err-location-in-Location-Some-clause-accepts : goal.returns-in_err-location-in-Location-Some-clause-accepts
+returns-in_err-location-in-Location-Some-clause-accepts c = λ x h.
     let arm = c.in-Location-Some in
     let u = in_arm (λ name payload. IsBindingOf name payload x) _ _ _ _ _ arm.payload c.in_ok-name.ensures.reads arm.is-Location-0 arm.is-1 h in
-    passed_on _ _ c.from_residual-in_err-field-in-Location-Some.ensures.1
-    (of_location _ x c.in_err-field-in-Location-Some.ensures.accepts u)
+    passed_on _ _ c.from_residual-in_err-location-in-Location-Some.ensures.1
+    (of_location _ x c.in_err-location-in-Location-Some.ensures.accepts u)

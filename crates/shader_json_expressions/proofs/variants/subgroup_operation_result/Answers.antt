@@ -1,0 +1,11 @@
+use Rattle.std.proofs.Common.{codes, refl}
+use Rattle.shader_ir.specs.declared.expression.Expression.TheVariants as e
+use Rattle.shader_json_reader.proofs.AnswerLemmas.{passed_on}
+use Rattle.shader_json_reader.proofs.ShapeLemmas.{apart}
+use Rattle.shader_json_expressions.proofs.DeterminedExpressions.{label_expression}
+use Rattle.shader_json_expressions.proofs.variants.subgroup_operation_result.Goals as goal
+
+pub returns-in_err-field-clause-accepts : goal.returns-in_err-field-clause-accepts
+returns-in_err-field-clause-accepts c (e.SubgroupOperationResult ty) u =
+    passed_on _ _ c.from_residual.ensures.1 (c.in_err-field.ensures.accepts ty u.1)
+returns-in_err-field-clause-accepts c x u = apart (codes "SubgroupOperationResult") (label_expression x) refl u.0
