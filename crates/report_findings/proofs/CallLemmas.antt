@@ -1,5 +1,5 @@
 -- The only call that violates a need.
-use Rattle.std.proofs.Common.{◌≡◌, ℕ, ◌<◌, List, [], Option, inl, inr, ap, length}
+use Rattle.std.proofs.Common.{◌≡◌, ℕ, ◌+◌, ◌<◌, List, [], Option, inl, inr, ap, arith, length, subst}
 use Rattle.std.proofs.lemmas.Bool.{cases_lt}
 use Rattle.std.proofs.lemmas.List.Elements.{All-nil, All-same}
 use Rattle.std.proofs.lemmas.Option.{slice_get_past}
@@ -14,6 +14,15 @@ use Rattle.shader_uniformity_needs.specs.Passes.{passes_at, passes_of_function, 
 use Rattle.shader_uniformity_needs.specs.declared.needs.Violation.{Violation}
 use Rattle.report_findings.specs.Calls.{IsExcused, IsOnlyCall, PassesNoOther}
 use Rattle.report_findings.specs.declared.call_help.CallAt.{CallAt}
+
+-- what holds below a number and at it
+pub next_too : (P : ℕ → Type 0) (n : ℕ) → ((i : ℕ) → i < n → P i) → P n → (i : ℕ) → i < n + 1 → P i
+next_too P n all one i below = elim (cases_lt i n) [
+  | inl before ↦ all i before
+  | inr past ↦
+      let same : n ≡ i = omega (arith, below, past) in
+      subst P same one
+]
 
 module _ (m : Module) (known : List (List Rule)) (violation : Violation) (call : CallAt) where
   -- a body that passes nothing

@@ -1,4 +1,5 @@
-mod AcceptedLemmas
+pub mod AcceptedLemmas
 mod CallLemmas
 mod CollectLemmas
+mod OwnerLemmas
 mod SteadyLemmas

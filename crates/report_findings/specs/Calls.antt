@@ -1,5 +1,5 @@
 -- When a call violates a need of the called function alone, and may as well be made at the start of its entry point.
-use Rattle.std.specs.Prelude.{◌≡◌, ◌+◌, ℕ, true, List, Option, Some, IfSome, slice_get}
+use Rattle.std.specs.Prelude.{◌≡◌, ◌+◌, ℕ, true, List, Option, Some, IfSome, length, slice_get}
 use Rattle.std.specs.List.{All, list_all}
 use Rattle.shader_ir.specs.declared.function.EntryPoint.{EntryPoint}
 use Rattle.shader_ir.specs.declared.module.Module.{Module}
@@ -15,7 +15,18 @@ use Rattle.shader_uniformity_needs.specs.declared.needs.Pass.{Pass}
 use Rattle.shader_uniformity_needs.specs.declared.needs.Violation.{Violation}
 use Rattle.report_findings.specs.Effects.{first_quiet, is_quiet_at}
 use Rattle.report_findings.specs.Steady.{is_steady_value, steady_table}
+use Rattle.report_findings.specs.declared.call_help.Bodies.{Bodies}
+use Rattle.report_findings.specs.declared.call_help.Bodies.TheVariants as bodies
 use Rattle.report_findings.specs.declared.call_help.CallAt.{CallAt}
+
+-- the functions, or the entry points
+abbrev pub body_count : Module → Bodies → ℕ
+body_count m bodies.Functions = length m.functions
+body_count m bodies.EntryPoints = length m.entry_points
+
+abbrev pub body_at : Bodies → ℕ → BodyLocation
+body_at bodies.Functions i = body.Function i
+body_at bodies.EntryPoints i = body.EntryPoint i
 
 -- the call passes that it stands where only some invocations are
 pub record IsCalledApart (call : CallAt) (caller : BodyLocation) (pass : Pass) : Type 0 where

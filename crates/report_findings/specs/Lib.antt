@@ -6,6 +6,7 @@ pub mod Effects
 pub mod Flow
 pub mod Help
 pub mod ModuleFaults
+pub mod Owners
 pub mod Refusals
 pub mod Results
 pub mod Sites

@@ -1,10 +1,11 @@
 //! What to do about a need that a single call violates, by standing where only some invocations are.
-ghost use Rattle.std.specs.Prelude.{◌≡◌, ◌<◌, ℕ, true, false, IfOk, IfSome, length};
+ghost use Rattle.std.specs.Prelude.{◌≡◌, ◌<◌, ℕ, true, false, IfOk, IfSome};
 ghost use Rattle.shader_uniformity.specs.Marks.{Marked};
 ghost use Rattle.shader_uniformity.specs.Traces.{rules_at};
 ghost use Rattle.shader_uniformity_causes.specs.Callers.{AreCallers};
 ghost use Rattle.shader_uniformity_needs.specs.Violations.{MayHold};
 ghost use Rattle.report_findings.specs.Calls.{IfCallMoved, IsCallMovable, IsCalledApart, IsExcused, IsMovable, IsOnlyCall, PassesNoOther};
+ghost use Rattle.report_findings.specs.Calls.{body_at, body_count};
 
 use crate::effects::{is_quiet_at, quiet_functions};
 use crate::point_help::start_words;
@@ -160,44 +161,51 @@ fn passes_no_other(
     Ok(true)
 }
 
-/// Checks whether no call in a function violates the need, besides the one call.
-fn functions_pass_no_other(
-    alloc: Global,
-    module: &Module,
-    known: &[Items<Rule>],
-    callers: &[Vec<PassedBy>],
-    called: &Called<'_>,
-) -> Result<bool, AllocError>
-    requires callers { AreCallers «module».now known.now callers.now }
-    requires rules { called.now.rules.now ≡ rules_at «module».now known.now called.now.violation.place }
-    ensures { IfOk result (λ found. found ≡ true → (i : ℕ) → i < length «module».now.functions
-        → PassesNoOther «module».now known.now called.now.violation called.now.call (BodyLocation.Function i)) }
-{
-    for index in 0..module.functions.len() {
-        let caller = BodyLocation::Function(index);
-        if !passes_no_other(alloc, module, known, callers, called, caller)? {
-            return Ok(false);
-        }
-    }
-    Ok(true)
+/// The bodies of a module of which a part is searched at once.
+#[derive(Clone, Copy)]
+enum Bodies {
+    Functions,
+    EntryPoints,
 }
 
-/// Checks whether no call in an entry point violates the need, besides the one call.
-fn points_pass_no_other(
+impl Bodies {
+    /// Returns how many a module has.
+    fn count(self, module: &Module) -> usize
+        ensures { result ≡ body_count «module».now self }
+    {
+        match self {
+            Bodies::Functions => module.functions.len(),
+            Bodies::EntryPoints => module.entry_points.len(),
+        }
+    }
+
+    /// Returns the place of the one at an index.
+    fn at(self, index: usize) -> BodyLocation
+        ensures { result ≡ body_at self index }
+    {
+        match self {
+            Bodies::Functions => BodyLocation::Function(index),
+            Bodies::EntryPoints => BodyLocation::EntryPoint(index),
+        }
+    }
+}
+
+/// Checks whether no call in some bodies violates the need, besides the one call.
+fn all_pass_no_other(
     alloc: Global,
     module: &Module,
     known: &[Items<Rule>],
     callers: &[Vec<PassedBy>],
     called: &Called<'_>,
+    bodies: Bodies,
 ) -> Result<bool, AllocError>
     requires callers { AreCallers «module».now known.now callers.now }
     requires rules { called.now.rules.now ≡ rules_at «module».now known.now called.now.violation.place }
-    ensures { IfOk result (λ found. found ≡ true → (i : ℕ) → i < length «module».now.entry_points
-        → PassesNoOther «module».now known.now called.now.violation called.now.call (BodyLocation.EntryPoint i)) }
+    ensures { IfOk result (λ found. found ≡ true → (i : ℕ) → i < body_count «module».now bodies
+        → PassesNoOther «module».now known.now called.now.violation called.now.call (body_at bodies i)) }
 {
-    for index in 0..module.entry_points.len() {
-        let caller = BodyLocation::EntryPoint(index);
-        if !passes_no_other(alloc, module, known, callers, called, caller)? {
+    for index in 0..bodies.count(module) {
+        if !passes_no_other(alloc, module, known, callers, called, bodies.at(index))? {
             return Ok(false);
         }
     }
@@ -224,10 +232,11 @@ fn is_only_call(
     )? {
         return Ok(false);
     }
-    if !functions_pass_no_other(alloc, module, known, callers, called)? {
+    let functions = all_pass_no_other(alloc, module, known, callers, called, Bodies::Functions)?;
+    if !functions {
         return Ok(false);
     }
-    points_pass_no_other(alloc, module, known, callers, called)
+    all_pass_no_other(alloc, module, known, callers, called, Bodies::EntryPoints)
 }
 
 /// Checks whether a call may as well be made at the start of its entry point: it passes values that don't change to a function without

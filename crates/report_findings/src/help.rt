@@ -1,14 +1,14 @@
 //! What to do about a diagnostic. Each help removes it if it is followed.
 ghost use Rattle.std.specs.Prelude.{◌≡◌, IfOk, IfSome};
 ghost use Rattle.shader_uniformity_causes.specs.Callers.{AreCallers};
-ghost use Rattle.report_findings.specs.Help.{IfAcceptedByRules};
+ghost use Rattle.report_findings.specs.Help.{IfAcceptedByRules, IsNeedOf, IsWayToNeed};
 
 use crate::call_help::call_help;
 use crate::point_help::BodyNeed;
 use report_diagnostics::{Code, FlowCode, Location, ResourceCode, Text};
 use report_messages::Wording;
 use report_names::{ItemKind, item_text, name_text};
-use report_places::{BodyPlace, Wanted, function_of, place_of_body, statement_at};
+use report_places::{BodyPlace, Wanted, find_statement, function_of, place_of_body};
 use shader_arena::Handle;
 use shader_info::FunctionError;
 use shader_ir::{Expression, Function, Items, Module, SampleLevel, mark};
@@ -175,17 +175,16 @@ fn body_need<'a>(
     module: &'a Module,
     known: &[Items<Rule>],
     violation: &Violation,
-) -> Result<Option<BodyNeed<'a>>, AllocError> {
+) -> Result<Option<BodyNeed<'a>>, AllocError>
+    ensures need { IfOk result (λ found. IfSome found (IsNeedOf «module».now known.now violation.now)) }
+    ensures way { IfOk result (λ found. IfSome found IsWayToNeed) }
+{
     let place = place_of_body(violation.place);
     let Some(function) = function_of(module, &place) else {
         return Ok(None);
     };
     let wanted = Wanted::At(violation.need.position);
-    let found = statement_at(alloc, module, &place, &wanted)?;
-    let statement = match found {
-        Some(at) => Some(at.statement),
-        None => None,
-    };
+    let at = find_statement(alloc, &function.body, &wanted)?;
     let rules = rules_at(alloc, module, known, violation.place)?;
     Ok(Some(BodyNeed {
         module,
@@ -193,96 +192,57 @@ fn body_need<'a>(
         place: violation.place,
         rules,
         need: violation.need,
-        statement,
+        at,
     }))
 }
 
-/// Adds what to do about a violated need of an entry point with this name.
+/// Adds what to do about a violated need of the entry point at an index.
 fn add_point_help(
     alloc: Global,
     all: &mut Vec<Text>,
     found: &BodyNeed<'_>,
-    name: &str,
-    location: &Location,
+    index: usize,
     chain: &[Cause],
-) -> Result<(), AllocError> {
+) -> Result<(), AllocError>
+    requires { IsWayToNeed found.now }
+{
     match found.need.kind {
         NeedKind::Derivative | NeedKind::ImplicitLevel => {
-            add_help(alloc, all, found.start_help(alloc, name)?)
+            match found.module.entry_points.as_slice().get(index) {
+                Some(point) => {
+                    let name = name_text(alloc, point.name.as_str())?;
+                    add_help(alloc, all, found.start_help(alloc, name.as_str())?)
+                }
+                None => Ok(()),
+            }
         }
         _ => {
-            if let Some(path) = &location.statement {
-                add_help(alloc, all, found.move_help(alloc, path.steps.as_slice())?)?;
-            }
+            add_help(alloc, all, found.move_help(alloc)?)?;
             add_help(alloc, all, found.jump_help(alloc, chain)?)?;
             add_help(alloc, all, found.load_help(alloc, chain)?)
         }
     }
 }
 
-/// Adds what to do about a violated need of a function.
+/// Adds what to do about a violated need of a function, by the calls of it.
 fn add_function_help(
     alloc: Global,
     all: &mut Vec<Text>,
-    module: &Module,
     known: &[Items<Rule>],
     callers: &[Vec<PassedBy>],
+    violation: &Violation,
     found: &BodyNeed<'_>,
-    location: &Location,
 ) -> Result<(), AllocError>
-    requires { AreCallers «module».now known.now callers.now }
+    requires callers { AreCallers found.now.«module».now known.now callers.now }
+    requires way { IsWayToNeed found.now }
 {
-    match found.need.kind {
+    let help = match found.need.kind {
         NeedKind::Derivative | NeedKind::ImplicitLevel => {
-            let violation = Violation {
-                place: found.place,
-                need: found.need,
-            };
-            add_help(
-                alloc,
-                all,
-                call_help(alloc, module, known, callers, &violation)?,
-            )
+            call_help(alloc, found.module, known, callers, violation)?
         }
-        _ => match &location.statement {
-            Some(path) => {
-                let way = path.steps.as_slice();
-                add_help(
-                    alloc,
-                    all,
-                    found.move_in_calls_help(alloc, module, known, callers, way)?,
-                )
-            }
-            None => Ok(()),
-        },
-    }
-}
-
-/// Adds what to do about a violated need by what follows in its function or entry point, and in the calls of it.
-fn add_body_help(
-    alloc: Global,
-    all: &mut Vec<Text>,
-    module: &Module,
-    known: &[Items<Rule>],
-    callers: &[Vec<PassedBy>],
-    found: &BodyNeed<'_>,
-    location: &Location,
-    chain: &[Cause],
-) -> Result<(), AllocError>
-    requires { AreCallers «module».now known.now callers.now }
-{
-    match found.place {
-        BodyLocation::Function(_) => {
-            add_function_help(alloc, all, module, known, callers, found, location)
-        }
-        BodyLocation::EntryPoint(index) => match module.entry_points.as_slice().get(index) {
-            Some(point) => {
-                let name = name_text(alloc, point.name.as_str())?;
-                add_point_help(alloc, all, found, name.as_str(), location, chain)
-            }
-            None => Ok(()),
-        },
-    }
+        _ => found.move_in_calls_help(alloc, known, callers)?,
+    };
+    add_help(alloc, all, help)
 }
 
 /// Adds what to do about a violated need of a derivative or a sample (WGSL, "Uniformity").
@@ -319,9 +279,14 @@ pub fn need_help(
 {
     let mut all = Vec::new(alloc);
     if let Some(found) = body_need(alloc, module, known, violation)? {
-        add_body_help(
-            alloc, &mut all, module, known, callers, &found, location, chain,
-        )?;
+        match violation.place {
+            BodyLocation::Function(_) => {
+                add_function_help(alloc, &mut all, known, callers, violation, &found)?;
+            }
+            BodyLocation::EntryPoint(index) => {
+                add_point_help(alloc, &mut all, &found, index, chain)?;
+            }
+        }
     }
     match violation.need.kind {
         NeedKind::Derivative | NeedKind::ImplicitLevel => {

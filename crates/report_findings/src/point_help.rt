@@ -1,16 +1,16 @@
 //! What to do about a violated need, by what would follow after a change of its function or entry point.
-ghost use Rattle.std.specs.Prelude.{◌≡◌, false, IfOk};
+ghost use Rattle.std.specs.Prelude.{◌≡◌, false, IfOk, IfSome};
 ghost use Rattle.report_findings.specs.Changes.{Follows, remaining};
-ghost use Rattle.report_findings.specs.Help.{IfBehind, IfBehindInCalls, IfMoved, IfNoJump, IfOneValue};
+ghost use Rattle.report_findings.specs.Help.{IfBehind, IfBehindInCalls, IfMoved, IfNoJump, IfOneValue, IsInOwnIf, IsWayToNeed};
 ghost use Rattle.shader_uniformity_causes.specs.Callers.{AreCallers};
 ghost use Rattle.shader_uniformity_needs.specs.Violations.{MayHold};
 
 use crate::changes::{Change, follows, follows_after};
-use crate::owners::positions_of;
+use crate::owners::{Around, own_if};
 use crate::steady::is_steady;
 use report_messages::{expression_text, result_text};
 use report_names::{barrier_text, global_text, memory_barrier_text};
-use report_places::PathStep;
+use report_places::{PathStep, StatementAt};
 use shader_arena::Handle;
 use shader_ir::{AddressSpace, Expression, Function, Items, Module, Statement, mark};
 use shader_uniformity::{BodyLocation, Fact, Jump, Place, Rule};
@@ -27,8 +27,8 @@ pub struct BodyNeed<'a> {
     /// The implications of the function.
     pub rules: Vec<Rule>,
     pub need: Need,
-    /// The statement that has the need, if it was found.
-    pub statement: Option<&'a Statement>,
+    /// The statement that has the need, and the way to it, if it was found.
+    pub at: Option<StatementAt<'a>>,
 }
 
 /// Returns the word for a statement that exits blocks.
@@ -110,7 +110,11 @@ impl BodyNeed<'_> {
     /// Returns the text of what needs uniform control flow.
     fn text(&self, alloc: Global) -> Result<String, AllocError> {
         let function = self.function;
-        match self.statement {
+        let statement = match &self.at {
+            Some(at) => Some(at.statement),
+            None => None,
+        };
+        match statement {
             Some(Statement::ControlBarrier(barrier)) => barrier_text(alloc, *barrier),
             Some(Statement::MemoryBarrier(barrier)) => memory_barrier_text(alloc, *barrier),
             Some(Statement::WorkGroupUniformLoad { result, .. }) => {
@@ -158,9 +162,15 @@ impl BodyNeed<'_> {
         Ok(Some(help))
     }
 
-    /// Returns the positions of the `if` of the function's own statements in which a barrier stands, and of what is behind it.
-    fn around(&self, way: &[PathStep]) -> Option<(u32, u32)> {
-        let index = match (self.need.kind, way) {
+    /// Returns where the `if` of the function's own statements stands in whose blocks a barrier is, if it is in such a block.
+    fn own_if(&self) -> Result<Option<Around>, AllocError>
+        requires { IsWayToNeed self.now }
+        ensures { IfOk result (λ found. IfSome found (λ around. IsInOwnIf self.now around.begin around.end)) }
+    {
+        let Some(at) = &self.at else {
+            return Ok(None);
+        };
+        match (self.need.kind, at.path.steps.as_slice()) {
             (
                 NeedKind::Barrier | NeedKind::MemoryBarrier,
                 [
@@ -168,10 +178,9 @@ impl BodyNeed<'_> {
                     PathStep::Accept | PathStep::Reject,
                     PathStep::Statement(_),
                 ],
-            ) => *index,
-            _ => return None,
-        };
-        positions_of(&self.function.body, index)
+            ) => own_if(&self.function.body, *index),
+            _ => Ok(None),
+        }
     }
 
     /// Returns the help to move a barrier behind an `if`.
@@ -181,13 +190,14 @@ impl BodyNeed<'_> {
     }
 
     /// Returns the help for a barrier in an `if` of the entry point's own statements, at which and after which all invocations are.
-    pub fn move_help(&self, alloc: Global, way: &[PathStep]) -> Result<Option<String>, AllocError>
+    pub fn move_help(&self, alloc: Global) -> Result<Option<String>, AllocError>
+        requires { IsWayToNeed self.now }
         ensures { IfOk result (IfBehind self.now) }
     {
-        let Some((begin, end)) = self.around(way) else {
+        let Some(around) = self.own_if()? else {
             return Ok(None);
         };
-        if self.diverges_at(alloc, begin)? || self.diverges_at(alloc, end)? {
+        if self.diverges_at(alloc, around.begin)? || self.diverges_at(alloc, around.end)? {
             return Ok(None);
         }
         Ok(Some(self.behind_words(alloc)?))
@@ -198,21 +208,21 @@ impl BodyNeed<'_> {
     pub fn move_in_calls_help(
         &self,
         alloc: Global,
-        module: &Module,
         known: &[Items<Rule>],
         callers: &[Vec<PassedBy>],
-        way: &[PathStep],
     ) -> Result<Option<String>, AllocError>
-        requires { AreCallers «module».now known.now callers.now }
-        ensures { IfOk result (IfBehindInCalls «module».now known.now self.now.place) }
+        requires callers { AreCallers self.now.«module».now known.now callers.now }
+        requires way { IsWayToNeed self.now }
+        ensures { IfOk result (IfBehindInCalls known.now self.now) }
     {
-        let Some((begin, end)) = self.around(way) else {
+        let module = self.module;
+        let Some(around) = self.own_if()? else {
             return Ok(None);
         };
-        if may_diverge(alloc, module, known, callers, self.place, begin)? {
+        if may_diverge(alloc, module, known, callers, self.place, around.begin)? {
             return Ok(None);
         }
-        if may_diverge(alloc, module, known, callers, self.place, end)? {
+        if may_diverge(alloc, module, known, callers, self.place, around.end)? {
             return Ok(None);
         }
         Ok(Some(self.behind_words(alloc)?))

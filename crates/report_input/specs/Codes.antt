@@ -1,8 +1,8 @@
 -- The codes of inputs that are no module.
-use Rattle.std.specs.Prelude.{◌≡◌, ◌↔◌, IsTrue, string_bytes, ◌||◌, ◌&&◌, ℕ, Bool, true, false, List, codes, eqb, if◌then◌else◌}
+use Rattle.std.specs.Prelude.{◌≡◌, ◌↔◌, string_bytes, ◌||◌, ◌&&◌, ℕ, Bool, true, false, List, codes, eqb, if◌then◌else◌}
 use Rattle.std.specs.List.{list_any, starts_with}
 use Rattle.std.specs.Cmp.Lexicographic.{pointwise}
-use Rattle.std.specs.Str.{IsUtf8}
+use Rattle.std.specs.Str.{IsValidUpTo}
 use Rattle.shader_json_reader.specs.declared.error.ReadError.{ReadError}
 use Rattle.shader_json_reader.specs.declared.error.ReadError.TheVariants as error
 use Rattle.shader_json_reader.specs.declared.error.Wanted.{Wanted}
@@ -49,7 +49,7 @@ abbrev code_if : Bool → InputCode
 code_if true = code.InvalidJson
 code_if false = code.NotUtf8
 
--- by the format that a text seems to have which isn't JSON, and by whether it is UTF-8
+-- by the format that a text seems to have which isn't JSON, and by whether the byte is UTF-8 at which that shows
 abbrev pub code_of_form : Form → Bool → InputCode
 code_of_form Blank is_utf8 = code.EmptyInput
 code_of_form Utf16 is_utf8 = code.NotUtf8
@@ -68,10 +68,10 @@ code_of_wanted (Field name) found = code.MissingField
 code_of_wanted (Integer least most) found = code.WrongValue
 code_of_wanted (Value words) found = code_of_words words.now found
 
--- the code of a text that isn't JSON from this byte on
+-- the code of a text that isn't JSON from this byte on, which may be the first that isn't UTF-8
 pub record HasFormCode (input : List ℕ) (byte : ℕ) (code : InputCode) : Type 0 where
   pub is_utf8 : Bool
-  pub decides : IsTrue is_utf8 ↔ IsUtf8 input
+  pub decides : (is_utf8 ≡ false) ↔ IsValidUpTo input byte
   pub is : code ≡ code_of_form (form_in input byte) is_utf8
 
 -- the code of an error of the input

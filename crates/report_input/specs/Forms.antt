@@ -41,21 +41,24 @@ abbrev form_if : Bool → Form
 form_if true = Comment
 form_if false = Other
 
--- what goes on otherwise than JSON
+-- what goes on otherwise than JSON, by how it begins
 abbrev pub form_of_rest : List ℕ → Form
-form_of_rest [] = CutOff
-form_of_rest (byte ∷ rest) =
-    form_if (starts_with eqb (byte ∷ rest) (codes "//") || starts_with eqb (byte ∷ rest) (codes "/*"))
+form_of_rest rest = form_if (starts_with eqb rest (codes "//") || starts_with eqb rest (codes "/*"))
 
--- by the start behind white space, or else by what goes on otherwise than JSON
-abbrev pub form_of : List ℕ → List ℕ → Form
+-- a text that ends where JSON goes on is cut off; another one is what it is by its start, or else by what goes on
+abbrev pub form_of_some : (start rest : List ℕ) → Form
+form_of_some start [] = CutOff
+form_of_some start (byte ∷ rest) = form_by_start start (form_of_rest (byte ∷ rest))
+
+-- by the start behind white space, and what goes on otherwise than JSON
+abbrev pub form_of : (start rest : List ℕ) → Form
 form_of [] rest = Blank
-form_of (byte ∷ start) rest = form_by_start (byte ∷ start) (form_of_rest rest)
+form_of (byte ∷ start) rest = form_of_some (byte ∷ start) rest
 
 -- the text from the byte of this index on
 abbrev pub rest_of : List ℕ → ℕ → List ℕ
 rest_of text byte = drop (min byte (length text)) text
 
--- what a text seems to be that is no JSON from the byte of this index on: by its start behind white space
+-- what a text seems to be that is no JSON from the byte of this index on
 abbrev pub form_in : List ℕ → ℕ → Form
 form_in text byte = form_of (drop (prefix_len is_ascii_whitespace text) text) (rest_of text byte)

@@ -1,12 +1,12 @@
 -- Places of diagnostics of modules in the JSON text.
-use Rattle.std.specs.Prelude.{◌≡◌, ◌⊎◌, ℕ, ⊤, Bool, true, false, List, [], ◌∷◌, Some}
+use Rattle.std.specs.Prelude.{◌≡◌, ◌⊎◌, ℕ, ⊤, Bool, true, false, List, [], ◌∷◌, ◌++◌, Some}
 use Rattle.report_diagnostics.specs.declared.codes.Code.{Code}
 use Rattle.report_diagnostics.specs.declared.codes.Code.TheVariants as code
 use Rattle.report_diagnostics.specs.declared.diagnostic.Diagnostic.{Diagnostic}
 use Rattle.report_diagnostics.specs.declared.location.Location.{Location}
 use Rattle.report_input.specs.Places.{place_in}
 use Rattle.report_input.specs.Spans.{IsSpanOf}
-use Rattle.report_input.specs.Steps.{path_text, pointer_text}
+use Rattle.report_input.specs.Steps.{path_text, pointer_text, steps_in_path}
 use Rattle.report_input.specs.declared.module_places.Spanned.{Spanned}
 use Rattle.report_input.specs.declared.places.Place.{Place}
 use Rattle.report_input.specs.declared.spans.Span.{Span}
@@ -18,15 +18,30 @@ code_is_of_json (code.«Module» c) = true
 code_is_of_json (code.Layout c) = true
 code_is_of_json c = false
 
--- path, pointer and bytes are those of one value
-pub record IsValue (text path pointer : List ℕ) (span : Span) : Type 0 where
-  pub steps : List Step
+-- the steps lead to the item that a diagnostic is about
+abbrev pub IsWayToItem : Diagnostic → List Step → Type 0
+IsWayToItem diagnostic steps = diagnostic.location.pointer ≡ Some (pointer_text steps)
+
+-- the steps lead to that item, and from it to the field that is at fault
+pub record IsWayToField (diagnostic : Diagnostic) (steps : List Step) : Type 0 where
+  pub item : List Step
+  pub within : List Step
+  pub to_item : IsWayToItem diagnostic item
+  pub to_field : diagnostic.field ≡ Some (steps_in_path within)
+  pub all : steps ≡ item ++ within
+
+-- the steps lead to the field that is at fault, or to the item that has it
+abbrev pub IsWay : Diagnostic → List Step → Type 0
+IsWay diagnostic steps = IsWayToField diagnostic steps ⊎ IsWayToItem diagnostic steps
+
+-- path, pointer and bytes are those of the value to which the steps lead
+pub record IsValue (text : List ℕ) (steps : List Step) (path pointer : List ℕ) (span : Span) : Type 0 where
   pub path_is : path ≡ path_text steps
   pub pointer_is : pointer ≡ pointer_text steps
   pub spans : IsSpanOf text steps span
 
 abbrev pub IsSpanned : List ℕ → Spanned → Type 0
-IsSpanned text found = IsValue text found.path found.pointer found.span
+IsSpanned text found = IsValue text found.steps.items found.path found.pointer found.span
 
 abbrev line_of : Place → ℕ
 line_of place = place.line
@@ -63,13 +78,15 @@ pub record IsSame (before after : Diagnostic) : Type 0 where
   pub notes : after.notes.items ≡ before.notes.items
   pub help : after.help.items ≡ before.help.items
 
--- the same diagnostic at a value of the JSON
+-- the same diagnostic at the value of the JSON that is at fault
 pub record IsLocatedAs (text : List ℕ) (before after : Diagnostic) : Type 0 where
   pub same : IsSame before after
+  pub steps : List Step
+  pub way : IsWay before steps
   pub path : List ℕ
   pub pointer : List ℕ
   pub span : Span
-  pub value : IsValue text path pointer span
+  pub value : IsValue text steps path pointer span
   pub location : IsMoved text before.location path pointer span.begin after.location
   pub end : after.end ≡ Some span.end
 

@@ -1,5 +1,6 @@
 //! The codes of inputs that are no module.
-ghost use Rattle.std.specs.Prelude.{◌≡◌, MatchOption};
+ghost use Rattle.std.specs.Prelude.{◌≡◌, ◌↔◌, MatchOption, false};
+ghost use Rattle.std.specs.Str.{IsValidUpTo};
 ghost use Rattle.report_input.specs.Codes.{HasCode, code_of_form, code_of_wanted, code_of_words, is_name, is_of_later_stage};
 ghost use Rattle.report_input.specs.Codes.{stands_twice, tells_names};
 ghost use Rattle.shader_json_reader.specs.declared.error.ReadError.TheVariants.{OutOfMemory};
@@ -63,7 +64,7 @@ fn code_of_words(wanted: &str, found: &str) -> InputCode
     }
 }
 
-/// Returns the code of a text that isn't JSON, by the format that it seems to have, and by whether it is UTF-8.
+/// Returns the code of a text that isn't JSON, by the format that it seems to have, and by whether the byte is UTF-8.
 fn code_of_form(form: Form, is_utf8: bool) -> InputCode
     ensures { result ≡ code_of_form form is_utf8 }
 {
@@ -90,6 +91,21 @@ fn code_of_wanted(wanted: &Wanted, found: &str) -> InputCode
     }
 }
 
+/// Returns whether a byte isn't the first that isn't UTF-8.
+#[tactic(auto, using(crate::proofs::CodeLemmas::here))]
+fn is_utf8_at(input: &[u8], byte: usize) -> bool
+    ensures { (result ≡ false) ↔ IsValidUpTo input.now byte }
+{
+    match str::from_utf8(input) {
+        Ok(_) => true,
+        Err(error) => if error.valid_up_to() == byte {
+            false
+        } else {
+            true
+        },
+    }
+}
+
 /// Returns the code of the error on an input. `None` if memory ran out, which is no error of the input.
 pub fn code_of(input: &[u8], error: &ReadError) -> Option<InputCode>
     ensures { MatchOption result (error.now ≡ OutOfMemory) (HasCode input.now error.now) }
@@ -100,7 +116,7 @@ pub fn code_of(input: &[u8], error: &ReadError) -> Option<InputCode>
         ReadError::TooDeep { .. } => Some(InputCode::NestsTooDeep),
         ReadError::NotJson { byte } => {
             let form = Form::of(input, *byte);
-            Some(code_of_form(form, str::from_utf8(input).is_ok()))
+            Some(code_of_form(form, is_utf8_at(input, *byte)))
         }
         ReadError::NotModule { wanted, found, .. } => Some(code_of_wanted(wanted, found.as_str())),
     }

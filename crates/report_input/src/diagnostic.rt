@@ -55,29 +55,17 @@ fn pointer_to(alloc: Global, found: &Option<Found>) -> Result<Option<Text>, Allo
     }
 }
 
-/// Returns the first byte of what was looked up.
-fn begin_of(found: &Option<Found>) -> Option<usize>
-    ensures { result ≡ begin_of found.now }
+/// Returns the first byte of what was looked up, and the one behind it.
+fn ends_of(found: &Option<Found>) -> (Option<usize>, Option<usize>)
+    ensures begin { result.0 ≡ begin_of found.now }
+    ensures end { result.1 ≡ end_of found.now }
 {
     match found {
         Some(found) => match found.span {
-            Some(span) => Some(span.begin),
-            None => None,
+            Some(span) => (Some(span.begin), Some(span.end)),
+            None => (None, None),
         },
-        None => None,
-    }
-}
-
-/// Returns the byte behind what was looked up.
-fn end_of(found: &Option<Found>) -> Option<usize>
-    ensures { result ≡ end_of found.now }
-{
-    match found {
-        Some(found) => match found.span {
-            Some(span) => Some(span.end),
-            None => None,
-        },
-        None => None,
+        None => (None, None),
     }
 }
 
@@ -87,11 +75,12 @@ fn at_path(alloc: Global, input: &[u8], path: &str, code: InputCode) -> Result<A
     ensures found { IfOk result (λ at. IsLookedUp (part_of code) input.now path.now at.pointer at.begin at.end) }
 {
     let found = find(alloc, input, part_of(code), path)?;
+    let (begin, end) = ends_of(&found);
     Ok(At {
         path: Some(Text::from(path.to_string(alloc)?)),
         pointer: pointer_to(alloc, &found)?,
-        begin: begin_of(&found),
-        end: end_of(&found),
+        begin,
+        end,
     })
 }
 

@@ -1,6 +1,6 @@
 //! Guesses the format of an input that isn't JSON.
 ghost use Rattle.std.specs.Prelude.{◌≡◌};
-ghost use Rattle.report_input.specs.Forms.{form_by_start, form_in, form_of, form_of_rest};
+ghost use Rattle.report_input.specs.Forms.{form_by_start, form_in, form_of, form_of_rest, form_of_some};
 ghost use Rattle.report_input.specs.Forms.{is_declaration, is_spirv, is_utf16, is_wgsl, rest_of};
 
 /// The format that an input which isn't JSON seems to have.
@@ -90,27 +90,36 @@ fn form_by_start(start: &[u8], other: Form) -> Form
     }
 }
 
-/// Guesses the format of input that is not JSON, from its first token or, failing that, from the byte where parsing stopped.
+/// Guesses the format from the text after the byte where parsing stopped.
+fn form_of_rest(rest: &[u8]) -> Form
+    ensures { result ≡ form_of_rest rest.now }
+{
+    if rest.starts_with(b"//") || rest.starts_with(b"/*") {
+        Form::Comment
+    } else {
+        Form::Other
+    }
+}
+
+/// Guesses the format of a text that isn't blank, from its first token or, failing that, from the byte where parsing stopped.
+fn form_of_some(start: &[u8], rest: &[u8]) -> Form
+    ensures { result ≡ form_of_some start.now rest.now }
+{
+    if rest.is_empty() {
+        Form::CutOff
+    } else {
+        form_by_start(start, form_of_rest(rest))
+    }
+}
+
+/// Guesses the format of input that is not JSON.
 fn form_of(start: &[u8], rest: &[u8]) -> Form
     ensures { result ≡ form_of start.now rest.now }
 {
     if start.is_empty() {
         Form::Blank
     } else {
-        form_by_start(start, form_of_rest(rest))
-    }
-}
-
-/// Guesses the format from the text after the byte where parsing stopped.
-fn form_of_rest(rest: &[u8]) -> Form
-    ensures { result ≡ form_of_rest rest.now }
-{
-    if rest.is_empty() {
-        Form::CutOff
-    } else if rest.starts_with(b"//") || rest.starts_with(b"/*") {
-        Form::Comment
-    } else {
-        Form::Other
+        form_of_some(start, rest)
     }
 }
 

@@ -1,45 +1,69 @@
 //! Places of diagnostics of modules in the JSON text.
-ghost use Rattle.std.specs.Prelude.{◌≡◌, IfOk, IfSome};
-ghost use Rattle.report_input.specs.Located.{AreLocated, IsLocated, IsLocatedAs, IsMoved, IsSpanned};
+ghost use Rattle.std.specs.Prelude.{◌≡◌, Some, IfOk, IfSome, option_map};
+ghost use Rattle.report_input.specs.Located.{AreLocated, IsLocated, IsLocatedAs, IsMoved, IsSpanned, IsWay, IsWayToField, IsWayToItem};
 ghost use Rattle.report_input.specs.Located.{code_is_of_json};
 
-use crate::finds::{Part, find};
 use crate::places::Place;
-use crate::spans::Span;
-use crate::steps::pointer_text;
+use crate::spans::{Span, span_of};
+use crate::steps::{Step, further_steps, path_text, pointer_text, steps_of_pointer};
 use report_diagnostics::{Code, Diagnostic, Location, Text};
-use report_places::path_of_pointer;
 use std::alloc::{AllocError, Global};
 
-/// Where a value stands in the JSON: its path, the pointer to it, and its bytes.
+/// Where a value stands in the JSON: the way to it, as a path and as a pointer, and its bytes.
 #[derive(Drop)]
 struct Spanned {
+    steps: Vec<Step>,
     path: Text,
     pointer: Text,
     span: Span,
 }
 
-/// Returns the path of the item that a diagnostic is about, or none without a pointer to it.
-fn item_path(alloc: Global, diagnostic: &Diagnostic) -> Result<Option<String>, AllocError> {
+/// Returns the way to the item that a diagnostic is about, if it has a pointer to it.
+fn way_to_item(alloc: Global, diagnostic: &Diagnostic) -> Result<Option<Vec<Step>>, AllocError>
+    ensures { IfOk result (λ found. IfSome found (λ steps. IsWayToItem diagnostic.now steps.items)) }
+{
     match &diagnostic.location.pointer {
-        Some(pointer) => Ok(Some(path_of_pointer(alloc, pointer.as_str())?)),
+        Some(pointer) => steps_of_pointer(alloc, pointer.as_str()),
         None => Ok(None),
     }
 }
 
-/// Returns where the value at a path stands, if it is found.
-fn value_at(alloc: Global, input: &[u8], path: String) -> Result<Option<Spanned>, AllocError>
-    ensures { IfOk result (λ found. IfSome found (IsSpanned input.now)) }
+/// Returns the way to the field of the item that is at fault, if a field is.
+fn way_to_field(alloc: Global, diagnostic: &Diagnostic) -> Result<Option<Vec<Step>>, AllocError>
+    ensures { IfOk result (λ found. IfSome found (λ steps. IsWayToField diagnostic.now steps.items)) }
 {
-    let Some(found) = find(alloc, input, Part::Value, path.as_str())? else {
+    let Some(field) = &diagnostic.field else {
         return Ok(None);
     };
-    let Some(span) = found.span else {
+    let Some(mut steps) = way_to_item(alloc, diagnostic)? else {
         return Ok(None);
     };
-    let pointer = pointer_text(alloc, found.steps.as_slice())?;
-    let path = Text::from(path);
+    let Some(mut within) = further_steps(alloc, field.as_str())? else {
+        return Ok(None);
+    };
+    steps.append(&mut within)?;
+    Ok(Some(steps))
+}
+
+/// Returns where the value stands to which a way leads, if it is found.
+fn value_at(
+    alloc: Global,
+    input: &[u8],
+    way: Option<Vec<Step>>,
+) -> Result<Option<Spanned>, AllocError>
+    ensures spanned { IfOk result (λ found. IfSome found (IsSpanned input.now)) }
+    ensures way { IfOk result (λ found. IfSome found (λ at. option_map (λ steps. steps.items) way ≡ Some at.steps.items)) }
+{
+    let Some(steps) = way else {
+        return Ok(None);
+    };
+    let Some(span) = span_of(alloc, input, steps.as_slice())? else {
+        return Ok(None);
+    };
+    let path = Text::from(path_text(alloc, steps.as_slice())?);
+    let pointer = pointer_text(alloc, steps.as_slice())?;
     Ok(Some(Spanned {
+        steps,
         path,
         pointer,
         span,
@@ -52,18 +76,14 @@ fn at_fault(
     input: &[u8],
     diagnostic: &Diagnostic,
 ) -> Result<Option<Spanned>, AllocError>
-    ensures { IfOk result (λ found. IfSome found (IsSpanned input.now)) }
+    ensures spanned { IfOk result (λ found. IfSome found (IsSpanned input.now)) }
+    ensures way { IfOk result (λ found. IfSome found (λ at. IsWay diagnostic.now at.steps.items)) }
 {
-    let Some(item) = item_path(alloc, diagnostic)? else {
-        return Ok(None);
-    };
-    if let Some(field) = &diagnostic.field {
-        let field = field.as_str();
-        let path = format!(in alloc; "{item}{field}")?;
-        if let Some(found) = value_at(alloc, input, path)? {
-            return Ok(Some(found));
-        }
+    let field = way_to_field(alloc, diagnostic)?;
+    if let Some(found) = value_at(alloc, input, field)? {
+        return Ok(Some(found));
     }
+    let item = way_to_item(alloc, diagnostic)?;
     value_at(alloc, input, item)
 }
 
@@ -84,44 +104,21 @@ fn moved(input: &[u8], location: Location, path: Text, pointer: Text, byte: usiz
 
 /// Returns a diagnostic at a value of the JSON.
 fn located_at(input: &[u8], diagnostic: Diagnostic, found: Spanned) -> Diagnostic
-    requires { IsSpanned input.now found }
+    requires spanned { IsSpanned input.now found }
+    requires way { IsWay diagnostic found.steps.items }
     ensures { IsLocatedAs input.now diagnostic result }
 {
     let Spanned {
         path,
         pointer,
         span,
-    } = found;
-    let Diagnostic {
-        code,
-        severity,
-        message,
-        location,
-        text,
-        label,
-        field,
-        data,
-        related,
-        omitted,
-        notes,
-        help,
         ..
-    } = diagnostic;
-    let location = moved(input, location, path, pointer, span.begin);
+    } = found;
+    let location = moved(input, diagnostic.location, path, pointer, span.begin);
     Diagnostic {
-        code,
-        severity,
-        message,
         location,
         end: Some(span.end),
-        text,
-        label,
-        field,
-        data,
-        related,
-        omitted,
-        notes,
-        help,
+        ..diagnostic
     }
 }
 

@@ -48,7 +48,11 @@ fn add_all_to_path(text: &mut String, steps: &[Step]) -> Result<(), AllocError>
 }
 
 /// Returns the path of these steps, as `functions[2].arguments`.
-fn path_text(alloc: Global, steps: &[Step]) -> Result<String, AllocError>
+///
+/// # Errors
+///
+/// `AllocError` if an allocation fails.
+pub fn path_text(alloc: Global, steps: &[Step]) -> Result<String, AllocError>
     ensures { IfOk result (λ text. string_bytes text ≡ path_text steps.now) }
 {
     let mut text = String::new(alloc);
@@ -148,6 +152,63 @@ pub fn steps_of(alloc: Global, path: &str) -> Result<Option<Vec<Step>>, AllocErr
     let steps = parsed(alloc, path)?;
     let text = path_text(alloc, steps.as_slice())?;
     if text.as_str() == path {
+        Ok(Some(steps))
+    } else {
+        Ok(None)
+    }
+}
+
+/// Returns the steps that stand behind others in a path, if the rest of the path has the form of such steps.
+///
+/// # Errors
+///
+/// `AllocError` if an allocation fails.
+pub fn further_steps(alloc: Global, rest: &str) -> Result<Option<Vec<Step>>, AllocError>
+    ensures { IfOk result (λ found. IfSome found (λ steps. steps_in_path steps.items ≡ rest.now)) }
+{
+    let steps = parsed(alloc, rest)?;
+    let mut text = String::new(alloc);
+    add_all_to_path(&mut text, steps.as_slice())?;
+    if text.as_str() == rest {
+        Ok(Some(steps))
+    } else {
+        Ok(None)
+    }
+}
+
+/// Adds the step of a piece of a JSON pointer: an index, or else a name. Returns whether it has the form of one.
+fn add_piece(alloc: Global, steps: &mut Vec<Step>, piece: &str) -> Result<bool, AllocError> {
+    match piece.parse::<usize>() {
+        Ok(index) => {
+            steps.push(Step::Item(index))?;
+            Ok(true)
+        }
+        Err(_) => add_member(alloc, steps, piece),
+    }
+}
+
+/// Returns the steps of a JSON pointer as far as it has the form of one, without characters that are escaped.
+fn parsed_pointer(alloc: Global, pointer: &str) -> Result<Vec<Step>, AllocError> {
+    let mut steps = Vec::new(alloc);
+    for piece in pointer.split('/').skip(1) {
+        if !add_piece(alloc, &mut steps, piece)? {
+            return Ok(steps);
+        }
+    }
+    Ok(steps)
+}
+
+/// Returns the steps of a JSON pointer, if it has the form of one, without characters that are escaped.
+///
+/// # Errors
+///
+/// `AllocError` if an allocation fails.
+pub fn steps_of_pointer(alloc: Global, pointer: &str) -> Result<Option<Vec<Step>>, AllocError>
+    ensures { IfOk result (λ found. IfSome found (λ steps. pointer_text steps.items ≡ pointer.now)) }
+{
+    let steps = parsed_pointer(alloc, pointer)?;
+    let text = pointer_text(alloc, steps.as_slice())?;
+    if text.as_str() == pointer {
         Ok(Some(steps))
     } else {
         Ok(None)

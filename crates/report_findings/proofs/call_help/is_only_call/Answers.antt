@@ -18,7 +18,7 @@ returns c =
     let P : Bool → Type 0 =
     λ found. found ≡ true → (i : ℕ) → i < length m.entry_points → PassesNoOther m known violation call (body.EntryPoint i) in
     let Q : Bool → Type 0 = λ found. found ≡ true → IsOnlyCall m known violation call in
-    IfOk-weaker c.points_pass_no_other.result P Q
+    IfOk-weaker c.all_pass_no_other-2.result P Q
     (λ found pass held. only m known violation call (subst R c.requires.rules (c.in_ok-leads.ensures c.if-branch.false))
-    (c.in_ok-functions_pass_no_other.ensures c.if-not-branch.false) (pass held))
-    c.points_pass_no_other.ensures
+    (c.in_ok-functions.ensures c.if-not-functions.false) (pass held))
+    c.all_pass_no_other-2.ensures

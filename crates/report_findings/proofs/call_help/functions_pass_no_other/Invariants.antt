@@ -1,8 +1,0 @@
-use Rattle.std.proofs.Common.{ℕ, ◌<◌}
-use Rattle.shader_uniformity.specs.declared.facts.BodyLocation.TheVariants as body
-use Rattle.report_findings.specs.Calls.{PassesNoOther}
-use Rattle.report_findings.proofs.call_help.functions_pass_no_other.Given as goal
-
-abbrev pub invariant-loop-index : goal.invariant-loop-index
-invariant-loop-index l =
-    (i : ℕ) → i < l.index → PassesNoOther l.«module» l.known l.called.violation l.called.call (body.Function i)
