@@ -1,4 +1,9 @@
+pub mod FindingsLemmas
+pub mod FlowLemmas
+pub mod InfoLemmas
 pub mod OptionLemmas
+pub mod OutcomeLemmas
 pub mod ReadingLemmas
 pub mod ReportLemmas
+pub mod TextLemmas
 pub mod WordLemmas

@@ -19,6 +19,7 @@ use Rattle.report_model.specs.declared.analyzed.Analyzed.{Analyzed}
 use Rattle.shader_analysis_spec.specs.Program.{Module}
 use Rattle.shader_json_module.specs.Modules.{IsModule, IsTextOf}
 use Rattle.shader_report_json.specs.Answers.{AreModuleMembers}
+use Rattle.shader_resolve.specs.Nesting.{NestsWithin}
 use Rattle.report_answers.specs.Verdicts.{verdict_members}
 use Rattle.report_answers.specs.Options.{checks_uniformity, settings}
 use Rattle.report_answers.specs.Reading.{IsRead}
@@ -36,11 +37,13 @@ module _ (options : Options) (input : List ℕ) (j : Json) (m : Module) where
   by_verdict true outcome text e output = subst (λ (o : Outcome). IsReportOn options input j m o text) (sym e) output
   by_verdict false outcome text e output = subst (λ (o : Outcome). IsReportOn options input j m o text) (sym e) output
 
-  module _ (analyzed : Analyzed) (found : IsAnalyzed m (settings options) (checks_uniformity options) analyzed) (outcome : Outcome)
+  module _ (nested : NestsWithin 4000 m) (analyzed : Analyzed)
+      (found : IsAnalyzed m (settings options) (checks_uniformity options) analyzed) (outcome : Outcome)
       (text : List ℕ) (accepted : Bool) (is : accepted ≡ is_accepted analyzed) (ends : outcome ≡ verdict accepted) where
     reported : IsPrintedFor options.is_json options input j m analyzed text → IsReportOn options input j m outcome text
     reported printed =
-        by_verdict accepted outcome text ends (record { analyzed = analyzed; found = found; verdict = is; printed = printed })
+        by_verdict accepted outcome text ends
+        (record { nested = nested; analyzed = analyzed; found = found; verdict = is; printed = printed })
 
     pub json_reported : options.is_json ≡ true → IsJson options input j m analyzed text → IsReportOn options input j m outcome text
     json_reported json printed = reported (subst (λ (b : Bool). IsPrintedFor b options input j m analyzed text) (sym json) printed)

@@ -93,8 +93,10 @@ abbrev pub IsPrintedFor : Bool → Options → (input : List ℕ) → Json → M
 IsPrintedFor true options input j m analyzed text = IsJson options input j m analyzed text
 IsPrintedFor false options input j m analyzed text = IsPeople options input j m analyzed text
 
--- the text is the report on a module for which the JSON stands: the verdict is by what is found of it, and that is printed
+-- the text is the report on a module for which the JSON stands: its blocks don't nest too deep, the verdict is by what is found of it, and
+-- that is printed
 pub record IsOutputOn (options : Options) (input : List ℕ) (j : Json) (m : Module) (accepted : Bool) (text : List ℕ) : Type 0 where
+  pub nested : NestsWithin 4000 m
   pub analyzed : Analyzed
   pub found : IsAnalyzed m (settings options) (checks_uniformity options) analyzed
   pub verdict : accepted ≡ is_accepted analyzed
@@ -117,7 +119,7 @@ pub record IsErrorText (options : Options) (input : List ℕ) (error : ReadError
   pub printed : IsInputText options.explains diagnostic text
 
 -- the text of an error of the input, as JSON or for people
-abbrev IsErrorFor : Bool → Options → List ℕ → ReadError → List ℕ → Type 0
+abbrev pub IsErrorFor : Bool → Options → List ℕ → ReadError → List ℕ → Type 0
 IsErrorFor true options input error text = IsObjectText input error text
 IsErrorFor false options input error text = IsErrorText options input error text
 

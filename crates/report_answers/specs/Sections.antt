@@ -21,7 +21,7 @@ use Rattle.report_answers.specs.Options.{bounds_of}
 use Rattle.report_answers.specs.declared.options.Options.{Options}
 
 -- what back ends check of an accepted module under the policies, and nothing of another one or unasked
-abbrev AreBoundsFor : Option BoundsCheckPolicies → Option Recorded → Module → Option ModuleBounds → Type 0
+abbrev pub AreBoundsFor : Option BoundsCheckPolicies → Option Recorded → Module → Option ModuleBounds → Type 0
 AreBoundsFor (Some policies) (Some info) m (Some bounds) = AreModuleBounds m policies bounds
 AreBoundsFor (Some policies) (Some info) m None = ⊥
 AreBoundsFor (Some policies) None m found = found ≡ None
@@ -52,7 +52,7 @@ pub record AreResourceMembers (j : Json) (m : Module) (layouts : List TypeLayout
   pub written : tokens ≡ key (codes "resources") ∷ resources
 
 -- nothing of a module that has a fault, and nothing unasked
-abbrev AreResourcesFor : Bool → Option (List TypeLayout × Recorded) → Json → Module → List Token → Type 0
+abbrev pub AreResourcesFor : Bool → Option (List TypeLayout × Recorded) → Json → Module → List Token → Type 0
 AreResourcesFor true (Some found) j m tokens = AreResourceMembers j m found.0 found.1 tokens
 AreResourcesFor true None j m tokens = tokens ≡ []
 AreResourcesFor false found j m tokens = tokens ≡ []

@@ -1,4 +1,6 @@
-//! Laws about command line arguments. Each law is the contract of a function that does nothing.
+//! Laws about command line arguments and about reports. Each law is the contract of a function that does nothing.
+ghost use Rattle.report_answers.specs.Laws.{AcceptedTextsAgree, FindingsAreDetermined, ModulesAreNotRefused};
+ghost use Rattle.report_answers.specs.Laws.{OutcomeIsDetermined};
 ghost use Rattle.report_answers.specs.WordLaws.{TwiceIsOfTwoWords, WordsChangePlaces};
 
 use std::alloc::Global;
@@ -7,4 +9,25 @@ use std::alloc::Global;
 pub fn words_stand_in_any_order()
     ensures order { WordsChangePlaces Global }
     ensures twice { TwiceIsOfTwoWords Global }
+{}
+
+/// States that what is found of a module is determined by the checks that are made, except for which of several faults, causes or sources
+/// is named.
+pub fn findings_are_determined()
+    ensures { FindingsAreDetermined }
+{}
+
+/// States that all reports on an input have the same outcome if their options make the same checks and the input isn't too long.
+pub fn outcome_is_determined()
+    ensures { OutcomeIsDetermined }
+{}
+
+/// States that an input is reported as no module only if it denotes none, if blocks of its module nest too deep, or if it is too long.
+pub fn modules_are_not_refused()
+    ensures { ModulesAreNotRefused }
+{}
+
+/// States that all JSON on an accepted module is the same if no optional section is requested, except for the sources that are named.
+pub fn accepted_texts_agree()
+    ensures { AcceptedTextsAgree }
 {}

@@ -70,6 +70,7 @@ impl Report {
     ghost use Rattle.report_answers.specs.Reports.{IsTextOnAccepted, IsTextOnRefused, verdict, word_of};
     ghost use Rattle.report_answers.specs.Sections.{IsRootIf};
     ghost use Rattle.shader_interface.specs.Interface.{seen};
+    ghost use Rattle.shader_resolve.specs.Nesting.{NestsWithin};
 
     /// Returns the report with this text and verdict on a module.
     fn with_verdict(text: Vec<u8>, is_accepted: bool) -> Report
@@ -279,7 +280,8 @@ impl Report {
         declared: &Declared,
         root: Option<&Value<'_>>,
     ) -> Result<Report, AllocError>
-        requires { IsAnalysisOf options «module».now analyzed.now }
+        requires nested { NestsWithin 4000 «module».now }
+        requires analyzed { IsAnalysisOf options «module».now analyzed.now }
         ensures { IfOk result (λ report. (j : Json) → IsRootIf options.has_resources j (seen root.entry) →
             IsReportOn options input.now j «module».now report.outcome report.text.items) }
     {

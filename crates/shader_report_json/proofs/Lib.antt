@@ -1,2 +1,2 @@
-mod PairLemmas
+pub mod PairLemmas
 mod TakeLemmas
