@@ -53,7 +53,7 @@ def parsed_for_typer(words):
     files = words[:end] + words[end + 1 :]
     check_files(files)
     if files and files[0] in ("call", "rules", "layout", "convert", "module") and not os.path.exists(files[0]):
-        example = f"echo '{' '.join(files)}' | ./typer"
+        example = f"echo '{' '.join(files)}' | typer"
         raise WrongArgument(f"`{files[0]}` is no file; a question is a line of the input, as in: {example}")
     return Arguments([], files)
 
@@ -260,7 +260,7 @@ def main():
         arguments = parsed(words) if name == "report" else parsed_for_typer(words)
     except WrongArgument as wrong:
         text = shown(str(wrong))
-        say(f"{name}: {text}\n{USAGE}" if name == "report" else f"{name}: {text}; see ./{name} --help")
+        say(f"{name}: {text}\n{USAGE}" if name == "report" else f"{name}: {text}; see {name} --help")
         return BAD_USAGE
     return answer_files(name, arguments)
 

@@ -1,47 +1,14 @@
 //! Compares reports on the modules of `tests/data/modules` with the results of naga's own code. `tests/bindings`, which
 //! builds the program `report`, compares the bytes with those of the program.
 
-use pethuvazh::{answer_lines, report_json, report_text, BoundsCheckPolicies, BoundsCheckPolicy};
-use pethuvazh::{Error, Options, Report, Uniformity};
+mod common;
+
+use common::{case, lines, samples};
+use pethuvazh::{
+    answer_lines, report, report_json, report_text, BoundsCheckPolicies, BoundsCheckPolicy,
+};
+use pethuvazh::{Error, Options, Text, Uniformity};
 use std::fs;
-use std::path::PathBuf;
-
-fn samples() -> PathBuf {
-    PathBuf::from(env!("CARGO_MANIFEST_DIR")).join("../../tests/data")
-}
-
-fn lines(name: &str) -> Vec<String> {
-    let path = samples().join(name);
-    let text =
-        fs::read_to_string(&path).unwrap_or_else(|error| panic!("{}: {error}", path.display()));
-    text.lines().map(str::to_owned).collect()
-}
-
-/// Returns the number after a key of the line.
-fn number(line: &str, key: &str) -> u32 {
-    let from = line.find(&format!("\"{key}\":")).unwrap() + key.len() + 3;
-    let digits = line[from..]
-        .trim_start()
-        .chars()
-        .take_while(char::is_ascii_digit);
-    digits.collect::<String>().parse().unwrap()
-}
-
-/// Returns a line's module, and the options by which it is checked.
-fn case(line: &str) -> (&str, Options) {
-    let from = line.find("\"module\":").unwrap() + "\"module\":".len();
-    let capabilities = number(&line[..from], "capabilities");
-    let options = Options {
-        uniformity: match number(&line[..from], "flags") & 1 {
-            0 => Uniformity::Off,
-            _ => Uniformity::Naga,
-        },
-        non_uniform_textures: capabilities & 1 != 0,
-        non_uniform_storage_textures: capabilities & 2 != 0,
-        ..Options::default()
-    };
-    (line.trim_end()[from..].strip_suffix('}').unwrap(), options)
-}
 
 #[test]
 fn modules_are_accepted_as_by_naga() {
@@ -53,77 +20,119 @@ fn modules_are_accepted_as_by_naga() {
     for (index, (line, answer)) in modules.iter().zip(&answers).enumerate() {
         let (module, options) = case(line);
         let is_accepted = answer.contains("\"layouts\":") && answer.contains("\"info\":");
-        for report in [report_json, report_text] {
-            let report = report(module.as_bytes(), options).unwrap();
-            assert_eq!(report.is_accepted, is_accepted, "module {}", index + 1);
+        for ask in [report_json, report_text] {
+            let text = ask(module.as_bytes(), options).unwrap();
+            assert_eq!(text.is_accepted, is_accepted, "module {}", index + 1);
         }
+        let typed = report(module.as_bytes(), options).unwrap();
+        assert_eq!(typed.is_accepted(), is_accepted, "module {}", index + 1);
     }
 }
 
 #[test]
 fn options_are_heeded() {
     let module = fs::read(samples().join("modules/real/derivative.json")).unwrap();
-    let all = Options::default();
-    let any_flow = Options {
-        uniformity: Uniformity::Off,
-        ..all
-    };
-    assert!(!report_json(&module, all).unwrap().is_accepted);
+    let any_flow = Options::new().with_uniformity(Uniformity::Off);
+    assert!(!report_json(&module, Options::new()).unwrap().is_accepted);
     assert!(report_json(&module, any_flow).unwrap().is_accepted);
 }
 
 #[test]
 fn more_is_reported_on_request() {
     let module = fs::read(samples().join("modules/real/textured_quad.json")).unwrap();
-    let policies = BoundsCheckPolicies {
-        index: BoundsCheckPolicy::Restrict,
-        image_load: BoundsCheckPolicy::ReadZeroSkipWrite,
-        ..BoundsCheckPolicies::default()
-    };
-    let all = Options {
-        bounds_checks: Some(policies),
-        resources: true,
-        ..Options::default()
-    };
-    let plain = report_json(&module, Options::default()).unwrap().text;
+    let policies = BoundsCheckPolicies::default()
+        .with_index(BoundsCheckPolicy::Restrict)
+        .with_image_load(BoundsCheckPolicy::ReadZeroSkipWrite);
+    let all = Options::new()
+        .with_bounds_checks(policies)
+        .with_resources(true);
+    let plain = report_json(&module, Options::new()).unwrap().text;
     let more = report_json(&module, all).unwrap().text;
     for member in ["\"bounds\":", "\"resources\":"] {
         assert!(more.contains(member) && !plain.contains(member), "{member}");
     }
-    let drawn = Options {
-        drawing: true,
-        ..Options::default()
-    };
-    let declared = Options {
-        all_structs: true,
-        ..Options::default()
-    };
-    let explained = Options {
-        explain: true,
-        ..Options::default()
-    };
-    let plain = report_text(&module, Options::default()).unwrap().text;
-    for options in [drawn, declared, explained] {
+    let plain = report_text(&module, Options::new()).unwrap().text;
+    let none = Options::new();
+    for options in [
+        none.with_drawing(true),
+        none.with_all_structs(true),
+        none.with_explain(true),
+    ] {
         assert!(report_text(&module, options).unwrap().text.len() > plain.len());
+    }
+}
+
+/// The flags of `bindings/options.json` are those that each method sets. Policies of all kinds and their sums are tried, too.
+#[test]
+fn options_have_their_flags() {
+    let none = Options::new();
+    let single = [
+        (none.with_uniformity(Uniformity::Off), 1),
+        (none.with_non_uniform_textures(true), 2),
+        (none.with_non_uniform_storage_textures(true), 4),
+        (none.with_uniformity(Uniformity::Naga), 16),
+        (none.with_drawing(true), 32),
+        (none.with_resources(true), 64),
+        (none.with_bounds_checks(BoundsCheckPolicies::default()), 128),
+        (none.with_all_structs(true), 1 << 16),
+        (none.with_explain(true), 1 << 17),
+        (none.with_all(true), 1 << 18),
+    ];
+    for (options, flags) in single {
+        assert_eq!(options.flags(), flags);
+    }
+    assert_eq!((none.flags(), Options::default().flags()), (0, 0));
+    assert_eq!(
+        none.with_all(true)
+            .with_drawing(true)
+            .with_all(false)
+            .flags(),
+        32
+    );
+    let policies = [
+        BoundsCheckPolicy::Unchecked,
+        BoundsCheckPolicy::Restrict,
+        BoundsCheckPolicy::ReadZeroSkipWrite,
+    ];
+    for number in 0..81 {
+        let digits = [0, 1, 2, 3].map(|place| number / 3_u32.pow(place) % 3);
+        let [index, buffer, image_load, binding_array] = digits.map(|it| policies[it as usize]);
+        let chosen = BoundsCheckPolicies::default()
+            .with_index(index)
+            .with_buffer(buffer);
+        let chosen = chosen
+            .with_image_load(image_load)
+            .with_binding_array(binding_array);
+        let flags = digits.iter().rev().fold(0, |sum, it| sum << 2 | it);
+        assert_eq!(none.with_bounds_checks(chosen).flags(), flags << 8 | 128);
     }
 }
 
 #[test]
 fn inputs_that_are_no_module_are_reported() {
     for bytes in [b"".as_slice(), b"\xff", b"[]", b"{}", b"fn main() {}"] {
-        let Err(Error::NotModule(why)) = report_json(bytes, Options::default()) else {
+        let Err(Error::NotModule(error)) = report_json(bytes, Options::new()) else {
             panic!("{bytes:?} is a module");
         };
+        let why = error.text;
         assert!(
             why.starts_with("{\"version\":")
                 && why.contains(",\"error\":{")
                 && why.ends_with("}\n"),
             "{why}"
         );
-        let Err(Error::NotModule(why)) = report_text(bytes, Options::default()) else {
+        let Err(Error::NotModule(error)) = report_text(bytes, Options::new()) else {
             panic!("{bytes:?} is a module");
         };
-        assert!(!why.starts_with('{') && why.ends_with('\n'), "{why}");
+        assert!(
+            !error.text.starts_with('{') && error.text.ends_with('\n'),
+            "{}",
+            error.text
+        );
+        assert_eq!(
+            report(bytes, Options::new()).unwrap_err().to_string(),
+            Error::NotModule(error).to_string()
+        );
     }
 }
 
@@ -154,15 +163,15 @@ fn bad_lines_are_reported() {
 fn threads_may_call_at_once() {
     let modules = lines("modules/modules.jsonl");
     let cases: Vec<_> = modules.iter().map(|line| case(line)).collect();
-    let report = |(module, options): &(&str, Options)| report_json(module.as_bytes(), *options);
-    let wanted: Vec<Result<Report, Error>> = cases.iter().map(report).collect();
+    let ask = |(module, options): &(&str, Options)| report_json(module.as_bytes(), *options);
+    let wanted: Vec<Result<Text, Error>> = cases.iter().map(ask).collect();
     // Eight threads, each with twenty times a call for each line.
     std::thread::scope(|scope| {
         for _ in 0..8 {
             scope.spawn(|| {
                 for _ in 0..20 {
                     for (case, wanted) in cases.iter().zip(&wanted) {
-                        assert_eq!(&report(case), wanted);
+                        assert_eq!(&ask(case), wanted);
                     }
                 }
             });
@@ -176,9 +185,23 @@ fn little_stack_is_enough() {
     for line in lines("modules/modules.jsonl") {
         let work = move || {
             let (module, options) = case(&line);
-            assert!(report_json(module.as_bytes(), options).is_ok());
+            let all = options
+                .with_resources(true)
+                .with_bounds_checks(BoundsCheckPolicies::default());
+            let shown = options.with_drawing(true).with_explain(true).with_all(true);
+            assert!(report(module.as_bytes(), options).is_ok());
+            assert!(
+                report_json(module.as_bytes(), all).is_ok()
+                    && report_text(module.as_bytes(), shown).is_ok()
+            );
         };
-        let thread = std::thread::Builder::new().stack_size(256 << 10);
-        thread.spawn(work).unwrap().join().unwrap();
+        on_little_stack(work);
     }
+    let asked = lines("lines/worked.in").join("\n");
+    on_little_stack(move || assert!(answer_lines(&asked).is_ok()));
+}
+
+fn on_little_stack(work: impl FnOnce() + Send + 'static) {
+    let thread = std::thread::Builder::new().stack_size(256 << 10);
+    thread.spawn(work).unwrap().join().unwrap();
 }

@@ -11,7 +11,7 @@ fn main() -> Result<(), Box<dyn Error>> {
     let pairs: Vec<_> = std::mem::take(&mut module.special_types.predeclared_types).into_iter().collect();
     let mut json = serde_json::to_value(&module)?;
     json["special_types"]["predeclared_types"] = serde_json::to_value(pairs)?;
-    let report = pethuvazh::report_text(json.to_string().as_bytes(), pethuvazh::Options::default())?;
+    let report = pethuvazh::report_text(json.to_string().as_bytes(), pethuvazh::Options::new())?;
     print!("{}", report.text);
     Ok(())
 }
