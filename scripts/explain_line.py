@@ -2,16 +2,19 @@
 
     reason(line)      the reason, None for a line that is a question
 
-The names come from the tables of crates/typer_answers, shader_type_text and shader_samples. tests/launcher compares the
-verdict with lines that typer answers, and with lines that it doesn't.
+The names come from the tables of crates/shader_type_text and shader_samples, or in a release, which has no sources, from
+names.json. tests/launcher compares the verdict with lines that typer answers, and with lines that it doesn't.
 """
 import functools
+import json
 import pathlib
 import re
 
 from report_arguments import closest, one_of
 
 CRATES = pathlib.Path(__file__).resolve().parent.parent / "crates"
+# The names of all tables, which scripts/release writes.
+NAMES = pathlib.Path(__file__).resolve().with_name("names.json")
 # The first word of a line, and the form of the line.
 FORMS = {
     "call": "call NAME TYPE..",
@@ -39,7 +42,9 @@ CLOSE_SCALAR = 0.6
 
 @functools.lru_cache(None)
 def names(kind):
-    """Returns the names of a table of the sources, in its order."""
+    """Returns the names of a table, in its order."""
+    if NAMES.exists():
+        return json.loads(NAMES.read_text())[kind]
     file, part, name = TABLES[kind]
     return re.findall(name, re.findall(part, (CRATES / file).read_text())[0])
 
@@ -228,7 +233,7 @@ def space_reason(text):
 def first_reason(text, kind):
     """Returns why the first word begins no question."""
     if text.lower().lstrip("-") in ("help", "h", "?", "version"):
-        return "this is no question; `./typer --help` lists the questions"
+        return "this is no question; `typer --help` lists the questions"
     if text.startswith(("#", "//", ";")):
         return "a comment is no question; each line has to be one"
     begun = f"{shown(kind)} begins no question"

@@ -105,8 +105,7 @@ def marked_bytes(row, text):
     """Returns the first byte that a row is about, and the byte behind what is marked, None if no line is shown."""
     if "path" in row:
         return (span_of_second if row["code"] == "I012" else span_of)(text, row["path"])
-    byte = row.get("token", row["byte"])
-    return byte, byte + row["marked"] if "marked" in row else None
+    return row["byte"], row["byte"] + row["marked"] if "marked" in row else None
 
 
 def error_text(row, text):
