@@ -157,3 +157,30 @@ impl fmt::Display for NotModule {
         write!(f, "{} [{}]", self.diagnostic.message, self.diagnostic.code)
     }
 }
+
+#[cfg(test)]
+mod tests {
+    use super::Error;
+
+    #[test]
+    fn errors_without_a_position_say_what_is_wrong() {
+        let said = |error: Error| error.to_string();
+        let processor = "the library needs a processor with the instructions of x86-64-v2";
+        let version = Error::Version {
+            found: "2.0".to_string(),
+        };
+        let answer = Error::Answer {
+            path: "info.functions[0]".to_string(),
+            expected: "an object",
+        };
+        assert_eq!(said(Error::Processor), processor);
+        assert_eq!(
+            said(Error::TooLong),
+            "the lines have more than 1,048,576 bytes"
+        );
+        assert_eq!(said(Error::OutOfMemory), "out of memory");
+        assert!(said(Error::Library { status: 9 }).contains("status 9,"));
+        assert!(said(version).contains("the format 2.0,"));
+        assert!(said(answer).contains("than an object at `info.functions[0]`"));
+    }
+}
