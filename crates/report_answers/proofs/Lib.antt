@@ -1,6 +1,7 @@
 pub mod FindingsLemmas
 pub mod FlowLemmas
 pub mod InfoLemmas
+pub mod JsonLemmas
 pub mod OptionLemmas
 pub mod OutcomeLemmas
 pub mod ReadingLemmas

@@ -6,6 +6,7 @@ use Rattle.std.proofs.lemmas.Str.{IsUtf8-string_bytes}
 use Rattle.std.specs.Prelude.{MatchOption}
 use Rattle.std.specs.Str.{IsUtf8}
 use Rattle.json.specs.Json.{Json, document}
+use Rattle.json.specs.Lex.{tokens}
 use Rattle.json.specs.Print.{print}
 use Rattle.json.specs.Token.{Token, begin_object, end_object}
 use Rattle.json.specs.Written.{Written}
@@ -13,6 +14,7 @@ use Rattle.report_diagnostics.specs.Heads.{head_members}
 use Rattle.report_diagnostics.specs.declared.diagnostic.Diagnostic.{Diagnostic}
 use Rattle.report_findings.specs.Collected.{AreDiagnostics}
 use Rattle.report_input.specs.Located.{AreLocated}
+use Rattle.report_json.proofs.LineLemmas.{line_written}
 use Rattle.report_json.specs.Tokens.{Adds, object}
 use Rattle.report_model.specs.Analyzed.{IsAnalyzed, is_accepted, uniformity_of}
 use Rattle.report_model.specs.declared.analyzed.Analyzed.{Analyzed}
@@ -23,8 +25,8 @@ use Rattle.shader_resolve.specs.Nesting.{NestsWithin}
 use Rattle.report_answers.specs.Verdicts.{verdict_members}
 use Rattle.report_answers.specs.Options.{checks_uniformity, settings}
 use Rattle.report_answers.specs.Reading.{IsRead}
-use Rattle.report_answers.specs.Reports.{verdict, IsDeep, IsDeepReport, IsJson, IsModuleReport, IsOutputOn, IsPeople, IsPrintedFor}
-use Rattle.report_answers.specs.Reports.{IsTextFor, IsTextOnAccepted, IsTextOnRefused, word_of}
+use Rattle.report_answers.specs.Reports.{answer_members, verdict, IsDeep, IsDeepReport, IsJson, IsModuleReport, IsOutputOn, IsPeople}
+use Rattle.report_answers.specs.Reports.{IsPrintedFor, IsTextFor, IsTextOnAccepted, IsTextOnRefused, word_of}
 use Rattle.report_answers.specs.Reports.{IsReport, IsReportOn}
 use Rattle.report_answers.specs.Sections.{AreSections, IsRootIf}
 use Rattle.report_answers.specs.declared.options.Options.{Options}
@@ -75,17 +77,19 @@ module _ (options : Options) (input : List ℕ) (j : Json) (m : Module) where
         AreModuleMembers analyzed found → AreSections options j m analyzed sections →
         Adds start end (begin_object ∷ (head_members (word_of (is_accepted analyzed)) diagnostics
         ++ (verdict_members (uniformity_of analyzed) ++ (found ++ (sections ++ end_object ∷ []))))) →
-        text ≡ end.before ++ print end.tokens → line ≡ text ++ 10 ∷ [] → IsJson options input j m analyzed line
-    object_written start end text line faults diagnostics found sections before none diagnosed located are asked adds bytes ends =
+        text ≡ end.before ++ print end.tokens → tokens (print end.tokens) ≡ end.tokens → IsUtf8 (print end.tokens) →
+        line ≡ text ++ 10 ∷ [] → IsJson options input j m analyzed line
+    object_written start end text line faults diagnostics found sections before none diagnosed located are asked adds bytes reads_back
+        utf8 ends =
         let head = head_members (word_of (is_accepted analyzed)) diagnostics in
         let flow = verdict_members (uniformity_of analyzed) in
-        let all = object (head ++ (flow ++ (found ++ sections))) in
-        let regrouped : begin_object ∷ (head ++ (flow ++ (found ++ (sections ++ end_object ∷ [])))) ≡ all =
+        let members = answer_members analyzed diagnostics found sections in
+        let regrouped : begin_object ∷ (head ++ (flow ++ (found ++ (sections ++ end_object ∷ [])))) ≡ object members =
         ap (λ (ts : List Token). begin_object ∷ ts)
         (ap (λ (ts : List Token). head ++ ts) (ap (λ (ts : List Token). flow ++ ts) (sym (append_assoc found sections (end_object ∷ [])))
         ∙ sym (append_assoc flow (found ++ sections) (end_object ∷ [])))
         ∙ sym (append_assoc head (flow ++ (found ++ sections)) (end_object ∷ []))) in
-        let tokens : end.tokens ≡ all =
+        let written : end.tokens ≡ object members =
         adds.added ∙ ap (λ (ts : List Token). ts ++ (begin_object ∷ (head ++ (flow ++ (found ++ (sections ++ end_object ∷ [])))))) none
         ∙ regrouped in
         record {
@@ -97,8 +101,8 @@ module _ (options : Options) (input : List ℕ) (j : Json) (m : Module) where
           found_are = are;
           sections = sections;
           sections_are = asked;
-          printed = ends ∙ ap (λ (v : List ℕ). v ++ 10 ∷ [])
-              (bytes ∙ ap (λ (v : List ℕ). v ++ print end.tokens) (adds.before ∙ before) ∙ ap print tokens);
+          line = line_written members end.tokens text line written reads_back utf8
+              (bytes ∙ ap (λ (v : List ℕ). v ++ print end.tokens) (adds.before ∙ before)) ends;
         }
 
   is_text : document input ≡ Some j → IsModule j m → IsTextOf input m

@@ -44,7 +44,7 @@ use Rattle.shader_uniformity.specs.declared.facts.BodyLocation.{BodyLocation}
 use Rattle.report_answers.proofs.FindingsLemmas.{findings_are_determined}
 use Rattle.report_answers.specs.Laws.{AcceptedTextsAgree, AgreeButForSources, AllAgree, FindingsAgree, IsPlain, RecordsAgree, ResultsAgree}
 use Rattle.report_answers.specs.Laws.{TextsAgree, accepted_flow, accepted_text, blank_info, blank_tokens}
-use Rattle.report_answers.specs.Options.{bounds_of, checks_uniformity, settings}
+use Rattle.report_answers.specs.Options.{checks_uniformity, settings}
 use Rattle.report_answers.specs.Reports.{IsJson, IsModuleReport, IsPrintedFor, word_of}
 use Rattle.report_answers.specs.Sections.{AreBoundsFor, AreResourcesFor, AreSections, bounds_members}
 use Rattle.report_answers.specs.Verdicts.{verdict_members, verdict_tokens}
@@ -139,7 +139,7 @@ of_infos infos others xs ys a b same =
 
 -- ---- the text on an accepted module
 
-abbrev made : List TypeLayout → Option LayoutError → Result Recorded AnalysisError → Option Uniformity → Analysis
+abbrev pub made : List TypeLayout → Option LayoutError → Result Recorded AnalysisError → Option Uniformity → Analysis
 made layouts layout_error info uniformity =
     record { layouts = layouts; layout_error = layout_error; info = info; uniformity = uniformity }
 
@@ -155,7 +155,7 @@ record IsWritten (checks : Bool) (analyzed : Analyzed) (found : List Token) : Ty
   pub entry_points_are : AreAnswersOf infos.entry_points entry_points
   pub written : found ≡ layouts_members layouts None ++ info_tokens functions entry_points infos.global_expressions
 
-no_false : false ≡ true → ⊥
+pub no_false : false ≡ true → ⊥
 no_false is = cc
 
 no_place : (fault : Option BodyLocation) → is_none fault ≡ true → verdict_tokens fault ≡ verdict_tokens None
@@ -174,7 +174,7 @@ module _ (m : Module) (checks : Bool) (layouts : List TypeLayout) where
   flow_written infos flow false decided accepted = ap verdict_members decided
 
   -- control flow isn't decided where something else is at fault
-  undecided : (b : Bool) (found : Uniformity) → IsUniformityIf m (b && false) (Some found) → ⊥
+  pub undecided : (b : Bool) (found : Uniformity) → IsUniformityIf m (b && false) (Some found) → ⊥
   undecided true found decided = let none : Some found ≡ None = decided in cc
   undecided false found decided = let none : Some found ≡ None = decided in cc
 
@@ -246,7 +246,7 @@ accepted_is options input j m analyzed text plain are accepted printed =
       found = json.found;
       written = written;
       printed =
-          json.printed ∙ ap (λ b. text_of b json.diagnostics flow (json.found ++ json.sections)) accepted
+          json.line.printed ∙ ap (λ b. text_of b json.diagnostics flow (json.found ++ json.sections)) accepted
           ∙ ap (λ ds. text_of true ds flow (json.found ++ json.sections)) diagnostics
           ∙ ap (λ ts. text_of true [] ts (json.found ++ json.sections)) written.flow
           ∙ ap (λ ts. text_of true [] (accepted_flow checks) ts) (found ∙ written.written);

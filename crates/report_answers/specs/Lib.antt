@@ -1,4 +1,5 @@
 pub mod Analyses
+pub mod JsonLaws
 pub mod Laws
 pub mod Options
 pub mod Policies

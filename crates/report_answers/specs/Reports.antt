@@ -1,8 +1,7 @@
 -- The report on the module that an input is.
-use Rattle.std.specs.Prelude.{◌≡◌, ◌⊎◌, ◌++◌, ◌∷◌, [], ℕ, Bool, true, false, List, IsSome, Option, Some, None, ⊤}
+use Rattle.std.specs.Prelude.{◌≡◌, ◌⊎◌, ◌++◌, [], ℕ, Bool, true, false, List, IsSome, Option, Some, ⊤}
 use Rattle.std.specs.Str.{IsUtf8}
 use Rattle.json.specs.Json.{Json, document}
-use Rattle.json.specs.Print.{print}
 use Rattle.json.specs.Token.{Token}
 use Rattle.report_blocks.specs.Refusals.{IsInputText, IsRefusalText}
 use Rattle.report_blocks.specs.declared.detail.Detail.{Detail}
@@ -10,7 +9,7 @@ use Rattle.report_diagnostics.specs.Heads.{head_members}
 use Rattle.report_diagnostics.specs.declared.diagnostic.Diagnostic.{Diagnostic}
 use Rattle.report_diagnostics.specs.declared.head.Verdict.{Verdict}
 use Rattle.report_diagnostics.specs.declared.head.Verdict.TheVariants as heads
-use Rattle.report_json.specs.Tokens.{object}
+use Rattle.report_json.specs.Values.{IsLine}
 use Rattle.report_model.specs.Analyzed.{IsAnalyzed, info_of, is_accepted, uniformity_of}
 use Rattle.report_model.specs.declared.analyzed.Analyzed.{Analyzed}
 use Rattle.report_summary.specs.Summaries.{IsSummaryText}
@@ -37,6 +36,11 @@ abbrev pub word_of : Bool → Verdict
 word_of true = heads.Accepted
 word_of false = heads.Refused
 
+-- the members of the JSON on a module, in this order
+abbrev pub answer_members : Analyzed → List Diagnostic → (found sections : List Token) → List Token
+answer_members analyzed diagnostics found sections =
+    head_members (word_of (is_accepted analyzed)) diagnostics ++ (verdict_members (uniformity_of analyzed) ++ (found ++ sections))
+
 -- as JSON the text is an object: the verdict and a diagnostic for each fault, with its place in the input if only that shows it; then the
 -- verdict on uniform flow, what was found of the module, and the sections that words ask for
 pub record IsJson (options : Options) (input : List ℕ) (j : Json) (m : Module) (analyzed : Analyzed) (text : List ℕ) : Type 0 where
@@ -48,8 +52,7 @@ pub record IsJson (options : Options) (input : List ℕ) (j : Json) (m : Module)
   pub found_are : AreModuleMembers analyzed found
   pub sections : List Token
   pub sections_are : AreSections options j m analyzed sections
-  pub printed : text ≡ print (object (head_members (word_of (is_accepted analyzed)) diagnostics
-      ++ (verdict_members (uniformity_of analyzed) ++ (found ++ sections)))) ++ 10 ∷ []
+  pub line : IsLine (answer_members analyzed diagnostics found sections) text
 
 -- how much of diagnostics is printed
 abbrev pub block_detail : Options → Detail
@@ -133,7 +136,7 @@ pub record IsNestingText (options : Options) (text : List ℕ) : Type 0 where
   pub printed : IsInputText options.explains diagnostic text
 
 -- the text on blocks that nest too deep
-abbrev IsNestingFor : Bool → Options → List ℕ → Type 0
+abbrev pub IsNestingFor : Bool → Options → List ℕ → Type 0
 IsNestingFor true options text = IsNestingObject text
 IsNestingFor false options text = IsNestingText options text
 

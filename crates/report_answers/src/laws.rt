@@ -1,4 +1,5 @@
 //! Laws about command line arguments and about reports. Each law is the contract of a function that does nothing.
+ghost use Rattle.report_answers.specs.JsonLaws.{MembersAreListed, ReportsAreJson};
 ghost use Rattle.report_answers.specs.Laws.{AcceptedTextsAgree, FindingsAreDetermined, ModulesAreNotRefused};
 ghost use Rattle.report_answers.specs.Laws.{OutcomeIsDetermined};
 ghost use Rattle.report_answers.specs.WordLaws.{TwiceIsOfTwoWords, WordsChangePlaces};
@@ -30,4 +31,10 @@ pub fn modules_are_not_refused()
 /// States that all JSON on an accepted module is the same if no optional section is requested, except for the sources that are named.
 pub fn accepted_texts_agree()
     ensures { AcceptedTextsAgree }
+{}
+
+/// States that all JSON output is JSON in UTF-8: one object, with the members of the format's specification in its order.
+pub fn reports_are_json()
+    ensures reports { ReportsAreJson }
+    ensures members { MembersAreListed }
 {}

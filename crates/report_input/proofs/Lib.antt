@@ -1,3 +1,4 @@
 pub mod CodeLemmas
 pub mod LocatedLemmas
 pub mod SpanLemmas
+pub mod ValueLemmas

@@ -1,7 +1,6 @@
 -- Errors of the input as JSON.
 use Rattle.std.specs.Prelude.{◌≡◌, ℕ, List, [], ◌∷◌, ◌++◌, Some, codes, string_bytes}
 use Rattle.std.specs.Fmt.{decimal, signed_decimal}
-use Rattle.json.specs.Print.{print}
 use Rattle.json.specs.Token.{Token, key}
 use Rattle.report_diagnostics.specs.Heads.{head_members}
 use Rattle.report_diagnostics.specs.declared.codes.Code.TheVariants.{Input}
@@ -10,6 +9,7 @@ use Rattle.report_diagnostics.specs.declared.diagnostic.Severity.TheVariants.{Er
 use Rattle.report_diagnostics.specs.declared.head.Verdict.TheVariants.{InvalidInput}
 use Rattle.report_diagnostics.specs.declared.module_codes.InputCode.TheVariants.{NestsTooDeep}
 use Rattle.report_json.specs.Tokens.{number_tokens, object, text_tokens}
+use Rattle.report_json.specs.Values.{IsLine}
 use Rattle.shader_json_reader.specs.Errors.{most_text_bytes}
 use Rattle.shader_json_reader.specs.declared.error.ReadError.{ReadError}
 use Rattle.shader_json_reader.specs.declared.error.ReadError.TheVariants.{OutOfMemory, TooLong, NotJson, TooDeep, NotModule}
@@ -27,10 +27,13 @@ path_tokens path wanted = place_tokens (codes "path") (text_tokens path) wanted
 abbrev pub byte_tokens : ℕ → List ℕ → List Token
 byte_tokens byte wanted = place_tokens (codes "byte") (number_tokens byte) wanted
 
--- the line of JSON for an input with an error: its diagnostic, and what `error` says
-abbrev pub answer_text : Diagnostic → List Token → List ℕ
-answer_text diagnostic error =
-    print (object (head_members InvalidInput (diagnostic ∷ []) ++ key (codes "error") ∷ error)) ++ 10 ∷ []
+-- the members of the JSON for an input with an error: the head with its diagnostic, and what `error` says
+abbrev pub error_members : Diagnostic → List Token → List Token
+error_members diagnostic error = head_members InvalidInput (diagnostic ∷ []) ++ key (codes "error") ∷ error
+
+-- the line of JSON with these members
+abbrev pub IsAnswerText : Diagnostic → List Token → List ℕ → Type 0
+IsAnswerText diagnostic error text = IsLine (error_members diagnostic error) text
 
 -- what is wanted of a value, in words
 abbrev pub wanted_text : Wanted → List ℕ
@@ -49,11 +52,11 @@ object_tokens (NotModule path wanted found) = path_tokens (string_bytes path) (w
 -- the line of JSON for an error with this diagnostic; that memory was refused is none
 abbrev pub IsAnswerWith : Diagnostic → ReadError → List ℕ → Type 0
 IsAnswerWith diagnostic OutOfMemory text = ⊥
-IsAnswerWith diagnostic TooLong text = text ≡ answer_text diagnostic (object_tokens TooLong)
-IsAnswerWith diagnostic (NotJson byte) text = text ≡ answer_text diagnostic (object_tokens (NotJson byte))
-IsAnswerWith diagnostic (TooDeep byte) text = text ≡ answer_text diagnostic (object_tokens (TooDeep byte))
+IsAnswerWith diagnostic TooLong text = IsAnswerText diagnostic (object_tokens TooLong) text
+IsAnswerWith diagnostic (NotJson byte) text = IsAnswerText diagnostic (object_tokens (NotJson byte)) text
+IsAnswerWith diagnostic (TooDeep byte) text = IsAnswerText diagnostic (object_tokens (TooDeep byte)) text
 IsAnswerWith diagnostic (NotModule path wanted found) text =
-    text ≡ answer_text diagnostic (object_tokens (NotModule path wanted found))
+    IsAnswerText diagnostic (object_tokens (NotModule path wanted found)) text
 
 -- the line of JSON for an error of the input
 pub record IsObjectText (input : List ℕ) (error : ReadError) (text : List ℕ) : Type 0 where
@@ -67,8 +70,12 @@ pub record IsOfNesting (diagnostic : Diagnostic) : Type 0 where
   pub severity : diagnostic.severity ≡ Error
   pub path : diagnostic.location.path ≡ Some []
 
+-- what `error` says of blocks that nest too deep
+abbrev pub nesting_tokens : List Token
+nesting_tokens = path_tokens [] (codes "blocks that nest at most 4,000 deep")
+
 -- the line of JSON for blocks that nest too deep
 pub record IsNestingObject (text : List ℕ) : Type 0 where
   pub diagnostic : Diagnostic
   pub of : IsOfNesting diagnostic
-  pub printed : text ≡ answer_text diagnostic (path_tokens [] (codes "blocks that nest at most 4,000 deep"))
+  pub printed : IsAnswerText diagnostic nesting_tokens text

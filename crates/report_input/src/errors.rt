@@ -1,7 +1,8 @@
 //! Errors of the input as answers in JSON.
-ghost use Rattle.std.specs.Prelude.{◌≡◌, IfOk, Some};
-ghost use Rattle.report_input.specs.Errors.{IsAnswerWith, IsNestingObject, IsObjectText, answer_text, byte_tokens, path_tokens};
-ghost use Rattle.report_input.specs.Errors.{place_tokens, wanted_text};
+ghost use Rattle.std.specs.Prelude.{IfOk, OnOk, Some};
+ghost use Rattle.report_json.specs.Tokens.{Adds};
+ghost use Rattle.report_input.specs.Errors.{IsAnswerText, IsAnswerWith, IsNestingObject, IsObjectText, byte_tokens, error_members};
+ghost use Rattle.report_input.specs.Errors.{path_tokens, place_tokens, wanted_text};
 
 use crate::diagnostic::{diagnostic_of, nesting_diagnostic};
 use json::Writer;
@@ -31,21 +32,34 @@ impl<T: WriteJson> WriteJson for ErrorAt<'_, T> {
     }
 }
 
+/// Writes the members of the answer to an input with an error: the head with its diagnostic, and where the error is.
+fn write_answer<T: WriteJson>(
+    alloc: Global,
+    writer: &mut Writer,
+    diagnostic: Diagnostic,
+    error: &ErrorAt<'_, T>,
+) -> Result<(), AllocError>
+    ensures { OnOk result (Adds writer.old writer.new (error_members diagnostic
+        (place_tokens error.now.kind.now (T.tokens error.now.location.now) error.now.wanted.now))) }
+{
+    let mut diagnostics = Vec::new(alloc);
+    diagnostics.push(diagnostic)?;
+    write_head(alloc, writer, Verdict::InvalidInput, &diagnostics)?;
+    Member("error", error).write_members(alloc, writer)
+}
+
 /// Returns the answer as JSON to an input with an error: its diagnostic, where it is, and what is wanted there.
 fn answer<T: WriteJson>(
     alloc: Global,
     diagnostic: Diagnostic,
     error: ErrorAt<'_, T>,
 ) -> Result<Vec<u8>, AllocError>
-    ensures { IfOk result (λ text. text.items ≡ answer_text diagnostic
-        (place_tokens error.entry.kind.now (T.tokens error.entry.location.now) error.entry.wanted.now)) }
+    ensures { IfOk result (λ text. IsAnswerText diagnostic
+        (place_tokens error.entry.kind.now (T.tokens error.entry.location.now) error.entry.wanted.now) text.items) }
 {
-    let mut diagnostics = Vec::new(alloc);
-    diagnostics.push(diagnostic)?;
     let mut writer = Writer::new(Vec::new(alloc));
     writer.begin_object()?;
-    write_head(alloc, &mut writer, Verdict::InvalidInput, &diagnostics)?;
-    Member("error", &error).write_members(alloc, &mut writer)?;
+    write_answer(alloc, &mut writer, diagnostic, &error)?;
     writer.end_object()?;
     let mut text = writer.into_inner();
     text.push(b'\n')?;
@@ -59,7 +73,7 @@ fn at_path(
     path: &str,
     wanted: &str,
 ) -> Result<Vec<u8>, AllocError>
-    ensures { IfOk result (λ text. text.items ≡ answer_text diagnostic (path_tokens path.now wanted.now)) }
+    ensures { IfOk result (λ text. IsAnswerText diagnostic (path_tokens path.now wanted.now) text.items) }
 {
     let error = ErrorAt {
         kind: "path",
@@ -76,7 +90,7 @@ fn at_byte(
     byte: usize,
     wanted: &str,
 ) -> Result<Vec<u8>, AllocError>
-    ensures { IfOk result (λ text. text.items ≡ answer_text diagnostic (byte_tokens byte wanted.now)) }
+    ensures { IfOk result (λ text. IsAnswerText diagnostic (byte_tokens byte wanted.now) text.items) }
 {
     let error = ErrorAt {
         kind: "byte",

@@ -1,2 +1,5 @@
 pub mod FormLemmas
+pub mod LineLemmas
+pub mod SpellingLemmas
+pub mod ValueLemmas
 pub mod WritingLemmas

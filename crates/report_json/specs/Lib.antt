@@ -6,3 +6,4 @@ pub mod Names
 pub mod Refusals
 pub mod Tokens
 pub mod Types
+pub mod Values

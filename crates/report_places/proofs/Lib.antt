@@ -1,2 +1,3 @@
 mod OutlineLemmas
+pub mod ValueLemmas
 mod WayLemmas

@@ -3,3 +3,4 @@ mod BoundsLemmas
 mod NumberLemmas
 mod RowLemmas
 pub mod SizeLemmas
+pub mod ValueLemmas

@@ -1,2 +1,3 @@
 pub mod PairLemmas
 mod TakeLemmas
+pub mod ValueLemmas

@@ -1,5 +1,5 @@
 -- The report on a module as members of a JSON object.
-use Rattle.std.specs.Prelude.{◌≡◌, ◌∷◌, ◌++◌, All, List, [], Option, Some, None, Result, Ok, Err, codes, flat_map, map}
+use Rattle.std.specs.Prelude.{◌≡◌, ◌∷◌, ◌++◌, ℕ, All, List, [], Option, Some, None, Result, Ok, Err, codes, flat_map, map}
 use Rattle.json.specs.Token.{Token, key}
 use Rattle.report_json.specs.declared.functions.FunctionAnswer.{FunctionAnswer}
 use Rattle.report_json.specs.Functions.{answer_tokens}
@@ -66,3 +66,17 @@ pub record AreAnalysisMembers (analysis : Analysis) (tokens : List Token) : Type
 abbrev pub AreModuleMembers : Analyzed → List Token → Type 0
 AreModuleMembers (Fault found) tokens = tokens ≡ key (codes "fault") ∷ text_tokens (fault_name found.fault)
 AreModuleMembers (WellFormed analysis) tokens = AreAnalysisMembers analysis tokens
+
+-- ---- the names of the members
+
+abbrev pub layouts_name : Option LayoutError → List ℕ
+layouts_name None = codes "layouts"
+layouts_name (Some error) = codes "layout_error"
+
+abbrev pub info_name : Result Recorded AnalysisError → List ℕ
+info_name (Ok infos) = codes "info"
+info_name (Err error) = codes "refused"
+
+abbrev pub module_names : Analyzed → List (List ℕ)
+module_names (Fault found) = codes "fault" ∷ []
+module_names (WellFormed analysis) = layouts_name analysis.layout_error ∷ info_name analysis.info ∷ []

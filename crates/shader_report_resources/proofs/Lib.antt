@@ -1,3 +1,4 @@
 mod UsesLemmas
+pub mod ValueLemmas
 pub mod WordLemmas
 mod WrittenLemmas

@@ -28,4 +28,4 @@ returns c = λ j root.
     (adds_then sections.2 (writes_last c.in_ok-end_object.ensures))))) in
     object_written c.args.options c.args.input.now j c.args.module.now c.args.analyzed.now c.new-writer.result c.end_object.new.self c.into_inner-text.result.items
     c.push.new.self.items _ _ found.0 sections.0 (search rules) c.new-writer.ensures.tokens diagnosed c.in_ok-diagnostics.ensures found.1 (sections.1 j root) adds
-    c.into_inner-text.ensures.items c.in_ok-push.ensures.items
+    c.into_inner-text.ensures.items c.into_inner-text.ensures.reads_back c.into_inner-text.ensures.utf8 c.in_ok-push.ensures.items
